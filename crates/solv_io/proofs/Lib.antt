@@ -1,0 +1,5 @@
+pub mod FirstLine
+pub mod HeldFiles
+pub mod Pieces
+pub mod WrittenLines
+pub mod WordRuns

@@ -1,0 +1,6 @@
+pub mod Counters
+pub mod Fetches
+pub mod Writes
+pub mod Lines
+pub mod Words
+pub mod Statuses

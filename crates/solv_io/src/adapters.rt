@@ -1,0 +1,102 @@
+ghost use Rattle.std.specs.Prelude.{◌≡◌, ◌↔◌, ◌+◌, ◌≤◌, None, OnOk, IfErr, length};
+ghost use Rattle.std.specs.Io.{StartsWith};
+ghost use Rattle.std.specs.IoError.{error_kind};
+ghost use Rattle.std.specs.declared.io.ErrorKind.TheVariants.{OutOfMemory};
+ghost use Rattle.solv_io.specs.declared.faults.FileFault.TheVariants.{Memory};
+
+use crate::{FileFault, Files, Sink, SinkFault};
+use std::fs::OpenFile;
+use std::io::{ErrorKind, Read, Write};
+use std::{fs, io, rt};
+
+/// The files of the system that a program runs on. It tells neither what they hold nor the names asked for.
+#[derive(Drop)]
+pub struct RealFiles<'a, R: rt::Files> {
+    /// The runtime that opens files.
+    pub rt: &'a R,
+    /// How many calls failed.
+    pub faults: u64,
+}
+
+/// A writer of std as a sink. It does not tell what was written.
+#[derive(Drop)]
+pub struct RealSink<W: io::Write> {
+    /// What takes the bytes.
+    pub to: W,
+    /// How many calls failed.
+    pub faults: u64,
+}
+
+/// Why a file of the system was not read.
+fn file_fault(error: &io::Error) -> FileFault
+    ensures { (result ≡ Memory) ↔ (error_kind error.now ≡ OutOfMemory) }
+{
+    match error.kind() {
+        ErrorKind::OutOfMemory => FileFault::Memory,
+        _ => FileFault::Failed,
+    }
+}
+
+/// Puts the first bytes of a file of the system at the end of `into`, at most `most`. What is read before a fault
+/// stays there.
+fn append_file<R: rt::Files>(
+    files: &R,
+    name: &str,
+    most: usize,
+    into: &mut Vec<u8>,
+) -> Result<(), FileFault>
+    ensures front { StartsWith into.new.items into.old.items }
+    ensures bound { OnOk result (length into.new.items ≤ length into.old.items + most) }
+{
+    let end = into.len().saturating_add(most);
+    let file = fs::open(files, name).map_err(|e| file_fault(&e))?;
+    // Only a hint for how much room to make: what is read decides.
+    let size = file.metadata().map_or(0, |told| told.len());
+    into.reserve(most.min(size as usize))
+        .map_err(|_| FileFault::Memory)?;
+    file.take(most as u64)
+        .read_to_end(into)
+        .map_err(|e| file_fault(&e))?;
+    // A reader gives no more than it is asked for, but none of its clauses says so.
+    into.truncate(end);
+    Ok(())
+}
+
+impl<'a, R: rt::Files> Files for RealFiles<'a, R> {
+    ghost contents = { λ _. None };
+
+    ghost asked = { λ _. None };
+
+    ghost faults = { λ files. files.faults };
+
+    fn fetch(&mut self, name: &str, most: usize, into: &mut Vec<u8>) -> Result<(), FileFault> {
+        let before = into.len();
+        let Err(fault) = append_file(self.rt, name, most, into) else {
+            return Ok(());
+        };
+        into.truncate(before);
+        if fault == FileFault::Failed {
+            self.faults = self.faults.saturating_add(1);
+        }
+        Err(fault)
+    }
+}
+
+impl<W: io::Write> Sink for RealSink<W> {
+    ghost written = { λ _. None };
+
+    ghost faults = { λ sink. sink.faults };
+
+    fn write(&mut self, piece: &[u8]) -> Result<usize, SinkFault> {
+        for _ in 0..u64::MAX {
+            match self.to.write(piece) {
+                Ok(0) => break,
+                Ok(n) => return Ok(n),
+                Err(e) if e.kind() == ErrorKind::Interrupted => {}
+                Err(_) => break,
+            }
+        }
+        self.faults = self.faults.saturating_add(1);
+        Err(SinkFault::Failed)
+    }
+}

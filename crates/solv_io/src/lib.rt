@@ -1,0 +1,41 @@
+//! The outside: the traits through which a program meets files and sinks, objects in memory and adapters that meet
+//! them, and the lines of a text.
+//!
+//! It stands on `solv_list`.
+//!
+//! - [`Files`], [`Sink`]: what a program asks of the outside, each with a count of its faults.
+//! - [`put`]: writes a piece whole.
+//! - [`MemFiles`], [`AllFiles`], [`MemSink`], [`PlainSink`]: files and sinks in memory.
+//! - [`RealFiles`], [`RealSink`]: the adapters over std's files and writers. They are the trusted edge.
+//! - [`lines`]: the numbered lines of a text; [`split_word`]: the first word of a line.
+//! - [`lines_are_read_again`]: what a line is, as a law. [`lines_by_example`], [`words_by_example`],
+//!   [`files_by_example`] and [`counters_by_example`]: the definitions on examples.
+//! - [`Status`]: how a program ends.
+#![tactic(auto)]
+
+mod adapters;
+mod faults;
+mod fetching;
+mod laws;
+mod line_walk;
+mod mem_files;
+mod mem_sinks;
+mod status;
+mod text_lines;
+mod words;
+mod writing;
+
+pub use adapters::{RealFiles, RealSink};
+pub use faults::{FileFault, SinkFault};
+pub use fetching::Files;
+pub use laws::{counters_by_example, files_by_example, lines_are_read_again, lines_by_example};
+pub use line_walk::Lines;
+pub use mem_files::{AllFiles, MemFiles};
+pub use mem_sinks::{MemSink, PlainSink};
+pub use status::Status;
+pub use text_lines::lines;
+pub use words::{split_word, words_by_example};
+pub use writing::{Sink, put};
+
+#[cfg(test)]
+mod tests;
