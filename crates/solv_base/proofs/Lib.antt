@@ -1,0 +1,15 @@
+pub mod DigitsValue
+pub mod TokenRuns
+pub mod LastDash
+pub mod TokenOrder
+pub mod MatchingTable
+pub mod VersionsBetween
+pub mod LongerTexts
+pub mod Overlaps
+pub mod Places
+pub mod Names
+pub mod Trees
+pub mod Growth
+pub mod Pools
+pub mod Identity
+pub mod Reading

@@ -1,0 +1,66 @@
+-- A relation read as a tree.
+use Rattle.std.proofs.Common.{◌≡◌, ℕ, zero, suc, ◌<◌, Bool, true, false, ◌&&◌, List, Option, Some, None, refl, ap, ◌∙◌, arith, add-one, ◌+◌}
+use Rattle.std.specs.Prelude.{slice_get, nat_lt, unwrap_or, option_map}
+use Rattle.std.specs.List.{list_all}
+use borrow.Author.Tests.{ltb-true}
+use Rattle.solv_base.specs.Dependency.{Dep, and, or, with, without, if_then, if_else, unless, unless_else, missing, tree_of_node, tree_within, tree, operands, IsWellFounded}
+use Rattle.solv_base.specs.declared.relation.DepNode.{DepNode}
+use Rattle.solv_base.specs.declared.relation.DepNode.TheVariants.{Simple, Versioned, Namespace, And, Or, With, Without, If, IfElse, Unless, UnlessElse}
+
+pub and_left : (a b : Bool) → (a && b) ≡ true → a ≡ true
+and_left true b h = refl
+and_left false b h = h
+
+pub and_right : (a b : Bool) → (a && b) ≡ true → b ≡ true
+and_right true b h = h
+and_right false b h = cc
+
+module _ (at bt : ℕ → Dep ℕ) (small : ℕ → Bool) (same : (o : ℕ) → small o ≡ true → at o ≡ bt o) where
+  first : (a : ℕ) (r : Bool) → (small a && r) ≡ true → at a ≡ bt a
+  first a r h = same a (and_left (small a) r h)
+
+  two : (f : Dep ℕ → Dep ℕ → Dep ℕ) (a b : ℕ) → (small a && (small b && true)) ≡ true → f (at a) (at b) ≡ f (bt a) (bt b)
+  two f a b h = rw (first a (small b && true) h, first b true (and_right (small a) (small b && true) h))
+
+  three : (f : Dep ℕ → Dep ℕ → Dep ℕ → Dep ℕ) (a b c : ℕ) → (small a && (small b && (small c && true))) ≡ true → f (at a) (at b) (at c) ≡ f (bt a) (bt b) (bt c)
+  three f a b c h =
+      let k = and_right (small a) (small b && (small c && true)) h in
+      rw (first a (small b && (small c && true)) h, first b (small c && true) k, first c true (and_right (small b) (small c && true) k))
+
+  pub same-node : (node : DepNode) → list_all small (operands node) ≡ true → tree_of_node at node ≡ tree_of_node bt node
+  same-node (Simple n) h = refl
+  same-node (Versioned n c e) h = refl
+  same-node (Namespace n) h = refl
+  same-node (And a b) h = two and a b h
+  same-node (Or a b) h = two or a b h
+  same-node (With a b) h = two with a b h
+  same-node (Without a b) h = two without a b h
+  same-node (If a b) h = two if_then a b h
+  same-node (Unless a b) h = two unless a b h
+  same-node (IfElse a b c) h = three if_else a b c h
+  same-node (UnlessElse a b c) h = three unless_else a b c h
+
+-- enough depth, and relations that are the same below n, give the same tree
+pub same-tree : (xs ys : List DepNode) (n : ℕ) → ((k : ℕ) → k < n → slice_get xs k ≡ slice_get ys k) → IsWellFounded xs
+    → (f g o : ℕ) → o < n → o < f → o < g → tree_within xs f o ≡ tree_within ys g o
+same-tree xs ys n agree falls zero g o h k l = absurd (omega arith)
+same-tree xs ys n agree falls (suc f) zero o h k l = absurd (omega arith)
+same-tree xs ys n agree falls (suc f) (suc g) o h k l =
+    step xs f g o (tree_within ys g) (λ p q. same-tree xs ys n agree falls f g p (omega arith) (omega arith) (omega arith)) (falls o) (slice_get xs o) refl
+    ∙ ap (λ r. unwrap_or (option_map (tree_of_node (tree_within ys g)) r) missing) (agree o h)
+  where
+    step : (xs : List DepNode) (f g o : ℕ) (bt : ℕ → Dep ℕ) → ((p : ℕ) → p < o → tree_within xs f p ≡ bt p)
+        → ((node : DepNode) → slice_get xs o ≡ Some node → list_all (λ p. nat_lt p o) (operands node) ≡ true)
+        → (r : Option DepNode) → slice_get xs o ≡ r
+        → unwrap_or (option_map (tree_of_node (tree_within xs f)) r) missing ≡ unwrap_or (option_map (tree_of_node bt) r) missing
+    step xs f g o bt ih falls None e = refl
+    step xs f g o bt ih falls (Some node) e = same-node (tree_within xs f) bt (λ p. nat_lt p o) (λ p q. ih p (ltb-true p o q)) node (falls node e)
+
+-- the tree of a relation is its node's, with the operands' trees
+pub tree-is : (nodes : List DepNode) → IsWellFounded nodes → (id : ℕ) (node : DepNode) → slice_get nodes id ≡ Some node → tree nodes id ≡ tree_of_node (tree nodes) node
+tree-is nodes falls id node e =
+    ap (λ depth. tree_within nodes depth id) (add-one id)
+    ∙ ap (λ r. unwrap_or (option_map (tree_of_node (tree_within nodes id)) r) missing) e
+    ∙ same-node (tree_within nodes id) (tree nodes) (λ p. nat_lt p id)
+    (λ p q. let below : p < id = ltb-true p id q in same-tree nodes nodes id (λ k _. refl) falls id (p + 1) p below below (omega arith))
+    node (falls id node e)

@@ -1,0 +1,38 @@
+use Rattle.std.proofs.Common.{◌≡◌, ◌∙◌, sym, length, ◌++◌, ◌∷◌, [], ◌<◌, false, arith}
+use Rattle.std.proofs.lemmas.Grind.{common_steps}
+use Rattle.solv_base.specs.Pool.{is_name, texts_of, most}
+use Rattle.solv_base.proofs.Places.{if_ok, at_end}
+use Rattle.solv_base.proofs.Names.{id_of_new, length-texts}
+use Rattle.solv_base.proofs.Growth.{Grows-name}
+use Rattle.solv_base.proofs.Pools.{name_at, IsPool-name}
+use Rattle.solv_base.proofs.interning.Pool.intern.Goals as goal
+use Rattle.solv_base.proofs.interning.Pool.intern.Goals.{In-Some, Else-is_err}
+
+pub returns-in-Some-clause-text : goal.returns-in-Some-clause-text
+returns-in-Some-clause-text c =
+    rw (← c.self.view_is) (name_at (texts_of c.self.inside.texts.keys) c.args.text.now c.in-Some.place c.in-Some.ensures.place (rw (length-texts c.self.inside.texts.keys) c.in-Some.ensures.within))
+
+fresh : (c : Else-is_err) → is_name (texts_of c.self.inside.texts.keys) c.args.text.now ≡ false
+fresh c = grind (arith, common_steps)
+
+added : (c : Else-is_err) → texts_of c.add_text.new.texts.keys ≡ texts_of c.self.inside.texts.keys ++ c.args.text.now ∷ []
+added c = if_ok _ c.add_text.result (sym c.is_err.ensures.value ∙ c.if-is_err.false) c.add_text.ensures.added
+
+place : (c : Else-is_err) → c.len-place.result ≡ length (texts_of c.self.inside.texts.keys)
+place c = c.len-place.ensures.len ∙ sym (length-texts c.self.inside.texts.keys)
+
+room : (c : Else-is_err) → length (texts_of c.self.inside.texts.keys) < most
+room c = let at = place c in omega arith
+
+pub invariant_of-self-2 : goal.invariant_of-self-2
+invariant_of-self-2 c = rw (added c) (IsPool-name (texts_of c.self.inside.texts.keys) c.self.inside.relations.keys c.args.text.now c.self.invariant (fresh c) (room c))
+
+pub returns-clause-id : goal.returns-clause-id
+returns-clause-id c = rw (← c.self.view_is) (place c ∙ sym (id_of_new (texts_of c.self.inside.texts.keys) c.args.text.now (fresh c)))
+
+pub returns-clause-text : goal.returns-clause-text
+returns-clause-text c = rw (added c, place c) (at_end (texts_of c.self.inside.texts.keys) c.args.text.now)
+
+pub returns-clause-grows : goal.returns-clause-grows
+returns-clause-grows c =
+    rw (← c.self.view_is, added c) (Grows-name (texts_of c.self.inside.texts.keys) c.self.inside.relations.keys c.args.text.now c.self.invariant.names_held c.self.invariant.operands_before)

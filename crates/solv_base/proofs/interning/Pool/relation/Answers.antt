@@ -1,0 +1,71 @@
+use Rattle.std.proofs.Common.{◌≡◌, ◌∙◌, sym, refl, length, ◌++◌, ◌∷◌, [], ◌<◌, false, true, arith, Contains, slice_get, Some}
+use Rattle.std.specs.List.{list_any}
+use Rattle.std.proofs.lemmas.Grind.{common_steps}
+use Rattle.indexmap.proofs.CallerLemmas.{Contains-list_any}
+use Rattle.indexmap.specs.IndexSet.{insert_key}
+use Rattle.solv_base.specs.contracts.relation.DepNodePartialEq.TheImpl.{eq-value}
+use Rattle.solv_base.specs.Pool.{IsPool, most, texts_of, uses_below}
+use Rattle.solv_base.proofs.Places.{if_ok, at_end, place_found, position_first}
+use Rattle.solv_base.proofs.Growth.{text_tree-is}
+use Rattle.solv_base.proofs.Trees.{tree-is}
+use Rattle.solv_base.proofs.Pools.{same_relation, IsPool-node, Grows-node, tree_of_new, text_tree_of_new}
+use Rattle.solv_base.proofs.interning.Pool.relation.Goals as goal
+use Rattle.solv_base.proofs.interning.Pool.relation.Goals.{In-Some, Else-is_err}
+
+held : (c : In-Some) → Contains c.args.self.now.nodes c.args.node
+held c = rw (← c.self.view_is) (Contains-list_any eq-value.it same_relation c.self.inside.relations.keys c.args.node (sym c.in-Some.ensures.found))
+
+found : (c : In-Some) → slice_get c.args.self.now.nodes c.in-Some.place ≡ Some c.args.node
+found c =
+    rw (← c.self.view_is) (place_found eq-value.it same_relation c.args.node c.self.inside.relations.keys c.in-Some.place
+    (position_first (eq-value.it c.args.node) c.self.inside.relations.keys (Some c.in-Some.place) c.in-Some.ensures.index) c.in-Some.ensures.within)
+
+pool : (c : In-Some) → IsPool c.args.self.now
+pool c = rw (← c.self.view_is) c.self.invariant
+
+pub returns-in-Some-clause-id : goal.returns-in-Some-clause-id
+returns-in-Some-clause-id c = found c
+
+pub returns-in-Some-clause-added : goal.returns-in-Some-clause-added
+returns-in-Some-clause-added c = λ fresh. absurd (fresh (held c))
+
+pub returns-in-Some-clause-tree : goal.returns-in-Some-clause-tree
+returns-in-Some-clause-tree c = tree-is c.args.self.now.nodes (pool c).operands_before c.in-Some.place c.args.node (found c)
+
+pub returns-in-Some-clause-text_tree : goal.returns-in-Some-clause-text_tree
+returns-in-Some-clause-text_tree c = text_tree-is c.args.self.now (pool c).operands_before c.in-Some.place c.args.node (found c)
+
+pub returns-in-Some-clause-full : goal.returns-in-Some-clause-full
+returns-in-Some-clause-full c = (λ e. cc, λ h. absurd (h.0 (held c)))
+
+fresh : (c : Else-is_err) → list_any (eq-value.it c.args.node) c.self.inside.relations.keys ≡ false
+fresh c = grind (arith, common_steps)
+
+pushed : (c : Else-is_err) → c.insert.new.self.keys ≡ c.self.inside.relations.keys ++ c.args.node ∷ []
+pushed c =
+    let keys : c.insert.new.self.keys ≡ insert_key eq-value.it c.self.inside.relations.keys c.args.node =
+    if_ok _ c.insert.result (sym c.is_err.ensures.value ∙ c.if-is_err.false) c.insert.ensures.keys in
+    rw (keys, fresh c) refl
+
+uses : (c : Else-is_err) → uses_below (length (texts_of c.self.inside.texts.keys)) (length c.self.inside.relations.keys) c.args.node ≡ true
+uses c = rw (← c.self.view_is) at c.requires
+
+room : (c : Else-is_err) → length c.self.inside.relations.keys < most
+room c = let at = c.len-place.ensures.len in omega arith
+
+pub invariant_of-self-2 : goal.invariant_of-self-2
+invariant_of-self-2 c = rw (pushed c) (IsPool-node (texts_of c.self.inside.texts.keys) c.self.inside.relations.keys c.args.node c.self.invariant (uses c) (fresh c) (room c))
+
+pub returns-clause-id : goal.returns-clause-id
+returns-clause-id c = rw (pushed c, c.len-place.ensures.len) (at_end c.self.inside.relations.keys c.args.node)
+
+pub returns-clause-tree : goal.returns-clause-tree
+returns-clause-tree c =
+    rw (← c.self.view_is, pushed c, c.len-place.ensures.len) (tree_of_new (texts_of c.self.inside.texts.keys) c.self.inside.relations.keys c.args.node c.self.invariant (uses c))
+
+pub returns-clause-text_tree : goal.returns-clause-text_tree
+returns-clause-text_tree c =
+    rw (← c.self.view_is, pushed c, c.len-place.ensures.len) (text_tree_of_new (texts_of c.self.inside.texts.keys) c.self.inside.relations.keys c.args.node c.self.invariant (uses c))
+
+pub returns-clause-grows : goal.returns-clause-grows
+returns-clause-grows c = rw (← c.self.view_is, pushed c) (Grows-node (texts_of c.self.inside.texts.keys) c.self.inside.relations.keys c.args.node c.self.invariant (uses c))

@@ -1,0 +1,25 @@
+//! Ids, relations and the order of versions: what every other crate speaks of.
+//!
+//! - [`Pool`]: one id for each text and for each relation, for good. [`NameId`], [`DepId`] and [`DepNode`] are its ids
+//!   and relations, [`PoolFault`] why it takes no more.
+//! - [`evr_compare`], [`evr_split`], [`evr_meets`]: the order of versions, the parts of an EVR, and when a provided
+//!   version meets a wanted one. [`Cmp`] is a comparison.
+//! - Laws, each the contract of a function that does nothing: [`evr_order_is_total`], [`matching_follows_the_order`],
+//!   [`reading_ends`]; and examples on which the definitions are evaluated: [`version_rows`], [`trees_of_relations`],
+//!   [`ids_of_names`].
+#![tactic(auto)]
+
+mod comparison;
+mod interning;
+mod relation;
+mod relation_laws;
+mod version;
+pub mod version_rows;
+
+pub use comparison::Cmp;
+pub use interning::{Pool, PoolFault};
+pub use relation::{DepId, DepNode, NameId};
+pub use relation_laws::{ids_of_names, reading_ends, trees_of_relations};
+pub use version::{
+    Evr, evr_compare, evr_meets, evr_order_is_total, evr_split, matching_follows_the_order,
+};
