@@ -1,0 +1,11 @@
+pub mod PackageTexts
+pub mod Belongings
+pub mod Tests
+pub mod Lists
+pub mod Clauses
+pub mod RuleClauses
+pub mod HardRules
+pub mod Best
+pub mod Counts
+pub mod ClauseNames
+pub mod Guards
