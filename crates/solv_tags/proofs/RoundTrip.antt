@@ -1,0 +1,43 @@
+-- The canonical text of what was read is read again, by the same table, as the same.
+use Rattle.std.proofs.Common.{◌≡◌, ◌<◌, ◌≤◌, ℕ, List, length, Bool, true, false, Result, Ok, Err, refl, sym, ap, ◌∙◌, arith}
+use Rattle.std.specs.Prelude.{if◌then◌else◌}
+use Rattle.solv_base.specs.Dependency.{Dep, operators}
+use Rattle.solv_base.specs.Pool.{Held, IsPool, Grows, text_tree}
+use Rattle.solv_base.proofs.Identity.{trees_differ}
+use Rattle.solv_tags.specs.declared.place.Place.{Place}
+use Rattle.solv_tags.specs.Table.{stands_at}
+use Rattle.solv_tags.specs.declared.fault.DepFault.{DepFault}
+use Rattle.solv_tags.specs.declared.fault.DepFault.TheVariants.{OperatorNotHere}
+use Rattle.solv_tags.specs.Words.{words}
+use Rattle.solv_tags.specs.Reading.{reading, dependency, dependency_by, and_then}
+use Rattle.solv_tags.specs.Canonical.{text}
+use Rattle.solv_tags.proofs.Printed.{well, printed_is_read}
+use Rattle.solv_tags.proofs.Readable.{IsWellRead, text_well_read}
+
+pub printed_again : (fits : Dep (List ℕ) → Bool) (t : List ℕ) (d : Dep (List ℕ)) → dependency_by fits t ≡ Ok d → dependency_by fits (text d) ≡ Ok d
+printed_again fits t d e =
+    let b = here (reading (words t)) (text_well_read t) e in
+    ap (λ r. and_then r (λ x. if fits x then Ok x else Err OperatorNotHere)) (printed_is_read d b.0.0 b.0.1) ∙ rw b.1 refl
+  where
+    stood : (s : Bool) (x : Dep (List ℕ)) → (if s then Ok x else Err OperatorNotHere) ≡ Ok d → (s ≡ true) × (x ≡ d)
+    stood true x e = (refl, cc)
+    stood false x e = cc
+
+    here : (r : Result (Dep (List ℕ)) DepFault) → IsWellRead r → and_then r (λ x. if fits x then Ok x else Err OperatorNotHere) ≡ Ok d
+        → ((well d ≡ true) × (operators d ≤ 64)) × (fits d ≡ true)
+    here (Ok x) g e = let s = stood (fits x) x e in let same : x ≡ d = s.1 in (rw (← same) g, rw (← same) s.0)
+    here (Err f) g e = cc
+
+-- the same tree has the same id
+pub printed_same : (old new : Held) (place : Place) (t : List ℕ) (id again : ℕ) → IsPool new → Grows old new → id < length old.nodes → again < length new.nodes
+    → dependency place t ≡ Ok (text_tree old id) → dependency place (text (text_tree old id)) ≡ Ok (text_tree new again) → again ≡ id
+printed_same old new place t id again p g h k e f =
+    let read = printed_again (stands_at place) t (text_tree old id) e in
+    let trees : text_tree new again ≡ text_tree old id = same (text_tree new again) (text_tree old id) (sym f ∙ read) in
+    trees_differ new p again id k (omega (arith, g.nodes)) (trees ∙ sym (g.trees id h))
+  where
+    given : Dep (List ℕ) → Result (Dep (List ℕ)) DepFault
+    given d = Ok d
+
+    same : (a b : Dep (List ℕ)) → given a ≡ given b → a ≡ b
+    same a b e = cc

@@ -1,0 +1,4 @@
+use Rattle.solv_tags.proofs.dependency.+enter.Given as goal
+
+abbrev pub decreases-enter : goal.decreases-enter
+decreases-enter l = l.number

@@ -1,0 +1,86 @@
+-- The canonical text of a dependency: words joined by one space, and an operand that is itself rich in parentheses, except at
+-- the front of a chain that has the same operator.
+use Rattle.std.specs.Prelude.{ℕ, Bool, true, false, not, ◌||◌, List, [], ◌++◌, codes, if◌then◌else◌, nat_lt}
+use Rattle.solv_base.specs.declared.comparison.Cmp.{Cmp}
+use Rattle.solv_base.specs.Dependency.{Dep, Capability, plain, versioned, one, namespace, and, or, with, without, if_then, if_else, unless, unless_else, missing}
+use Rattle.solv_tags.specs.Words.{unpaired_in}
+use Rattle.solv_tags.specs.declared.sign.Joint.{Joint}
+use Rattle.solv_tags.specs.declared.sign.Joint.TheVariants.{Both, Either, Jointly}
+use Rattle.solv_tags.specs.declared.sign.Operator.{Operator}
+use Rattle.solv_tags.specs.declared.sign.Operator.TheVariants.{Link, Minus, If, Else}
+use Rattle.solv_tags.specs.Grammar.{sign}
+
+-- the sign of a comparison
+abbrev pub comparison_text : Cmp → List ℕ
+comparison_text c = (if c.less then codes "<" else []) ++ ((if c.greater then codes ">" else []) ++ (if c.equal then codes "=" else []))
+
+-- has it an operator?
+abbrev pub is_rich : {N : Type 0} → Dep N → Bool
+is_rich (one c) = false
+is_rich (namespace n) = false
+is_rich d = true
+
+-- is it a chain of this operator?
+abbrev pub is_chain : {N : Type 0} → Joint → Dep N → Bool
+is_chain Both (and a b) = true
+is_chain Either (or a b) = true
+is_chain Jointly (with a b) = true
+is_chain j d = false
+
+-- does a dependency that is not rich end in a word which has a `(` without a partner?
+abbrev pub ends_unpaired : Dep (List ℕ) → Bool
+ends_unpaired (one (plain w)) = nat_lt 0 (unpaired_in 0 w)
+ends_unpaired (one (versioned w c e)) = nat_lt 0 (unpaired_in 0 e)
+ends_unpaired (namespace w) = nat_lt 0 (unpaired_in 0 w)
+ends_unpaired d = false
+
+-- is a space due before a parenthesis that closes round this?
+abbrev pub space_before_close : Dep (List ℕ) → Bool
+space_before_close (and a b) = ends_unpaired b
+space_before_close (or a b) = ends_unpaired b
+space_before_close (with a b) = ends_unpaired b
+space_before_close (without a b) = ends_unpaired b
+space_before_close (if_then a b) = ends_unpaired b
+space_before_close (if_else a b c) = ends_unpaired c
+space_before_close (unless a b) = ends_unpaired b
+space_before_close (unless_else a b c) = ends_unpaired c
+space_before_close d = false
+
+-- a text in parentheses, with a space before the closing one where that is due
+abbrev pub parenthesised : Bool → List ℕ → List ℕ
+parenthesised space text = codes "(" ++ (text ++ ((if space then codes " " else []) ++ codes ")"))
+
+-- an operand's text: a rich one stands in parentheses, and one that is not rich or goes on the chain stands bare
+abbrev pub operand_text : Bool → Dep (List ℕ) → List ℕ → List ℕ
+operand_text bare d text = if bare || not (is_rich d) then text else parenthesised (space_before_close d) text
+
+-- a word between spaces
+abbrev pub between : List ℕ → List ℕ
+between word = codes " " ++ (word ++ codes " ")
+
+-- an operator's sign between spaces
+abbrev pub spaced : Operator → List ℕ
+spaced o = between (sign o)
+
+-- a simple or a versioned dependency
+abbrev pub capability_text : Capability (List ℕ) → List ℕ
+capability_text (plain w) = w
+capability_text (versioned w c e) = w ++ (codes " " ++ (comparison_text c ++ (codes " " ++ e)))
+
+-- a chain's operator between its two sides
+abbrev pub chain_text : Joint → Dep (List ℕ) → List ℕ → Dep (List ℕ) → List ℕ → List ℕ
+chain_text j a left b right = operand_text (is_chain j a) a left ++ (spaced (Link j) ++ operand_text false b right)
+
+-- the canonical text
+abbrev pub text : Dep (List ℕ) → List ℕ
+text (one c) = capability_text c
+text (namespace w) = w
+text (and a b) = chain_text Both a (text a) b (text b)
+text (or a b) = chain_text Either a (text a) b (text b)
+text (with a b) = chain_text Jointly a (text a) b (text b)
+text (without a b) = operand_text false a (text a) ++ (spaced Minus ++ operand_text false b (text b))
+text (if_then a b) = operand_text false a (text a) ++ (spaced If ++ operand_text false b (text b))
+text (if_else a b c) = operand_text false a (text a) ++ (spaced If ++ (operand_text false b (text b) ++ (spaced Else ++ operand_text false c (text c))))
+text (unless a b) = operand_text false a (text a) ++ (between (codes "<UNLESS>") ++ operand_text false b (text b))
+text (unless_else a b c) = operand_text false a (text a) ++ (between (codes "<UNLESS>") ++ (operand_text false b (text b) ++ (spaced Else ++ operand_text false c (text c))))
+text missing = []

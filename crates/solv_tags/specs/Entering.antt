@@ -1,0 +1,110 @@
+-- Entering a dependency into a pool: texts from left to right, each relation directly after its operands, each once.
+use Rattle.std.specs.Prelude.{ℕ, Bool, ◌||◌, List, [], ◌∷◌, ◌++◌, length, nat_lt, Result, Ok, Err, if◌then◌else◌, ◌≡◌, ◌<◌}
+use Rattle.std.specs.List.{list_any, position_or_len}
+use Rattle.solv_base.specs.contracts.relation.DepNodePartialEq.TheImpl.{eq-value}
+use Rattle.solv_base.specs.declared.relation.DepNode.{DepNode}
+use Rattle.solv_base.specs.declared.relation.DepNode.TheVariants.{Simple, Versioned, Namespace, And, Or, With, Without, If, IfElse, Unless, UnlessElse}
+use Rattle.solv_base.specs.declared.interning.PoolFault.{PoolFault}
+use Rattle.solv_base.specs.declared.interning.PoolFault.TheVariants as PoolFull
+use Rattle.solv_base.specs.Dependency.{Dep, Capability, plain, versioned, one, namespace, and, or, with, without, if_then, if_else, unless, unless_else, missing}
+use Rattle.solv_base.specs.Pool.{Held, most, is_name, name_id, with_name, text_tree}
+use Rattle.solv_tags.specs.declared.place.Place.{Place}
+use Rattle.solv_tags.specs.declared.fault.DepFault.{DepFault}
+use Rattle.solv_tags.specs.declared.fault.DepFault.TheVariants.{FullNames, FullRelations, Memory, OperatorNotHere}
+use Rattle.solv_tags.specs.declared.sign.Joint.{Joint}
+use Rattle.solv_tags.specs.declared.sign.Joint.TheVariants.{Both, Either, Jointly}
+use Rattle.solv_tags.specs.Reading.{and_then, dependency}
+
+-- an id, and what the pool holds then
+pub record Entered : Type 0 where
+  pub id : ℕ
+  pub held : Held
+
+-- is it a relation that is held?
+abbrev pub is_relation : List DepNode → DepNode → Bool
+is_relation nodes node = list_any (eq-value.it node) nodes
+
+-- the id of a relation, which is the next free one where it is new
+abbrev pub relation_id : List DepNode → DepNode → ℕ
+relation_id nodes node = position_or_len (eq-value.it node) nodes
+
+-- the relations with this one among them
+abbrev pub with_relation : List DepNode → DepNode → List DepNode
+with_relation nodes node = if is_relation nodes node then nodes else nodes ++ node ∷ []
+
+-- a text that is held, or for which there is room
+abbrev pub text_entered : List ℕ → Held → Result Entered DepFault
+text_entered text held =
+    if is_name held.names text || nat_lt (length held.names) most
+    then Ok (record { id = name_id held.names text; held = record held { names = with_name held.names text } })
+    else Err FullNames
+
+-- a relation that is held, or for which there is room
+abbrev pub relation_entered : DepNode → Held → Result Entered DepFault
+relation_entered node held =
+    if is_relation held.nodes node || nat_lt (length held.nodes) most
+    then Ok (record { id = relation_id held.nodes node; held = record held { nodes = with_relation held.nodes node } })
+    else Err FullRelations
+
+-- two operands, then their relation
+abbrev pub pair_entered : (Held → Result Entered DepFault) → (Held → Result Entered DepFault) → (ℕ → ℕ → DepNode) → Held → Result Entered DepFault
+pair_entered first second node held =
+    and_then (first held) (λ a. and_then (second a.held) (λ b. relation_entered (node a.id b.id) b.held))
+
+-- three operands, then their relation
+abbrev pub triple_entered : (Held → Result Entered DepFault) → (Held → Result Entered DepFault) → (Held → Result Entered DepFault) → (ℕ → ℕ → ℕ → DepNode) → Held → Result Entered DepFault
+triple_entered first second third node held =
+    and_then (first held) (λ a. and_then (second a.held) (λ b. and_then (third b.held) (λ c. relation_entered (node a.id b.id c.id) c.held)))
+
+-- a name, or a name and an EVR, then their relation
+abbrev pub capability_entered : Capability (List ℕ) → Held → Result Entered DepFault
+capability_entered (plain name) held = and_then (text_entered name held) (λ n. relation_entered (Simple n.id) n.held)
+capability_entered (versioned name c evr) held = pair_entered (text_entered name) (text_entered evr) (λ n e. Versioned n c e) held
+
+-- a dependency: its id and what the pool holds then, or the first text or relation that would pass the limit
+abbrev pub dependency_entered : Dep (List ℕ) → Held → Result Entered DepFault
+dependency_entered (one c) held = capability_entered c held
+dependency_entered (namespace name) held = and_then (text_entered name held) (λ n. relation_entered (Namespace n.id) n.held)
+dependency_entered (and a b) held = pair_entered (dependency_entered a) (dependency_entered b) And held
+dependency_entered (or a b) held = pair_entered (dependency_entered a) (dependency_entered b) Or held
+dependency_entered (with a b) held = pair_entered (dependency_entered a) (dependency_entered b) With held
+dependency_entered (without a b) held = pair_entered (dependency_entered a) (dependency_entered b) Without held
+dependency_entered (if_then a b) held = pair_entered (dependency_entered a) (dependency_entered b) If held
+dependency_entered (unless a b) held = pair_entered (dependency_entered a) (dependency_entered b) Unless held
+dependency_entered (if_else a b c) held = triple_entered (dependency_entered a) (dependency_entered b) (dependency_entered c) IfElse held
+dependency_entered (unless_else a b c) held = triple_entered (dependency_entered a) (dependency_entered b) (dependency_entered c) UnlessElse held
+dependency_entered missing held = Err OperatorNotHere
+
+-- a text at a place, read and then entered: every cause of the text comes before the limits of the pool
+abbrev pub text_read : Place → List ℕ → Held → Result Entered DepFault
+text_read place text held = and_then (dependency place text) (λ d. dependency_entered d held)
+
+-- the dependency is in the pool under this id, and the pool holds what it held and what this entering adds
+pub record IsEntered (d : Dep (List ℕ)) (old new : Held) (id : ℕ) : Type 0 where
+  pub held : dependency_entered d old ≡ Ok (record { id = id; held = new })
+  pub below : id < length new.nodes
+  pub tree : text_tree new id ≡ d
+
+-- a refusal that is not for want of memory is this one
+abbrev pub IsRefusal : {A : Type 0} → DepFault → Result A DepFault → Type 0
+IsRefusal Memory r = Unit {0}
+IsRefusal e r = r ≡ Err e
+
+-- a refusal that is the pool's: a limit, or want of memory
+abbrev pub IsOfPool : DepFault → Type 0
+IsOfPool FullNames = Unit {0}
+IsOfPool FullRelations = Unit {0}
+IsOfPool Memory = Unit {0}
+IsOfPool e = ⊥
+
+-- the refusal that a pool's is
+abbrev pub refusal : PoolFault → DepFault
+refusal PoolFull.FullNames = FullNames
+refusal PoolFull.FullRelations = FullRelations
+refusal PoolFull.Memory = Memory
+
+-- the relation of a chain's operator
+abbrev pub link_node : Joint → ℕ → ℕ → DepNode
+link_node Both a b = And a b
+link_node Either a b = Or a b
+link_node Jointly a b = With a b

@@ -1,0 +1,192 @@
+-- The grammar of dependencies over words: libsolv's signs for rpm's boolean dependencies.
+use Rattle.std.specs.Prelude.{ℕ, ◌+◌, ◌-◌, Bool, true, false, not, ◌&&◌, List, [], ◌∷◌, ◌++◌, length, drop, take, Option, Some, None, codes, is_some, is_none, if◌then◌else◌, unwrap_or, max}
+use Rattle.std.specs.List.{list_any}
+use Rattle.std.specs.Str.{bytes_eq}
+use Rattle.solv_tags.specs.declared.sign.Joint.{Joint}
+use Rattle.solv_tags.specs.declared.sign.Joint.TheVariants.{Both, Either, Jointly}
+use Rattle.solv_tags.specs.declared.sign.Operator.{Operator}
+use Rattle.solv_tags.specs.declared.sign.Operator.TheVariants.{Link, Minus, If, Else}
+use Rattle.solv_tags.specs.Words.{is_open, is_close}
+use Rattle.solv_base.specs.declared.comparison.Cmp.{Cmp}
+use Rattle.solv_base.specs.Dependency.{Dep, plain, versioned, one, namespace, and, or, with, without, if_then, if_else}
+
+-- is the word this text?
+abbrev pub word_is : List ℕ → List ℕ → Bool
+word_is text word = bytes_eq text word
+
+-- the operator that a word is
+abbrev pub operator : List ℕ → Option Operator
+operator w =
+    if word_is (codes "&") w then Some (Link Both)
+    else (if word_is (codes "|") w then Some (Link Either)
+    else (if word_is (codes "+") w then Some (Link Jointly)
+    else (if word_is (codes "-") w then Some Minus
+    else (if word_is (codes "<IF>") w then Some If
+    else (if word_is (codes "<ELSE>") w then Some Else
+    else None)))))
+
+-- what stands for a word that is no comparison
+abbrev pub no_comparison : Cmp
+no_comparison = record { less = false; equal = false; greater = false }
+
+-- the comparison that a word is
+abbrev pub comparison : List ℕ → Option Cmp
+comparison w =
+    if word_is (codes "<") w then Some (record { less = true; equal = false; greater = false })
+    else (if word_is (codes "<=") w then Some (record { less = true; equal = true; greater = false })
+    else (if word_is (codes "=") w then Some (record { less = false; equal = true; greater = false })
+    else (if word_is (codes ">=") w then Some (record { less = false; equal = true; greater = true })
+    else (if word_is (codes ">") w then Some (record { less = false; equal = false; greater = true })
+    else (if word_is (codes "<>") w then Some (record { less = true; equal = false; greater = true })
+    else None)))))
+
+-- an opening parenthesis
+abbrev pub opens : List ℕ → Bool
+opens w = word_is (codes "(") w
+
+-- a closing parenthesis
+abbrev pub closes : List ℕ → Bool
+closes w = word_is (codes ")") w
+
+-- a name or an EVR: any other word
+abbrev pub is_plain : List ℕ → Bool
+is_plain w = not (opens w) && (not (closes w) && (is_none (operator w) && is_none (comparison w)))
+
+-- a name that begins with `namespace:`, has a `(` and ends with `)`
+abbrev pub is_namespace : List ℕ → Bool
+is_namespace w = bytes_eq (codes "namespace:") (take 10 w) && (list_any is_open w && list_any is_close (drop (length w - 1) w))
+
+-- the dependency that a name is
+abbrev pub named : List ℕ → Dep (List ℕ)
+named w = if is_namespace w then namespace w else one (plain w)
+
+-- a chain's operator between two dependencies
+abbrev pub joined : Joint → Dep (List ℕ) → Dep (List ℕ) → Dep (List ℕ)
+joined Both a b = and a b
+joined Either a b = or a b
+joined Jointly a b = with a b
+
+-- What is written: a dependency with its parentheses. An operand is a name, a name with a comparison and an EVR, or an
+-- expression in parentheses; a chain has two operands or more; an expression is an operand, a chain, `A - B`, `A <IF> B`,
+-- `A <IF> B <ELSE> C`, or `A <IF> (B <ELSE> C)`, which means the same.
+mutual
+  pub data Operand : Type 0 where
+    name : List ℕ → Operand
+    compared : List ℕ → List ℕ → List ℕ → Operand
+    inside : Expr → Operand
+
+  pub data Chain : Type 0 where
+    two : Operand → Operand → Chain
+    more : Chain → Operand → Chain
+
+  pub data Expr : Type 0 where
+    alone : Operand → Expr
+    chain : Joint → Chain → Expr
+    less : Operand → Operand → Expr
+    provided : Operand → Operand → Expr
+    provided_else : Operand → Operand → Operand → Expr
+    provided_inside : Operand → Operand → Operand → Expr
+
+-- the word of an operator
+abbrev pub sign : Operator → List ℕ
+sign (Link Both) = codes "&"
+sign (Link Either) = codes "|"
+sign (Link Jointly) = codes "+"
+sign Minus = codes "-"
+sign If = codes "<IF>"
+sign Else = codes "<ELSE>"
+
+-- the words of what is written
+abbrev mutual
+  pub operand_words : Operand → List (List ℕ)
+  operand_words (name w) = w ∷ []
+  operand_words (compared w c e) = w ∷ c ∷ e ∷ []
+  operand_words (inside x) = codes "(" ∷ (expr_words x ++ codes ")" ∷ [])
+
+  pub chain_words : Joint → Chain → List (List ℕ)
+  chain_words j (two a b) = operand_words a ++ sign (Link j) ∷ operand_words b
+  chain_words j (more c b) = chain_words j c ++ sign (Link j) ∷ operand_words b
+
+  pub expr_words : Expr → List (List ℕ)
+  expr_words (alone a) = operand_words a
+  expr_words (chain j c) = chain_words j c
+  expr_words (less a b) = operand_words a ++ sign Minus ∷ operand_words b
+  expr_words (provided a b) = operand_words a ++ sign If ∷ operand_words b
+  expr_words (provided_else a b c) = operand_words a ++ sign If ∷ (operand_words b ++ sign Else ∷ operand_words c)
+  expr_words (provided_inside a b c) = operand_words a ++ sign If ∷ codes "(" ∷ (operand_words b ++ sign Else ∷ (operand_words c ++ codes ")" ∷ []))
+
+-- what it means: a chain groups from the left, and parentheses only group
+abbrev mutual
+  pub operand_sense : Operand → Dep (List ℕ)
+  operand_sense (name w) = named w
+  operand_sense (compared w c e) = one (versioned w (unwrap_or (comparison c) no_comparison) e)
+  operand_sense (inside x) = expr_sense x
+
+  pub chain_sense : Joint → Chain → Dep (List ℕ)
+  chain_sense j (two a b) = joined j (operand_sense a) (operand_sense b)
+  chain_sense j (more c b) = joined j (chain_sense j c) (operand_sense b)
+
+  pub expr_sense : Expr → Dep (List ℕ)
+  expr_sense (alone a) = operand_sense a
+  expr_sense (chain j c) = chain_sense j c
+  expr_sense (less a b) = without (operand_sense a) (operand_sense b)
+  expr_sense (provided a b) = if_then (operand_sense a) (operand_sense b)
+  expr_sense (provided_else a b c) = if_else (operand_sense a) (operand_sense b) (operand_sense c)
+  expr_sense (provided_inside a b c) = if_else (operand_sense a) (operand_sense b) (operand_sense c)
+
+-- are its names, comparisons and EVRs such words?
+abbrev mutual
+  pub operand_right : Operand → Bool
+  operand_right (name w) = is_plain w
+  operand_right (compared w c e) = is_plain w && (not (is_namespace w) && (is_some (comparison c) && is_plain e))
+  operand_right (inside x) = expr_right x
+
+  pub chain_right : Chain → Bool
+  chain_right (two a b) = operand_right a && operand_right b
+  chain_right (more c b) = chain_right c && operand_right b
+
+  pub expr_right : Expr → Bool
+  expr_right (alone a) = operand_right a
+  expr_right (chain j c) = chain_right c
+  expr_right (less a b) = operand_right a && operand_right b
+  expr_right (provided a b) = operand_right a && operand_right b
+  expr_right (provided_else a b c) = operand_right a && (operand_right b && operand_right c)
+  expr_right (provided_inside a b c) = operand_right a && (operand_right b && operand_right c)
+
+-- the parentheses that are open at one time
+abbrev mutual
+  pub operand_depth : Operand → ℕ
+  operand_depth (name w) = 0
+  operand_depth (compared w c e) = 0
+  operand_depth (inside x) = expr_depth x + 1
+
+  pub chain_depth : Chain → ℕ
+  chain_depth (two a b) = max (operand_depth a) (operand_depth b)
+  chain_depth (more c b) = max (chain_depth c) (operand_depth b)
+
+  pub expr_depth : Expr → ℕ
+  expr_depth (alone a) = operand_depth a
+  expr_depth (chain j c) = chain_depth c
+  expr_depth (less a b) = max (operand_depth a) (operand_depth b)
+  expr_depth (provided a b) = max (operand_depth a) (operand_depth b)
+  expr_depth (provided_else a b c) = max (operand_depth a) (max (operand_depth b) (operand_depth c))
+  expr_depth (provided_inside a b c) = max (operand_depth a) (max (operand_depth b) (operand_depth c) + 1)
+
+-- the operators that are written
+abbrev mutual
+  pub operand_operators : Operand → ℕ
+  operand_operators (name w) = 0
+  operand_operators (compared w c e) = 0
+  operand_operators (inside x) = expr_operators x
+
+  pub chain_operators : Chain → ℕ
+  chain_operators (two a b) = operand_operators a + operand_operators b + 1
+  chain_operators (more c b) = chain_operators c + operand_operators b + 1
+
+  pub expr_operators : Expr → ℕ
+  expr_operators (alone a) = operand_operators a
+  expr_operators (chain j c) = chain_operators c
+  expr_operators (less a b) = operand_operators a + operand_operators b + 1
+  expr_operators (provided a b) = operand_operators a + operand_operators b + 1
+  expr_operators (provided_else a b c) = operand_operators a + operand_operators b + operand_operators c + 2
+  expr_operators (provided_inside a b c) = operand_operators a + operand_operators b + operand_operators c + 2

@@ -1,0 +1,71 @@
+-- Laws of dependency text, and how its examples are said.
+use Rattle.std.specs.Prelude.{ℕ, zero, suc, ◌++◌, ◌≡◌, ◌<◌, ◌≤◌, Bool, true, false, List, length, Result, Ok, Err}
+use Rattle.std.specs.Str.{bytes_eq}
+use Rattle.solv_base.specs.Dependency.{Dep}
+use Rattle.solv_base.specs.Pool.{Held, IsPool, Grows, text_tree}
+use Rattle.solv_tags.specs.Grammar.{Expr, expr_right, expr_operators, expr_depth, expr_words, expr_sense}
+use Rattle.solv_tags.specs.Table.{stands_richly_at}
+use Rattle.solv_tags.specs.Reading.{dependency, dependency_by, reading}
+use Rattle.solv_tags.specs.Canonical.{text}
+use Rattle.solv_tags.specs.declared.place.Place.{Place}
+use Rattle.solv_tags.specs.declared.fault.DepFault.{DepFault}
+use Rattle.solv_tags.specs.declared.fault.DepFault.TheVariants.{TooDeep}
+
+-- the words of what is written by the grammar, within the limits, are read as what it means
+abbrev pub WrittenIsRead : Type 0
+WrittenIsRead = (x : Expr) → expr_right x ≡ true → expr_operators x ≤ 64 → expr_depth x ≤ 64 → reading (expr_words x) ≡ Ok (expr_sense x)
+
+-- these words are written by the grammar, and mean this dependency
+pub record Spells (words : List (List ℕ)) (d : Dep (List ℕ)) : Type 0 where
+  pub expr : Expr
+  pub right : expr_right expr ≡ true
+  pub sense : expr_sense expr ≡ d
+  pub is : expr_words expr ≡ words
+
+-- what is read is written by the grammar
+abbrev pub ReadIsWritten : Type 0
+ReadIsWritten = (words : List (List ℕ)) (d : Dep (List ℕ)) → reading words ≡ Ok d → Spells words d
+
+-- the canonical text of what a text is read as is read, at the same place, as the same
+abbrev pub PrintedIsReadAgain : Type 0
+PrintedIsReadAgain = (place : Place) (t : List ℕ) (d : Dep (List ℕ)) → dependency place t ≡ Ok d → dependency place (text d) ≡ Ok d
+
+-- and so it is whatever table says what may stand
+abbrev pub PrintedIsReadAgainByAnyTable : Type 0
+PrintedIsReadAgainByAnyTable = (fits : Dep (List ℕ) → Bool) (t : List ℕ) (d : Dep (List ℕ)) → dependency_by fits t ≡ Ok d → dependency_by fits (text d) ≡ Ok d
+
+-- what stands for a text at a place is what its canonical text is read as there: the same relation of the pool
+abbrev pub PrintedIsTheSame : Type 0
+PrintedIsTheSame = (old new : Held) (place : Place) (t : List ℕ) (id again : ℕ) → IsPool new → Grows old new → id < length old.nodes → again < length new.nodes
+    → dependency place t ≡ Ok (text_tree old id) → dependency place (text (text_tree old id)) ≡ Ok (text_tree new again) → again ≡ id
+
+-- is this the canonical text of what was read?
+abbrev pub has_text : List ℕ → Result (Dep (List ℕ)) DepFault → Bool
+has_text t (Ok d) = bytes_eq t (text d)
+has_text t (Err e) = false
+
+-- the text is read at the place, and its canonical text is the other
+abbrev pub reads_as : Place → List ℕ → List ℕ → Bool
+reads_as place given canonical = has_text canonical (dependency place given)
+
+-- the same by the whole table of boolean dependencies
+abbrev pub reads_richly_as : Place → List ℕ → List ℕ → Bool
+reads_richly_as place given canonical = has_text canonical (dependency_by (stands_richly_at place) given)
+
+-- the text is refused at the place for this cause
+abbrev pub IsRefused : Place → List ℕ → DepFault → Type 0
+IsRefused place given cause = dependency place given ≡ Err cause
+
+-- the same by the whole table
+abbrev pub IsRefusedRichly : Place → List ℕ → DepFault → Type 0
+IsRefusedRichly place given cause = dependency_by (stands_richly_at place) given ≡ Err cause
+
+-- was the limit of operators or of parentheses passed?
+abbrev pub is_too_deep : Result (Dep (List ℕ)) DepFault → Bool
+is_too_deep (Err TooDeep) = true
+is_too_deep r = false
+
+-- a piece, so many times, before the rest
+abbrev pub repeated : ℕ → List ℕ → List ℕ → List ℕ
+repeated zero piece rest = rest
+repeated (suc n) piece rest = piece ++ repeated n piece rest

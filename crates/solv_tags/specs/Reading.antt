@@ -1,0 +1,161 @@
+-- What reading a dependency gives: its tree, or the first cause from left to right.
+use Rattle.std.specs.Prelude.{ℕ, ◌+◌, Bool, true, false, List, [], ◌∷◌, length, Option, Some, None, Result, Ok, Err, if◌then◌else◌, nat_le}
+use Rattle.solv_base.specs.declared.comparison.Cmp.{Cmp}
+use Rattle.solv_base.specs.Dependency.{Dep, versioned, one, without, if_then, if_else}
+use Rattle.solv_tags.specs.declared.fault.DepFault.{DepFault}
+use Rattle.solv_tags.specs.declared.fault.DepFault.TheVariants.{BadOperator, MissingOperand, MixedOperators, UnclosedParenthesis, TooDeep, OperatorNotHere}
+use Rattle.solv_tags.specs.declared.place.Place.{Place}
+use Rattle.solv_tags.specs.Table.{stands_at}
+use Rattle.solv_tags.specs.Words.{words}
+use Rattle.solv_tags.specs.declared.sign.Joint.{Joint}
+use Rattle.solv_tags.specs.declared.sign.Joint.TheVariants.{Both, Either, Jointly}
+use Rattle.solv_tags.specs.declared.sign.Operator.{Operator}
+use Rattle.solv_tags.specs.declared.sign.Operator.TheVariants.{Link, Minus, If, Else}
+use Rattle.solv_tags.specs.Grammar.{operator, comparison, opens, closes, is_plain, is_namespace, named, joined}
+
+-- The rule in hand: what stands before the operand in hand, in its parentheses.
+pub data Hand : Type 0 where
+  nothing : Hand  -- the first operand
+  in_chain : Joint → Dep (List ℕ) → Hand  -- A &
+  in_difference : Dep (List ℕ) → Hand  -- A -
+  in_condition : Dep (List ℕ) → Hand  -- A <IF>
+  in_else : Dep (List ℕ) → Dep (List ℕ) → Hand  -- A <IF> B <ELSE>
+  in_inner_else : Dep (List ℕ) → Dep (List ℕ) → Hand  -- B <ELSE>, in the parentheses after A <IF>
+
+-- What the next word has to be.
+pub data Due : Type 0 where
+  operand_due : Hand → Due
+  evr_due : Hand → List ℕ → Cmp → Due
+  -- an operand stands there; where it is a bare name, a comparison may follow
+  operator_due : Hand → Option (List ℕ) → Dep (List ℕ) → Due
+
+-- The rules that open parentheses interrupt, the innermost first; the operators so far; what is due.
+pub record Point : Type 0 where
+  pub outer : List Hand
+  pub operators : ℕ
+  pub due : Due
+
+-- the dependency that the rule in hand makes with its last operand
+abbrev pub whole : Hand → Dep (List ℕ) → Dep (List ℕ)
+whole nothing d = d
+whole (in_chain j a) d = joined j a d
+whole (in_difference a) d = without a d
+whole (in_condition a) d = if_then a d
+whole (in_else a b) d = if_else a b d
+whole (in_inner_else a b) d = if_else a b d
+
+-- is it the same operator?
+abbrev pub same_joint : Joint → Joint → Bool
+same_joint Both Both = true
+same_joint Either Either = true
+same_joint Jointly Jointly = true
+same_joint i j = false
+
+-- a rule, if this holds
+abbrev pub going_on_if : Bool → Hand → Option Hand
+going_on_if b h = if b then Some h else None
+
+-- `<ELSE>` behind the first operand in parentheses: it belongs to the `<IF>` before them, if one stands there
+abbrev pub inner_else : List Hand → Dep (List ℕ) → Option Hand
+inner_else (in_condition a ∷ outer) b = Some (in_inner_else a b)
+inner_else outer b = None
+
+-- the rule in hand behind an operand and an operator, where it goes on with this one
+abbrev pub goes_on : List Hand → Hand → Dep (List ℕ) → Operator → Option Hand
+goes_on outer nothing d (Link j) = Some (in_chain j d)
+goes_on outer nothing d Minus = Some (in_difference d)
+goes_on outer nothing d If = Some (in_condition d)
+goes_on outer nothing d Else = inner_else outer d
+goes_on outer (in_chain i a) d (Link j) = going_on_if (same_joint i j) (in_chain j (joined i a d))
+goes_on outer (in_condition a) d Else = Some (in_else a d)
+goes_on outer h d o = None
+
+-- an `<ELSE>` that belongs to no `<IF>` is no operator there; others are mixed
+abbrev pub refused_operator : Operator → DepFault
+refused_operator Else = BadOperator
+refused_operator o = MixedOperators
+
+-- what is due behind a closing parenthesis: `A <IF> (B <ELSE> C)` is `A <IF> B <ELSE> C`
+abbrev pub closed : Hand → Hand → Dep (List ℕ) → Due
+closed (in_inner_else a b) outer c = operator_due (in_else a b) None c
+closed h outer d = operator_due outer None (whole h d)
+
+-- a closing parenthesis
+abbrev pub close : List Hand → ℕ → Hand → Dep (List ℕ) → Result Point DepFault
+close [] n h d = Err BadOperator
+close (o ∷ outer) n h d = Ok (record { outer = outer; operators = n; due = closed h o d })
+
+-- an operator, where the rule in hand goes on with it; its own causes come before the limit of 64
+abbrev pub go_on : List Hand → ℕ → Operator → Option Hand → Result Point DepFault
+go_on outer n o None = Err (refused_operator o)
+go_on outer n o (Some h) = if nat_le 64 n then Err TooDeep else Ok (record { outer = outer; operators = n + 1; due = operand_due h })
+
+-- a word where an operand is due
+abbrev pub at_operand : List Hand → ℕ → Hand → List ℕ → Result Point DepFault
+at_operand outer n h w =
+    if opens w then (if nat_le 64 (length outer) then Err TooDeep else Ok (record { outer = h ∷ outer; operators = n; due = operand_due nothing }))
+    else (if is_plain w then Ok (record { outer = outer; operators = n; due = operator_due h (if is_namespace w then None else Some w) (named w) })
+    else Err MissingOperand)
+
+-- a word where an EVR is due
+abbrev pub at_evr : List Hand → ℕ → Hand → List ℕ → Cmp → List ℕ → Result Point DepFault
+at_evr outer n h name c w =
+    if is_plain w then Ok (record { outer = outer; operators = n; due = operator_due h None (one (versioned name c w)) })
+    else Err MissingOperand
+
+-- a word behind an operand that is no operator and no comparison
+abbrev pub at_other : List Hand → ℕ → Hand → Dep (List ℕ) → List ℕ → Result Point DepFault
+at_other outer n h d w = if closes w then close outer n h d else Err BadOperator
+
+-- a comparison, where it follows a bare name
+abbrev pub comparison_due : Option Cmp → Option (List ℕ) → Option (List ℕ × Cmp)
+comparison_due (Some c) (Some name) = Some (name, c)
+comparison_due c name = None
+
+-- a word behind an operand
+abbrev pub at_operator : List Hand → ℕ → Hand → Dep (List ℕ) → List ℕ → Option (List ℕ × Cmp) → Option Operator → Result Point DepFault
+at_operator outer n h d w (Some x) o = Ok (record { outer = outer; operators = n; due = evr_due h x.0 x.1 })
+at_operator outer n h d w None (Some o) = go_on outer n o (goes_on outer h d o)
+at_operator outer n h d w None None = at_other outer n h d w
+
+-- the next word
+abbrev pub step_due : List Hand → ℕ → Due → List ℕ → Result Point DepFault
+step_due outer n (operand_due h) w = at_operand outer n h w
+step_due outer n (evr_due h name c) w = at_evr outer n h name c w
+step_due outer n (operator_due h name d) w = at_operator outer n h d w (comparison_due (comparison w) name) (operator w)
+
+abbrev pub step : Point → List ℕ → Result Point DepFault
+step p w = step_due p.outer p.operators p.due w
+
+-- the end of the text
+abbrev pub end_due : List Hand → Due → Result (Dep (List ℕ)) DepFault
+end_due outer (operand_due h) = Err MissingOperand
+end_due outer (evr_due h name c) = Err MissingOperand
+end_due [] (operator_due h name d) = Ok (whole h d)
+end_due (o ∷ outer) (operator_due h name d) = Err UnclosedParenthesis
+
+-- the next step, where there was no cause
+abbrev pub and_then : {A B : Type 0} → Result A DepFault → (A → Result B DepFault) → Result B DepFault
+and_then (Ok x) f = f x
+and_then (Err e) f = Err e
+
+-- what the words behind a point give
+abbrev pub reading_from : Point → List (List ℕ) → Result (Dep (List ℕ)) DepFault
+reading_from p [] = end_due p.outer p.due
+reading_from p (w ∷ ws) = and_then (step p w) (λ q. reading_from q ws)
+
+-- the beginning of a text
+abbrev pub beginning : Point
+beginning = record { outer = []; operators = 0; due = operand_due nothing }
+
+-- what the words of a text give, wherever it stands
+abbrev pub reading : List (List ℕ) → Result (Dep (List ℕ)) DepFault
+reading ws = reading_from beginning ws
+
+-- what a text gives where this table says what may stand
+abbrev pub dependency_by : (Dep (List ℕ) → Bool) → List ℕ → Result (Dep (List ℕ)) DepFault
+dependency_by fits text = and_then (reading (words text)) (λ d. if fits d then Ok d else Err OperatorNotHere)
+
+-- what a text gives at a place: its tree, or its first cause
+abbrev pub dependency : Place → List ℕ → Result (Dep (List ℕ)) DepFault
+dependency place text = dependency_by (stands_at place) text

@@ -1,0 +1,59 @@
+-- The words of a dependency's text: blanks separate, a parenthesis where a word begins is a word, and one within a word belongs to it.
+use Rattle.std.specs.Prelude.{ℕ, zero, suc, ◌+◌, ◌-◌, ◌==◌, Bool, ◌&&◌, ◌||◌, List, [], ◌∷◌, take, if◌then◌else◌}
+
+-- space, tab and carriage return
+abbrev pub is_blank : ℕ → Bool
+is_blank c = c == 32 || (c == 9 || c == 13)
+
+-- `(`
+abbrev pub is_open : ℕ → Bool
+is_open c = c == 40
+
+-- `)`
+abbrev pub is_close : ℕ → Bool
+is_close c = c == 41
+
+-- how many `(` of a word have no partner after this byte
+abbrev pub unpaired_after : ℕ → ℕ → Bool → ℕ
+unpaired_after unpaired c close = if is_open c then unpaired + 1 else (if close then unpaired - 1 else unpaired)
+
+-- does a word with so many `(` without a partner end before this byte: at a blank, or at a `)` without a partner?
+abbrev pub ends_word : ℕ → ℕ → Bool
+ends_word unpaired c = is_blank c || (is_close c && unpaired == 0)
+
+-- how many bytes a word goes on for that has so many `(` without a partner
+abbrev pub word_rest : ℕ → List ℕ → ℕ
+word_rest unpaired [] = 0
+word_rest unpaired (c ∷ cs) = if ends_word unpaired c then 0 else suc (word_rest (unpaired_after unpaired c (is_close c)) cs)
+
+-- how many bytes follow the first byte of a word: none where this is a parenthesis
+abbrev pub after_first : ℕ → List ℕ → ℕ
+after_first c cs = if is_blank c || (is_open c || is_close c) then 0 else word_rest 0 cs
+
+-- the words of a text behind so many bytes
+abbrev pub words_behind : ℕ → List ℕ → List (List ℕ)
+words_behind skip [] = []
+words_behind (suc skip) (c ∷ cs) = words_behind skip cs
+words_behind zero (c ∷ cs) =
+    let more : ℕ = after_first c cs in
+    let later : List (List ℕ) = words_behind more cs in
+    if is_blank c then later else (c ∷ take more cs) ∷ later
+
+-- the words of a text
+abbrev pub words : List ℕ → List (List ℕ)
+words text = words_behind 0 text
+
+-- how many `(` of a word have no partner in it
+abbrev pub unpaired_in : ℕ → List ℕ → ℕ
+unpaired_in unpaired [] = unpaired
+unpaired_in unpaired (c ∷ cs) = unpaired_in (unpaired_after unpaired c (is_close c)) cs
+
+-- how many blanks a text begins with
+abbrev pub blanks : List ℕ → ℕ
+blanks [] = 0
+blanks (c ∷ cs) = if is_blank c then suc (blanks cs) else 0
+
+-- how long the word is that a text begins with
+abbrev pub word_length : List ℕ → ℕ
+word_length [] = 0
+word_length (c ∷ cs) = if is_open c || is_close c then 1 else word_rest 0 cs + 1

@@ -1,0 +1,23 @@
+//! Laws of dependency text.
+ghost use Rattle.solv_tags.specs.Laws.{WrittenIsRead, ReadIsWritten, PrintedIsReadAgain, PrintedIsReadAgainByAnyTable, PrintedIsTheSame};
+
+/// What is written by the grammar, with at most 64 operators and 64 open parentheses, is read as what it means.
+pub fn written_is_read()
+    ensures { WrittenIsRead }
+{}
+
+/// What is read is written by the grammar, and stands for what it means.
+pub fn read_is_written()
+    ensures { ReadIsWritten }
+{}
+
+/// The canonical text of what was read is read again, at the same place, as the same.
+pub fn printed_is_read_again()
+    ensures here { PrintedIsReadAgain }
+    ensures anywhere { PrintedIsReadAgainByAnyTable }
+{}
+
+/// What was read at a place, printed and read there again, is the same relation of the pool, which may have grown.
+pub fn printed_is_the_same()
+    ensures { PrintedIsTheSame }
+{}

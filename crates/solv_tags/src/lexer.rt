@@ -1,0 +1,74 @@
+//! The words of a text, one at a time.
+ghost use Rattle.std.specs.Prelude.{◌≡◌, ◌+◌, ◌<◌, ◌≤◌, ◌∷◌, [], length, drop, take, IfSome, IfNone, IsTrue, ℕ, false};
+ghost use Rattle.solv_tags.specs.Words.{is_blank, is_open, is_close, words, word_rest, word_length, blanks};
+
+/// A blank separates words.
+pub(crate) fn is_blank_byte(c: u8) -> bool
+    ensures { result ≡ is_blank c }
+{
+    c == b' ' || c == b'\t' || c == b'\r'
+}
+
+/// How many blanks a text begins with.
+fn count_blanks(text: &[u8]) -> usize
+    ensures { result ≡ blanks text.now }
+{
+    let mut i = 0;
+    while i < text.len() && is_blank_byte(text[i]) {
+        i += 1;
+    }
+    i
+}
+
+/// How many bytes a word goes on for.
+fn count_rest(text: &[u8]) -> usize
+    ensures rest { result ≡ word_rest 0 text.now }
+    ensures within { result ≤ length text.now }
+{
+    let mut unpaired: usize = 0;
+    let mut i = 0;
+    while i < text.len() {
+        let c = text[i];
+        if is_blank_byte(c) {
+            break;
+        }
+        if c == b')' {
+            if unpaired == 0 {
+                break;
+            }
+            unpaired -= 1;
+        } else if c == b'(' {
+            unpaired += 1;
+        }
+        i += 1;
+    }
+    i
+}
+
+/// How long the word is that a text begins with.
+fn count_word(text: &[u8]) -> usize
+    requires { 0 < length text.now }
+    ensures length { result ≡ word_length text.now }
+    ensures within { result ≤ length text.now }
+    ensures some { 0 < result }
+{
+    if text[0] == b'(' || text[0] == b')' {
+        return 1;
+    }
+    count_rest(&text[1..]) + 1
+}
+
+/// The first word of a text, and what follows it.
+pub(crate) fn next_word(text: &[u8]) -> Option<(&[u8], &[u8])>
+    ensures found { IfSome result (λ r. words text.now ≡ r.0.now ∷ words r.1.now) }
+    ensures shorter { IfSome result (λ r. length r.1.now < length text.now) }
+    ensures none { IfNone result (words text.now ≡ []) }
+{
+    let start = count_blanks(text);
+    if start >= text.len() {
+        return None;
+    }
+    let rest = &text[start..];
+    let end = count_word(rest);
+    Some(rest.split_at(end))
+}

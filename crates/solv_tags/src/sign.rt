@@ -1,0 +1,124 @@
+//! Operators and comparisons.
+
+ghost use Rattle.std.specs.Prelude.{◌≡◌, Some};
+ghost use Rattle.solv_tags.specs.Grammar.{operator, comparison, word_is, opens, closes, is_plain, is_namespace};
+
+use solv_base::Cmp;
+
+/// An operator that joins the operands of a chain.
+#[derive(Clone, Copy, PartialEq, Eq, Debug)]
+pub enum Joint {
+    Both,
+    Either,
+    Jointly,
+}
+
+/// An operator between dependencies.
+#[derive(Clone, Copy, PartialEq, Eq, Debug)]
+pub enum Operator {
+    Link(Joint),
+    Minus,
+    If,
+    Else,
+}
+
+/// Whether a word is this text.
+fn is_word(word: &[u8], text: &[u8]) -> bool
+    ensures { result ≡ word_is text.now word.now }
+{
+    text == word
+}
+
+/// The operator that a word is.
+pub(crate) fn operator_of(word: &[u8]) -> Option<Operator>
+    ensures { result ≡ operator word.now }
+{
+    if is_word(word, b"&") {
+        return Some(Operator::Link(Joint::Both));
+    }
+    if is_word(word, b"|") {
+        return Some(Operator::Link(Joint::Either));
+    }
+    if is_word(word, b"+") {
+        return Some(Operator::Link(Joint::Jointly));
+    }
+    if is_word(word, b"-") {
+        return Some(Operator::Minus);
+    }
+    if is_word(word, b"<IF>") {
+        return Some(Operator::If);
+    }
+    if is_word(word, b"<ELSE>") {
+        return Some(Operator::Else);
+    }
+    None
+}
+
+fn cmp(less: bool, equal: bool, greater: bool) -> Option<Cmp>
+    ensures { result ≡ Some (record { less = less; equal = equal; greater = greater }) }
+{
+    Some(Cmp {
+        less,
+        equal,
+        greater,
+    })
+}
+
+/// The comparison that a word is.
+pub(crate) fn comparison_of(word: &[u8]) -> Option<Cmp>
+    ensures { result ≡ comparison word.now }
+{
+    if is_word(word, b"<") {
+        return cmp(true, false, false);
+    }
+    if is_word(word, b"<=") {
+        return cmp(true, true, false);
+    }
+    if is_word(word, b"=") {
+        return cmp(false, true, false);
+    }
+    if is_word(word, b">=") {
+        return cmp(false, true, true);
+    }
+    if is_word(word, b">") {
+        return cmp(false, false, true);
+    }
+    if is_word(word, b"<>") {
+        return cmp(true, false, true);
+    }
+    None
+}
+
+/// Whether a word opens a parenthesis.
+pub(crate) fn opens_one(word: &[u8]) -> bool
+    ensures { result ≡ opens word.now }
+{
+    is_word(word, b"(")
+}
+
+/// Whether a word closes a parenthesis.
+pub(crate) fn closes_one(word: &[u8]) -> bool
+    ensures { result ≡ closes word.now }
+{
+    is_word(word, b")")
+}
+
+/// Whether a word is a name or an EVR where one is due.
+pub(crate) fn is_plain_word(word: &[u8]) -> bool
+    ensures { result ≡ is_plain word.now }
+{
+    if opens_one(word) || closes_one(word) {
+        return false;
+    }
+    operator_of(word).is_none() && comparison_of(word).is_none()
+}
+
+/// Whether a name is a namespace.
+pub(crate) fn is_namespace_name(word: &[u8]) -> bool
+    ensures { result ≡ is_namespace word.now }
+{
+    let Some((last, _)) = word.split_last() else {
+        return false;
+    };
+    word.len() >= 10 && word.starts_with(b"namespace:") && *last == b')' && word.contains(&b'(')
+}
