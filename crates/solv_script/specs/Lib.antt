@@ -1,0 +1,10 @@
+pub mod Causes
+pub mod Items
+pub mod Numbers
+pub mod FirstScript
+pub mod Reads
+pub mod Examples
+pub mod FirstStop
+pub mod FirstWalk
+pub mod FirstEntering
+pub mod FirstReader

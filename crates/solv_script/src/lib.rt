@@ -1,0 +1,15 @@
+//! Scripts: libsolv's testcase format.
+//!
+//! - [`read_first`] reads scripts of packages without dependencies and jobs that install by name.
+//! - [`Script`] is what is read, [`ScriptFault`] why nothing is, [`Cause`] why a line is refused.
+#![tactic(auto)]
+
+mod causes;
+mod first;
+mod first_rows;
+mod scripts;
+
+pub use causes::Cause;
+pub use first::read_first;
+pub use first_rows::{priorities, read_script_by_example, refused_scripts};
+pub use scripts::{EvrCheck, Kinds, Script, ScriptFault};
