@@ -1,0 +1,10 @@
+pub mod CommandLine
+pub mod Picks
+pub mod ResultLines
+pub mod BestSoFar
+pub mod Taken
+pub mod Dues
+pub mod Runs
+pub mod Said
+pub mod Faults
+pub mod Explained
