@@ -9,3 +9,4 @@ pub mod Printed
 pub mod Readable
 pub mod RoundTrip
 pub mod Sound
+pub mod SameDependency

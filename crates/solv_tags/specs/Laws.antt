@@ -1,5 +1,5 @@
 -- Laws of dependency text, and how its examples are said.
-use Rattle.std.specs.Prelude.{ℕ, zero, suc, ◌++◌, ◌≡◌, ◌<◌, ◌≤◌, Bool, true, false, List, length, Result, Ok, Err}
+use Rattle.std.specs.Prelude.{ℕ, zero, suc, ◌++◌, ◌≡◌, ◌↔◌, ◌<◌, ◌≤◌, Bool, true, false, List, length, Result, Ok, Err}
 use Rattle.std.specs.Str.{bytes_eq}
 use Rattle.solv_base.specs.Dependency.{Dep}
 use Rattle.solv_base.specs.Pool.{Held, IsPool, Grows, text_tree}
@@ -7,6 +7,7 @@ use Rattle.solv_tags.specs.Grammar.{Expr, expr_right, expr_operators, expr_depth
 use Rattle.solv_tags.specs.Table.{stands_richly_at}
 use Rattle.solv_tags.specs.Reading.{dependency, dependency_by, reading}
 use Rattle.solv_tags.specs.Canonical.{text}
+use Rattle.solv_tags.specs.Entries.{is_same}
 use Rattle.solv_tags.specs.declared.place.Place.{Place}
 use Rattle.solv_tags.specs.declared.fault.DepFault.{DepFault}
 use Rattle.solv_tags.specs.declared.fault.DepFault.TheVariants.{TooDeep}
@@ -38,6 +39,10 @@ PrintedIsReadAgainByAnyTable = (fits : Dep (List ℕ) → Bool) (t : List ℕ) (
 abbrev pub PrintedIsTheSame : Type 0
 PrintedIsTheSame = (old new : Held) (place : Place) (t : List ℕ) (id again : ℕ) → IsPool new → Grows old new → id < length old.nodes → again < length new.nodes
     → dependency place t ≡ Ok (text_tree old id) → dependency place (text (text_tree old id)) ≡ Ok (text_tree new again) → again ≡ id
+
+-- entries are told apart by the test exactly where they are other dependencies
+abbrev pub SameIsEqual : Type 0
+SameIsEqual = (a b : Dep (List ℕ)) → is_same a b ≡ true ↔ a ≡ b
 
 -- is this the canonical text of what was read?
 abbrev pub has_text : List ℕ → Result (Dep (List ℕ)) DepFault → Bool

@@ -8,3 +8,8 @@ pub mod Reading
 pub mod Canonical
 pub mod Appending
 pub mod Laws
+pub mod Headings
+pub mod Entries
+pub mod Testtags
+pub mod TesttagsExamples
+pub mod RepositoryReading

@@ -1,0 +1,71 @@
+-- The test of equal dependencies says that they are equal.
+use Rattle.std.proofs.Common.{◌≡◌, ℕ, true, ◌&&◌, List, refl, ap, rules}
+use Rattle.std.specs.Str.{bytes_eq}
+use Rattle.std.proofs.lemmas.Slice.Eq.{bytes_eq-Decides}
+use Rattle.solv_base.specs.contracts.comparison.CmpPartialEq.TheImpl.{eq-value}
+use Rattle.solv_base.specs.declared.comparison.Cmp.{Cmp}
+use Rattle.solv_base.specs.Dependency.{Dep, Capability, plain, versioned, one, namespace, and, or, with, without, if_then, if_else, unless, unless_else, missing}
+use Rattle.solv_tags.specs.Entries.{is_same, is_same_capability}
+use Rattle.solv_tags.proofs.Both.{both_left, both_right, both_true}
+
+same_text : (a b : List ℕ) → bytes_eq a b ≡ true → a ≡ b
+same_text a b h = search (rules, bytes_eq-Decides a b)
+
+text_itself : (a : List ℕ) → bytes_eq a a ≡ true
+text_itself a = search (rules, bytes_eq-Decides a a)
+
+comparison_itself : (c : Cmp) → eq-value.it c c ≡ true
+comparison_itself c = search rules
+
+same_comparison : (c d : Cmp) → eq-value.it c d ≡ true → c ≡ d
+same_comparison c d h = search rules
+
+capability_itself : (c : Capability (List ℕ)) → is_same_capability c c ≡ true
+capability_itself (plain a) = text_itself a
+capability_itself (versioned a c e) = both_true (bytes_eq a a) (eq-value.it c c && bytes_eq e e) (text_itself a) (both_true (eq-value.it c c) (bytes_eq e e) (comparison_itself c) (text_itself e))
+
+same_capability : (c d : Capability (List ℕ)) → is_same_capability c d ≡ true → c ≡ d
+same_capability (plain a) (plain b) h = ap plain (same_text a b h)
+same_capability (plain a) (versioned b d f) h = cc
+same_capability (versioned a c e) (plain b) h = cc
+same_capability (versioned a c e) (versioned b d f) h =
+    let t = same_text a b (both_left (bytes_eq a b) (eq-value.it c d && bytes_eq e f) h) in
+    let r = both_right (bytes_eq a b) (eq-value.it c d && bytes_eq e f) h in
+    rw (t, same_comparison c d (both_left (eq-value.it c d) (bytes_eq e f) r), same_text e f (both_right (eq-value.it c d) (bytes_eq e f) r)) refl
+
+same_pair : {A : Type 0} (a b c d : Dep (List ℕ)) (f : Dep (List ℕ) → Dep (List ℕ) → A) → (is_same a c ≡ true → a ≡ c) → (is_same b d ≡ true → b ≡ d)
+    → (is_same a c && is_same b d) ≡ true → f a b ≡ f c d
+same_pair a b c d f p q h = rw (p (both_left (is_same a c) (is_same b d) h), q (both_right (is_same a c) (is_same b d) h)) refl
+
+same_triple : {A : Type 0} (a b e c d g : Dep (List ℕ)) (f : Dep (List ℕ) → Dep (List ℕ) → Dep (List ℕ) → A) → (is_same a c ≡ true → a ≡ c) → (is_same b d ≡ true → b ≡ d) → (is_same e g ≡ true → e ≡ g)
+    → (is_same a c && (is_same b d && is_same e g)) ≡ true → f a b e ≡ f c d g
+same_triple a b e c d g f p q r h =
+    let rest : (is_same b d && is_same e g) ≡ true = both_right (is_same a c) (is_same b d && is_same e g) h in
+    rw (p (both_left (is_same a c) (is_same b d && is_same e g) h), q (both_left (is_same b d) (is_same e g) rest), r (both_right (is_same b d) (is_same e g) rest)) refl
+
+pub dependency_itself : (a : Dep (List ℕ)) → is_same a a ≡ true
+dependency_itself (one c) = capability_itself c
+dependency_itself (namespace n) = text_itself n
+dependency_itself (and a b) = both_true (is_same a a) (is_same b b) (dependency_itself a) (dependency_itself b)
+dependency_itself (or a b) = both_true (is_same a a) (is_same b b) (dependency_itself a) (dependency_itself b)
+dependency_itself (with a b) = both_true (is_same a a) (is_same b b) (dependency_itself a) (dependency_itself b)
+dependency_itself (without a b) = both_true (is_same a a) (is_same b b) (dependency_itself a) (dependency_itself b)
+dependency_itself (if_then a b) = both_true (is_same a a) (is_same b b) (dependency_itself a) (dependency_itself b)
+dependency_itself (unless a b) = both_true (is_same a a) (is_same b b) (dependency_itself a) (dependency_itself b)
+dependency_itself (if_else a b e) = both_true (is_same a a) (is_same b b && is_same e e) (dependency_itself a) (both_true (is_same b b) (is_same e e) (dependency_itself b) (dependency_itself e))
+dependency_itself (unless_else a b e) = both_true (is_same a a) (is_same b b && is_same e e) (dependency_itself a) (both_true (is_same b b) (is_same e e) (dependency_itself b) (dependency_itself e))
+dependency_itself missing = refl
+
+pub same_dependency : (a b : Dep (List ℕ)) → is_same a b ≡ true → a ≡ b
+same_dependency (one c) (one d) h = ap one (same_capability c d h)
+same_dependency (namespace m) (namespace n) h = ap namespace (same_text m n h)
+same_dependency (and a b) (and c d) h = same_pair a b c d and (same_dependency a c) (same_dependency b d) h
+same_dependency (or a b) (or c d) h = same_pair a b c d or (same_dependency a c) (same_dependency b d) h
+same_dependency (with a b) (with c d) h = same_pair a b c d with (same_dependency a c) (same_dependency b d) h
+same_dependency (without a b) (without c d) h = same_pair a b c d without (same_dependency a c) (same_dependency b d) h
+same_dependency (if_then a b) (if_then c d) h = same_pair a b c d if_then (same_dependency a c) (same_dependency b d) h
+same_dependency (unless a b) (unless c d) h = same_pair a b c d unless (same_dependency a c) (same_dependency b d) h
+same_dependency (if_else a b e) (if_else c d g) h = same_triple a b e c d g if_else (same_dependency a c) (same_dependency b d) (same_dependency e g) h
+same_dependency (unless_else a b e) (unless_else c d g) h = same_triple a b e c d g unless_else (same_dependency a c) (same_dependency b d) (same_dependency e g) h
+same_dependency missing missing h = refl
+same_dependency a b h = cc
