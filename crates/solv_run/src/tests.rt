@@ -171,6 +171,22 @@ fn reports_faults(rt: HostRuntime) -> Result<(), Fail> {
 }
 
 #[test]
+fn reports_faults_of_the_error_stream(rt: HostRuntime) -> Result<(), Fail> {
+    let alloc = rt.alloc();
+    let words = command_line(alloc, &["testsolv", "case.t"])?;
+    let mut files = one_file(alloc, "case.t", "bad\n", &[])?;
+    for call in 1..5u64 {
+        let mut out = small_sink(alloc, &[])?;
+        let mut err = small_sink(alloc, &[call])?;
+        let report = run(alloc, &words, &mut files, &mut out, &mut err)?;
+        assert_eq!(rt; report.status, Status::WriteFault, "at {call}");
+        assert_eq!(rt; err.taken.len() as u64, (call - 1) * 8, "at {call}");
+        assert_eq!(rt; out.taken.len(), 0);
+    }
+    Ok(())
+}
+
+#[test]
 fn gives_the_set(rt: HostRuntime) -> Result<(), Fail> {
     let alloc = rt.alloc();
     let words = command_line(alloc, &["testsolv", "case.t"])?;
