@@ -75,6 +75,11 @@ impl Pool {
         }
     }
 
+    /// What the pool takes its memory from. What is read beside it takes its own there.
+    pub fn alloc(&self) -> Global {
+        self.alloc
+    }
+
     /// The id of a text, which the text keeps for good. A text that is held already takes no memory.
     pub fn intern(&mut self, text: &[u8]) -> Result<NameId, PoolFault>
         ensures id { IfOk result (λ id. id ≡ name_id self.old.names text.now) }

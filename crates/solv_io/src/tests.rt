@@ -257,3 +257,17 @@ fn statuses_have_their_numbers(rt: HostRuntime) {
         assert_eq!(rt; status.number(), want);
     }
 }
+
+#[test]
+fn blanks_are_spaces_tabs_and_carriage_returns(rt: HostRuntime) {
+    for (byte, blank) in [
+        (b' ', true),
+        (b'\t', true),
+        (b'\r', true),
+        (b'\n', false),
+        (b'a', false),
+        (0, false),
+    ] {
+        assert_eq!(rt; is_blank(byte), blank, "{byte}");
+    }
+}

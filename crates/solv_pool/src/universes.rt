@@ -185,6 +185,13 @@ impl Universe {
         Ok(PackNo(count as u32 + 1))
     }
 
+    /// What holds of every universe: at most 1,048,575 packages, and for each whether it is disabled.
+    pub fn marks_each(&self)
+        ensures { IsUniverse self.now }
+    {
+        let _packages = &self.packages;
+    }
+
     /// A pool that grew is still the one that a universe's ids are of.
     pub fn stays_over()
         ensures { (old new : Held) (contents : Contents) → Grows old new → IsOver old contents → IsOver new contents }
