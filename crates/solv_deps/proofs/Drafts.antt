@@ -6,10 +6,10 @@ use Rattle.std.proofs.lemmas.Option.{slice_get-get_or}
 use Rattle.std.proofs.Math.Seq.{get_or-append_seam}
 use Rattle.std.proofs.lemmas.Grind.{common_steps}
 use Rattle.solv_base.specs.Dependency.{Dep, missing}
-use Rattle.solv_tags.specs.declared.draft.Written.{Written}
-use Rattle.solv_tags.specs.declared.draft.Written.TheVariants.{Simple, Versioned, Namespace, Joined, Without, If, IfElse}
-use Rattle.solv_tags.specs.Drafts.{at, written, written_after, operands_below, operands_first, said, Extends, Enters, IsDraft}
-use Rattle.solv_tags.proofs.Both.{both_left, both_right}
+use Rattle.solv_deps.specs.declared.draft.Written.{Written}
+use Rattle.solv_deps.specs.declared.draft.Written.TheVariants.{Simple, Versioned, Namespace, Joined, Without, If, IfElse}
+use Rattle.solv_deps.specs.Drafts.{at, written, written_after, operands_below, operands_first, said, Extends, Enters, IsDraft}
+use Rattle.solv_deps.proofs.Both.{both_left, both_right}
 
 pub written_after-push : (draft : List (Dep (List ℕ))) (parts : List Written) (part : Written)
     → written_after draft (parts ++ part ∷ []) ≡ written_after draft parts ++ written (at (written_after draft parts)) part ∷ []

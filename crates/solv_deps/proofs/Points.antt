@@ -6,19 +6,19 @@ use Rattle.std.proofs.lemmas.Bool.{ltb-true}
 use Rattle.std.proofs.lemmas.List.{length-map}
 use Rattle.solv_base.specs.Dependency.{Dep, namespace, one, plain, versioned}
 use Rattle.solv_base.specs.declared.comparison.Cmp.{Cmp}
-use Rattle.solv_tags.specs.declared.fault.DepFault.{DepFault}
-use Rattle.solv_tags.specs.declared.draft.Written.{Written}
-use Rattle.solv_tags.specs.declared.outer.Rule.{Rule}
-use Rattle.solv_tags.specs.declared.outer.Rule.TheVariants.{Nothing, Chain, Difference, Condition, Else, InnerElse}
-use Rattle.solv_tags.specs.declared.reading.Due.{Due}
-use Rattle.solv_tags.specs.declared.reading.Due.TheVariants.{Operand, Evr, Named, Operator}
-use Rattle.solv_tags.specs.Words.{words}
-use Rattle.solv_tags.specs.Grammar.{opens, closes, operator, comparison, is_plain, is_namespace}
-use Rattle.solv_tags.specs.Drafts.{said, Extends, Enters}
-use Rattle.solv_tags.specs.Reading.{Hand, Point, at_operand, at_evr, at_other, at_operator, operand_due, operator_due, evr_due, in_chain, in_difference, in_condition, in_else, in_inner_else, whole, closed, go_on, comparison_due, reading, reading_from, end_due}
-use Rattle.solv_tags.specs.Points.{rule_hand, hands, due_seen, seen, rule_in, rules_in, pending, option_pending, rules_pending, due_pending, due_entered, Belongs, Stands, GoesOn, Leads, Ends}
-use Rattle.solv_tags.proofs.Both.{both_left, both_right, both_true, more, below_true}
-use Rattle.solv_tags.proofs.Complete.{choose_second, not_full}
+use Rattle.solv_deps.specs.declared.fault.DepFault.{DepFault}
+use Rattle.solv_deps.specs.declared.draft.Written.{Written}
+use Rattle.solv_deps.specs.declared.outer.Rule.{Rule}
+use Rattle.solv_deps.specs.declared.outer.Rule.TheVariants.{Nothing, Chain, Difference, Condition, Else, InnerElse}
+use Rattle.solv_deps.specs.declared.reading.Due.{Due}
+use Rattle.solv_deps.specs.declared.reading.Due.TheVariants.{Operand, Evr, Named, Operator}
+use Rattle.solv_deps.specs.Words.{words}
+use Rattle.solv_deps.specs.Grammar.{opens, closes, operator, comparison, is_plain, is_namespace}
+use Rattle.solv_deps.specs.Drafts.{said, Extends, Enters}
+use Rattle.solv_deps.specs.Reading.{Hand, Point, at_operand, at_evr, at_other, at_operator, operand_due, operator_due, evr_due, in_chain, in_difference, in_condition, in_else, in_inner_else, whole, closed, go_on, comparison_due, reading, reading_from, end_due}
+use Rattle.solv_deps.specs.Points.{rule_hand, hands, due_seen, seen, rule_in, rules_in, pending, option_pending, rules_pending, due_pending, due_entered, Belongs, Stands, GoesOn, Leads, Ends}
+use Rattle.solv_deps.proofs.Both.{both_left, both_right, both_true, more, below_true}
+use Rattle.solv_deps.proofs.Complete.{choose_second, not_full}
 
 rule_more : (m n : ℕ) (r : Rule) → m ≤ n → rule_in m r ≡ true → rule_in n r ≡ true
 rule_more m n Nothing le h = refl
@@ -52,7 +52,7 @@ module _ (old new : List Written) (g : Extends old new) where
       let y = rules_kept o (both_right (rule_in (length old) r) (rules_in (length old) o) h) in
       cc
 
-same_seen : (draft : List Written) (o : List Rule) (count : ℕ) (due : Due) (hs : List Hand) (d : Rattle.solv_tags.specs.Reading.Due)
+same_seen : (draft : List Written) (o : List Rule) (count : ℕ) (due : Due) (hs : List Hand) (d : Rattle.solv_deps.specs.Reading.Due)
     → hands (said draft) o ≡ hs → due_seen (said draft) due ≡ d → seen draft o count due ≡ record { outer = hs; operators = count; due = d }
 unfolding seen
 same_seen draft o count due hs d e f = cc
@@ -170,7 +170,7 @@ stands_closed old new o p count rule d w before due e ho room few c g longer ent
     }
 
 -- an operator goes on
-pub stands_sign : (old new : List Written) (o : List Rule) (count : ℕ) (r : Rule) (op : Rattle.solv_tags.specs.declared.sign.Operator.Operator) (next : Rule) (rule : Option Rule) (goes : Option Hand)
+pub stands_sign : (old new : List Written) (o : List Rule) (count : ℕ) (r : Rule) (op : Rattle.solv_deps.specs.declared.sign.Operator.Operator) (next : Rule) (rule : Option Rule) (goes : Option Hand)
     → rules_in (length old) o ≡ true → length old + rules_pending o + pending r ≤ count + count + 1 → count < 64 → Extends old new → rule ≡ Some next
     → length new + option_pending rule ≤ length old + pending r + 1 → GoesOn new rule goes
     → Stands new o (count + 1) (Operand next) (go_on (hands (said old) o) count op goes)

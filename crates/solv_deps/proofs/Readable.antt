@@ -7,15 +7,16 @@ use Rattle.std.specs.Str.{bytes_eq}
 use Rattle.std.proofs.lemmas.Slice.Eq.{bytes_eq-Decides}
 use Rattle.solv_base.specs.declared.comparison.Cmp.{Cmp}
 use Rattle.solv_base.specs.Dependency.{Dep, plain, one, namespace, operators}
-use Rattle.solv_tags.specs.declared.fault.DepFault.{DepFault}
-use Rattle.solv_tags.specs.declared.sign.Joint.{Joint}
-use Rattle.solv_tags.specs.declared.sign.Joint.TheVariants.{Both, Either, Jointly}
-use Rattle.solv_tags.specs.declared.sign.Operator.{Operator}
-use Rattle.solv_tags.specs.declared.sign.Operator.TheVariants.{Link, Minus, If, Else}
-use Rattle.solv_tags.specs.Words.{is_blank, is_open, is_close, ends_word, unpaired_after, word_rest, after_first, words_behind, words}
-use Rattle.solv_tags.specs.Grammar.{operator, comparison, opens, closes, is_plain, is_namespace, named, joined}
-use Rattle.solv_tags.specs.Reading.{Hand, nothing, in_chain, in_difference, in_condition, in_else, in_inner_else, Due, operand_due, evr_due, operator_due, Point, whole, inner_else, same_joint, going_on_if, goes_on, closed, close, go_on, at_operand, at_evr, at_operator, comparison_due, step_due, step, end_due, and_then, reading_from, reading, beginning}
-use Rattle.solv_tags.proofs.Printed.{is_word, well, right_cmp}
+use Rattle.solv_deps.specs.declared.fault.DepFault.{DepFault}
+use Rattle.solv_deps.specs.declared.sign.Joint.{Joint}
+use Rattle.solv_deps.specs.declared.sign.Joint.TheVariants.{Both, Either, Jointly}
+use Rattle.solv_deps.specs.declared.sign.Operator.{Operator}
+use Rattle.solv_deps.specs.declared.sign.Operator.TheVariants.{Link, Minus, If, Else}
+use Rattle.solv_io.specs.Words.{is_blank}
+use Rattle.solv_deps.specs.Words.{is_open, is_close, ends_word, unpaired_after, word_rest, after_first, words_behind, words}
+use Rattle.solv_deps.specs.Grammar.{operator, comparison, opens, closes, is_plain, is_namespace, named, joined}
+use Rattle.solv_deps.specs.Reading.{Hand, nothing, in_chain, in_difference, in_condition, in_else, in_inner_else, Due, operand_due, evr_due, operator_due, Point, whole, inner_else, same_joint, going_on_if, goes_on, closed, close, go_on, at_operand, at_evr, at_operator, comparison_due, step_due, step, end_due, and_then, reading_from, reading, beginning}
+use Rattle.solv_deps.proofs.Printed.{is_word, well, right_cmp}
 
 abbrev hand_well : Hand → Bool
 hand_well nothing = true

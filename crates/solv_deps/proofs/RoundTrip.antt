@@ -4,15 +4,15 @@ use Rattle.std.specs.Prelude.{if◌then◌else◌}
 use Rattle.solv_base.specs.Dependency.{Dep, operators}
 use Rattle.solv_base.specs.Pool.{Held, IsPool, Grows, text_tree}
 use Rattle.solv_base.proofs.Identity.{trees_differ}
-use Rattle.solv_tags.specs.declared.place.Place.{Place}
-use Rattle.solv_tags.specs.Table.{stands_at}
-use Rattle.solv_tags.specs.declared.fault.DepFault.{DepFault}
-use Rattle.solv_tags.specs.declared.fault.DepFault.TheVariants.{OperatorNotHere}
-use Rattle.solv_tags.specs.Words.{words}
-use Rattle.solv_tags.specs.Reading.{reading, dependency, dependency_by, and_then}
-use Rattle.solv_tags.specs.Canonical.{text}
-use Rattle.solv_tags.proofs.Printed.{well, printed_is_read}
-use Rattle.solv_tags.proofs.Readable.{IsWellRead, text_well_read}
+use Rattle.solv_deps.specs.declared.place.Place.{Place}
+use Rattle.solv_deps.specs.Table.{stands_at}
+use Rattle.solv_deps.specs.declared.fault.DepFault.{DepFault}
+use Rattle.solv_deps.specs.declared.fault.DepFault.TheVariants.{OperatorNotHere}
+use Rattle.solv_deps.specs.Words.{words}
+use Rattle.solv_deps.specs.Reading.{reading, dependency, dependency_by, and_then}
+use Rattle.solv_deps.specs.Canonical.{text}
+use Rattle.solv_deps.proofs.Printed.{well, printed_is_read}
+use Rattle.solv_deps.proofs.Readable.{IsWellRead, text_well_read}
 
 pub printed_again : (fits : Dep (List ℕ) → Bool) (t : List ℕ) (d : Dep (List ℕ)) → dependency_by fits t ≡ Ok d → dependency_by fits (text d) ≡ Ok d
 printed_again fits t d e =

@@ -4,16 +4,16 @@ use Rattle.std.specs.Prelude.{codes, if◌then◌else◌, is_some}
 use Rattle.solv_base.specs.declared.comparison.Cmp.{Cmp}
 use Rattle.solv_base.specs.Dependency.{Dep, versioned, one}
 use Rattle.solv_base.proofs.Pools.{same_text}
-use Rattle.solv_tags.specs.declared.fault.DepFault.{DepFault}
-use Rattle.solv_tags.specs.declared.fault.DepFault.TheVariants as Fault
-use Rattle.solv_tags.specs.declared.sign.Joint.{Joint}
-use Rattle.solv_tags.specs.declared.sign.Joint.TheVariants.{Both, Either, Jointly}
-use Rattle.solv_tags.specs.declared.sign.Operator.{Operator}
-use Rattle.solv_tags.specs.declared.sign.Operator.TheVariants.{Link, Minus, If, Else}
-use Rattle.solv_tags.specs.Grammar.{operator, comparison, opens, closes, is_plain, is_namespace, named, joined, sign, word_is, Operand, Chain, name, compared, inside, two, more, alone, chain, less, provided, provided_else, provided_inside, operand_words, chain_words, expr_words, operand_sense, chain_sense, operand_right, chain_right, expr_right}
-use Rattle.solv_tags.specs.Reading.{Hand, nothing, in_chain, in_difference, in_condition, in_else, in_inner_else, Due, operand_due, evr_due, operator_due, Point, whole, goes_on, going_on_if, same_joint, closed, close, go_on, at_operand, at_evr, at_other, at_operator, comparison_due, step_due, step, and_then, reading_from, reading, beginning, end_due}
-use Rattle.solv_tags.specs.Laws.{Spells}
-use Rattle.solv_tags.proofs.Both.{both_true}
+use Rattle.solv_deps.specs.declared.fault.DepFault.{DepFault}
+use Rattle.solv_deps.specs.declared.fault.DepFault.TheVariants as Fault
+use Rattle.solv_deps.specs.declared.sign.Joint.{Joint}
+use Rattle.solv_deps.specs.declared.sign.Joint.TheVariants.{Both, Either, Jointly}
+use Rattle.solv_deps.specs.declared.sign.Operator.{Operator}
+use Rattle.solv_deps.specs.declared.sign.Operator.TheVariants.{Link, Minus, If, Else}
+use Rattle.solv_deps.specs.Grammar.{operator, comparison, opens, closes, is_plain, is_namespace, named, joined, sign, word_is, Operand, Chain, name, compared, inside, two, more, alone, chain, less, provided, provided_else, provided_inside, operand_words, chain_words, expr_words, operand_sense, chain_sense, operand_right, chain_right, expr_right}
+use Rattle.solv_deps.specs.Reading.{Hand, nothing, in_chain, in_difference, in_condition, in_else, in_inner_else, Due, operand_due, evr_due, operator_due, Point, whole, goes_on, going_on_if, same_joint, closed, close, go_on, at_operand, at_evr, at_other, at_operator, comparison_due, step_due, step, and_then, reading_from, reading, beginning, end_due}
+use Rattle.solv_deps.specs.Laws.{Spells}
+use Rattle.solv_deps.proofs.Both.{both_true}
 
 -- the words of a text so far
 abbrev pub Words : Type 0

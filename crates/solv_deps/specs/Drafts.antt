@@ -1,9 +1,9 @@
 -- A draft: what a text says so far, each part after its operands, before any of it is entered into a pool.
 use Rattle.std.specs.Prelude.{ℕ, suc, ◌≡◌, ◌<◌, ◌≤◌, Bool, true, ◌&&◌, List, [], ◌∷◌, ◌++◌, length, nat_lt, get_or, take}
 use Rattle.solv_base.specs.Dependency.{Dep, plain, versioned, one, namespace, without, if_then, if_else, missing}
-use Rattle.solv_tags.specs.declared.draft.Written.{Written}
-use Rattle.solv_tags.specs.declared.draft.Written.TheVariants.{Simple, Versioned, Namespace, Joined, Without, If, IfElse}
-use Rattle.solv_tags.specs.Grammar.{joined}
+use Rattle.solv_deps.specs.declared.draft.Written.{Written}
+use Rattle.solv_deps.specs.declared.draft.Written.TheVariants.{Simple, Versioned, Namespace, Joined, Without, If, IfElse}
+use Rattle.solv_deps.specs.Grammar.{joined}
 
 -- the dependency at this place
 abbrev pub at : List (Dep (List ℕ)) → ℕ → Dep (List ℕ)

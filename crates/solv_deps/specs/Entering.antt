@@ -8,12 +8,12 @@ use Rattle.solv_base.specs.declared.interning.PoolFault.{PoolFault}
 use Rattle.solv_base.specs.declared.interning.PoolFault.TheVariants as PoolFull
 use Rattle.solv_base.specs.Dependency.{Dep, Capability, plain, versioned, one, namespace, and, or, with, without, if_then, if_else, unless, unless_else, missing}
 use Rattle.solv_base.specs.Pool.{Held, most, is_name, name_id, with_name, text_tree}
-use Rattle.solv_tags.specs.declared.place.Place.{Place}
-use Rattle.solv_tags.specs.declared.fault.DepFault.{DepFault}
-use Rattle.solv_tags.specs.declared.fault.DepFault.TheVariants.{FullNames, FullRelations, Memory, OperatorNotHere}
-use Rattle.solv_tags.specs.declared.sign.Joint.{Joint}
-use Rattle.solv_tags.specs.declared.sign.Joint.TheVariants.{Both, Either, Jointly}
-use Rattle.solv_tags.specs.Reading.{and_then, dependency}
+use Rattle.solv_deps.specs.declared.place.Place.{Place}
+use Rattle.solv_deps.specs.declared.fault.DepFault.{DepFault}
+use Rattle.solv_deps.specs.declared.fault.DepFault.TheVariants.{FullNames, FullRelations, Memory, OperatorNotHere}
+use Rattle.solv_deps.specs.declared.sign.Joint.{Joint}
+use Rattle.solv_deps.specs.declared.sign.Joint.TheVariants.{Both, Either, Jointly}
+use Rattle.solv_deps.specs.Reading.{and_then, dependency}
 
 -- an id, and what the pool holds then
 pub record Entered : Type 0 where

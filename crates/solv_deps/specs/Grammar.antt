@@ -2,11 +2,11 @@
 use Rattle.std.specs.Prelude.{ℕ, ◌+◌, ◌-◌, Bool, true, false, not, ◌&&◌, List, [], ◌∷◌, ◌++◌, length, drop, take, Option, Some, None, codes, is_some, is_none, if◌then◌else◌, unwrap_or, max}
 use Rattle.std.specs.List.{list_any}
 use Rattle.std.specs.Str.{bytes_eq}
-use Rattle.solv_tags.specs.declared.sign.Joint.{Joint}
-use Rattle.solv_tags.specs.declared.sign.Joint.TheVariants.{Both, Either, Jointly}
-use Rattle.solv_tags.specs.declared.sign.Operator.{Operator}
-use Rattle.solv_tags.specs.declared.sign.Operator.TheVariants.{Link, Minus, If, Else}
-use Rattle.solv_tags.specs.Words.{is_open, is_close}
+use Rattle.solv_deps.specs.declared.sign.Joint.{Joint}
+use Rattle.solv_deps.specs.declared.sign.Joint.TheVariants.{Both, Either, Jointly}
+use Rattle.solv_deps.specs.declared.sign.Operator.{Operator}
+use Rattle.solv_deps.specs.declared.sign.Operator.TheVariants.{Link, Minus, If, Else}
+use Rattle.solv_deps.specs.Words.{is_open, is_close}
 use Rattle.solv_base.specs.declared.comparison.Cmp.{Cmp}
 use Rattle.solv_base.specs.Dependency.{Dep, plain, versioned, one, namespace, and, or, with, without, if_then, if_else}
 

@@ -3,14 +3,13 @@ use Rattle.std.specs.Prelude.{ℕ, zero, suc, ◌++◌, ◌≡◌, ◌↔◌, �
 use Rattle.std.specs.Str.{bytes_eq}
 use Rattle.solv_base.specs.Dependency.{Dep}
 use Rattle.solv_base.specs.Pool.{Held, IsPool, Grows, text_tree}
-use Rattle.solv_tags.specs.Grammar.{Expr, expr_right, expr_operators, expr_depth, expr_words, expr_sense}
-use Rattle.solv_tags.specs.Table.{stands_richly_at}
-use Rattle.solv_tags.specs.Reading.{dependency, dependency_by, reading}
-use Rattle.solv_tags.specs.Canonical.{text}
-use Rattle.solv_tags.specs.Entries.{is_same}
-use Rattle.solv_tags.specs.declared.place.Place.{Place}
-use Rattle.solv_tags.specs.declared.fault.DepFault.{DepFault}
-use Rattle.solv_tags.specs.declared.fault.DepFault.TheVariants.{TooDeep}
+use Rattle.solv_deps.specs.Grammar.{Expr, expr_right, expr_operators, expr_depth, expr_words, expr_sense}
+use Rattle.solv_deps.specs.Table.{stands_richly_at}
+use Rattle.solv_deps.specs.Reading.{dependency, dependency_by, reading}
+use Rattle.solv_deps.specs.Canonical.{text}
+use Rattle.solv_deps.specs.declared.place.Place.{Place}
+use Rattle.solv_deps.specs.declared.fault.DepFault.{DepFault}
+use Rattle.solv_deps.specs.declared.fault.DepFault.TheVariants.{TooDeep}
 
 -- the words of what is written by the grammar, within the limits, are read as what it means
 abbrev pub WrittenIsRead : Type 0
@@ -39,10 +38,6 @@ PrintedIsReadAgainByAnyTable = (fits : Dep (List ℕ) → Bool) (t : List ℕ) (
 abbrev pub PrintedIsTheSame : Type 0
 PrintedIsTheSame = (old new : Held) (place : Place) (t : List ℕ) (id again : ℕ) → IsPool new → Grows old new → id < length old.nodes → again < length new.nodes
     → dependency place t ≡ Ok (text_tree old id) → dependency place (text (text_tree old id)) ≡ Ok (text_tree new again) → again ≡ id
-
--- entries are told apart by the test exactly where they are other dependencies
-abbrev pub SameIsEqual : Type 0
-SameIsEqual = (a b : Dep (List ℕ)) → is_same a b ≡ true ↔ a ≡ b
 
 -- is this the canonical text of what was read?
 abbrev pub has_text : List ℕ → Result (Dep (List ℕ)) DepFault → Bool

@@ -2,16 +2,16 @@
 use Rattle.std.specs.Prelude.{ℕ, ◌+◌, Bool, true, false, List, [], ◌∷◌, length, Option, Some, None, Result, Ok, Err, if◌then◌else◌, nat_le}
 use Rattle.solv_base.specs.declared.comparison.Cmp.{Cmp}
 use Rattle.solv_base.specs.Dependency.{Dep, versioned, one, without, if_then, if_else}
-use Rattle.solv_tags.specs.declared.fault.DepFault.{DepFault}
-use Rattle.solv_tags.specs.declared.fault.DepFault.TheVariants.{BadOperator, MissingOperand, MixedOperators, UnclosedParenthesis, TooDeep, OperatorNotHere}
-use Rattle.solv_tags.specs.declared.place.Place.{Place}
-use Rattle.solv_tags.specs.Table.{stands_at}
-use Rattle.solv_tags.specs.Words.{words}
-use Rattle.solv_tags.specs.declared.sign.Joint.{Joint}
-use Rattle.solv_tags.specs.declared.sign.Joint.TheVariants.{Both, Either, Jointly}
-use Rattle.solv_tags.specs.declared.sign.Operator.{Operator}
-use Rattle.solv_tags.specs.declared.sign.Operator.TheVariants.{Link, Minus, If, Else}
-use Rattle.solv_tags.specs.Grammar.{operator, comparison, opens, closes, is_plain, is_namespace, named, joined}
+use Rattle.solv_deps.specs.declared.fault.DepFault.{DepFault}
+use Rattle.solv_deps.specs.declared.fault.DepFault.TheVariants.{BadOperator, MissingOperand, MixedOperators, UnclosedParenthesis, TooDeep, OperatorNotHere}
+use Rattle.solv_deps.specs.declared.place.Place.{Place}
+use Rattle.solv_deps.specs.Table.{stands_at}
+use Rattle.solv_deps.specs.Words.{words}
+use Rattle.solv_deps.specs.declared.sign.Joint.{Joint}
+use Rattle.solv_deps.specs.declared.sign.Joint.TheVariants.{Both, Either, Jointly}
+use Rattle.solv_deps.specs.declared.sign.Operator.{Operator}
+use Rattle.solv_deps.specs.declared.sign.Operator.TheVariants.{Link, Minus, If, Else}
+use Rattle.solv_deps.specs.Grammar.{operator, comparison, opens, closes, is_plain, is_namespace, named, joined}
 
 -- The rule in hand: what stands before the operand in hand, in its parentheses.
 pub data Hand : Type 0 where

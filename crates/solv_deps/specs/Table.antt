@@ -2,8 +2,8 @@
 use Rattle.std.specs.Prelude.{Bool, true, false}
 use Rattle.solv_base.specs.Dependency.{Dep, one, namespace}
 use Rattle.solv_base.specs.Places.{fits_place}
-use Rattle.solv_tags.specs.declared.place.Place.{Place}
-use Rattle.solv_tags.specs.declared.place.Place.TheVariants.{Requires, Conflicts, Plain}
+use Rattle.solv_deps.specs.declared.place.Place.{Place}
+use Rattle.solv_deps.specs.declared.place.Place.TheVariants.{Requires, Conflicts, Plain}
 
 -- a simple or a versioned dependency
 abbrev pub is_capability : {N : Type 0} → Dep N → Bool

@@ -1,9 +1,6 @@
 -- The words of a dependency's text: blanks separate, a parenthesis where a word begins is a word, and one within a word belongs to it.
 use Rattle.std.specs.Prelude.{ℕ, zero, suc, ◌+◌, ◌-◌, ◌==◌, Bool, ◌&&◌, ◌||◌, List, [], ◌∷◌, take, if◌then◌else◌}
-
--- space, tab and carriage return
-abbrev pub is_blank : ℕ → Bool
-is_blank c = c == 32 || (c == 9 || c == 13)
+use Rattle.solv_io.specs.Words.{is_blank}
 
 -- `(`
 abbrev pub is_open : ℕ → Bool

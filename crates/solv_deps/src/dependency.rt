@@ -2,11 +2,11 @@
 ghost use Rattle.std.specs.Prelude.{ℕ, List, ◌≡◌, ◌<◌, length, IfOk, IfErr, IsTrue, Ok, Err, ◌↔◌};
 ghost use Rattle.solv_base.specs.Dependency.{one, plain, versioned, namespace};
 ghost use Rattle.solv_base.specs.Pool.{Grows, text_at, text_tree, text_tree_of_node, uses_below};
-ghost use Rattle.solv_tags.specs.declared.fault.DepFault.{DepFault as Cause};
-ghost use Rattle.solv_tags.specs.Drafts.{said};
-ghost use Rattle.solv_tags.specs.Table.{stands_at};
-ghost use Rattle.solv_tags.specs.Reading.{dependency};
-ghost use Rattle.solv_tags.specs.Entering.{text_entered, relation_entered, dependency_entered, text_read, IsEntered, IsRefusal, IsOfPool, refusal, link_node};
+ghost use Rattle.solv_deps.specs.declared.fault.DepFault.{DepFault as Cause};
+ghost use Rattle.solv_deps.specs.Drafts.{said};
+ghost use Rattle.solv_deps.specs.Table.{stands_at};
+ghost use Rattle.solv_deps.specs.Reading.{dependency};
+ghost use Rattle.solv_deps.specs.Entering.{text_entered, relation_entered, dependency_entered, text_read, IsEntered, IsRefusal, IsOfPool, refusal, link_node};
 
 use crate::draft::{Draft, Written};
 use crate::fault::DepFault;
@@ -28,7 +28,7 @@ fn refused(fault: PoolFault) -> DepFault
 }
 
 /// Enters a text.
-fn enter_text(pool: &mut Pool, text: &[u8]) -> Result<NameId, DepFault>
+pub fn enter_text(pool: &mut Pool, text: &[u8]) -> Result<NameId, DepFault>
     ensures entered { IfOk result (λ id. text_entered text.now pool.old ≡ Ok (record { id = id; held = pool.new })) }
     ensures text { IfOk result (λ id. text_at pool.new id ≡ text.now) }
     ensures within { IfOk result (λ id. id < length pool.new.names) }

@@ -1,5 +1,5 @@
 //! Laws of dependency text.
-ghost use Rattle.solv_tags.specs.Laws.{WrittenIsRead, ReadIsWritten, PrintedIsReadAgain, PrintedIsReadAgainByAnyTable, SameIsEqual, PrintedIsTheSame};
+ghost use Rattle.solv_deps.specs.Laws.{WrittenIsRead, ReadIsWritten, PrintedIsReadAgain, PrintedIsReadAgainByAnyTable, PrintedIsTheSame};
 
 /// What is written by the grammar, with at most 64 operators and 64 open parentheses, is read as what it means.
 pub fn written_is_read()
@@ -20,9 +20,4 @@ pub fn printed_is_read_again()
 /// What was read at a place, printed and read there again, is the same relation of the pool, which may have grown.
 pub fn printed_is_the_same()
     ensures { PrintedIsTheSame }
-{}
-
-/// Entries of a package are equal where they are the same tree with the same texts.
-pub fn same_is_equal()
-    ensures { SameIsEqual }
 {}

@@ -1,20 +1,15 @@
 //! The words of a text, one at a time.
 ghost use Rattle.std.specs.Prelude.{◌≡◌, ◌+◌, ◌<◌, ◌≤◌, ◌∷◌, [], length, drop, take, IfSome, IfNone, IsTrue, ℕ, false};
-ghost use Rattle.solv_tags.specs.Words.{is_blank, is_open, is_close, words, word_rest, word_length, blanks};
+ghost use Rattle.solv_deps.specs.Words.{is_open, is_close, words, word_rest, word_length, blanks};
 
-/// A blank separates words.
-pub(crate) fn is_blank_byte(c: u8) -> bool
-    ensures { result ≡ is_blank c }
-{
-    c == b' ' || c == b'\t' || c == b'\r'
-}
+use solv_io::is_blank;
 
 /// How many blanks a text begins with.
 fn count_blanks(text: &[u8]) -> usize
     ensures { result ≡ blanks text.now }
 {
     let mut i = 0;
-    while i < text.len() && is_blank_byte(text[i]) {
+    while i < text.len() && is_blank(text[i]) {
         i += 1;
     }
     i
@@ -29,7 +24,7 @@ fn count_rest(text: &[u8]) -> usize
     let mut i = 0;
     while i < text.len() {
         let c = text[i];
-        if is_blank_byte(c) {
+        if is_blank(c) {
             break;
         }
         if c == b')' {

@@ -29,7 +29,7 @@ pub(crate) struct Outer {
 
 impl Model for Outer {
     ghost use Rattle.std.specs.Prelude.{List, drop, ◌≤◌};
-    ghost use Rattle.solv_tags.specs.declared.outer.Rule.{Rule};
+    ghost use Rattle.solv_deps.specs.declared.outer.Rule.{Rule};
 
     ghost Value = { List Rule };
 

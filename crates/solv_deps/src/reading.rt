@@ -1,12 +1,12 @@
 //! Reading a dependency's text into a draft, word by word.
 ghost use Rattle.std.specs.Prelude.{ℕ, List, ◌≡◌, ◌<◌, ◌≤◌, ◌+◌, ◌∷◌, [], length, IfOk, IfErr, true, Some, None, Err, option_map, ◌&&◌, nat_lt};
 ghost use Rattle.solv_base.specs.Dependency.{Dep, one, plain};
-ghost use Rattle.solv_tags.specs.Drafts.{said, Extends, Enters};
-ghost use Rattle.solv_tags.specs.Points.{option_in, Ends, Leads, GoesOn, Stands, rule_hand, hands, due_seen, seen, rule_in, rules_in, due_in, pending, option_pending, rules_pending, due_pending, due_entered};
-ghost use Rattle.solv_tags.specs.Reading.{whole, goes_on, nothing, inner_else, at_operand, at_evr, at_other, closed, comparison_due, at_operator, end_due, reading, refused_operator};
-ghost use Rattle.solv_tags.specs.Reading.{go_on as go_on_by, step as step_by};
-ghost use Rattle.solv_tags.specs.Grammar.{operator, comparison};
-ghost use Rattle.solv_tags.specs.Words.{words};
+ghost use Rattle.solv_deps.specs.Drafts.{said, Extends, Enters};
+ghost use Rattle.solv_deps.specs.Points.{option_in, Ends, Leads, GoesOn, Stands, rule_hand, hands, due_seen, seen, rule_in, rules_in, due_in, pending, option_pending, rules_pending, due_pending, due_entered};
+ghost use Rattle.solv_deps.specs.Reading.{whole, goes_on, nothing, inner_else, at_operand, at_evr, at_other, closed, comparison_due, at_operator, end_due, reading, refused_operator};
+ghost use Rattle.solv_deps.specs.Reading.{go_on as go_on_by, step as step_by};
+ghost use Rattle.solv_deps.specs.Grammar.{operator, comparison};
+ghost use Rattle.solv_deps.specs.Words.{words};
 
 use crate::draft::{Draft, Written};
 use crate::fault::DepFault;

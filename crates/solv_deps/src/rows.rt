@@ -1,12 +1,12 @@
 //! Examples of dependency text, on which its definitions are evaluated.
 ghost use Rattle.std.specs.Prelude.{◌≡◌, ◌∷◌, ◌++◌, [], codes, true, false, Some, None, Ok};
 ghost use Rattle.solv_base.specs.Dependency.{one, plain};
-ghost use Rattle.solv_tags.specs.Words.{words};
-ghost use Rattle.solv_tags.specs.Grammar.{comparison, operator};
-ghost use Rattle.solv_tags.specs.Reading.{dependency};
-ghost use Rattle.solv_tags.specs.Laws.{reads_as, reads_richly_as, IsRefused, IsRefusedRichly, is_too_deep, repeated};
-ghost use Rattle.solv_tags.specs.declared.place.Place.TheVariants.{Requires, Conflicts, Plain};
-ghost use Rattle.solv_tags.specs.declared.fault.DepFault.TheVariants.{BadOperator, MissingOperand, MixedOperators, UnclosedParenthesis, TooDeep, OperatorNotHere};
+ghost use Rattle.solv_deps.specs.Words.{words};
+ghost use Rattle.solv_deps.specs.Grammar.{comparison, operator};
+ghost use Rattle.solv_deps.specs.Reading.{dependency};
+ghost use Rattle.solv_deps.specs.Laws.{reads_as, reads_richly_as, IsRefused, IsRefusedRichly, is_too_deep, repeated};
+ghost use Rattle.solv_deps.specs.declared.place.Place.TheVariants.{Requires, Conflicts, Plain};
+ghost use Rattle.solv_deps.specs.declared.fault.DepFault.TheVariants.{BadOperator, MissingOperand, MixedOperators, UnclosedParenthesis, TooDeep, OperatorNotHere};
 
 /// The words of texts: a name may hold parentheses, and one that has no partner in its word ends it.
 pub fn words_of_texts()

@@ -1,7 +1,7 @@
 //! Operators and comparisons.
 
 ghost use Rattle.std.specs.Prelude.{◌≡◌, Some};
-ghost use Rattle.solv_tags.specs.Grammar.{operator, comparison, word_is, opens, closes, is_plain, is_namespace};
+ghost use Rattle.solv_deps.specs.Grammar.{operator, comparison, word_is, opens, closes, is_plain, is_namespace};
 
 use solv_base::Cmp;
 

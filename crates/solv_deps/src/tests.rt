@@ -161,3 +161,14 @@ fn parentheses_and_spaces_are_printed_where_they_matter(rt: HostRuntime) -> Resu
         "a <UNLESS> (a & f(x ) <ELSE> f(x",
     )
 }
+
+#[test]
+fn a_text_has_one_id(rt: HostRuntime) -> Result<(), Fail> {
+    let mut pool = Pool::new(rt.alloc());
+    let first = enter_text(&mut pool, b"a")?;
+    let second = enter_text(&mut pool, b"b")?;
+    let again = enter_text(&mut pool, b"a")?;
+    assert_eq!(rt; again, first);
+    assert_eq!(rt; again == second, false);
+    Ok(())
+}

@@ -1,12 +1,4 @@
-pub mod Both
-pub mod Drafts
-pub mod InnerElse
-pub mod Entering
-pub mod Points
-pub mod Lexing
-pub mod Complete
-pub mod Printed
-pub mod Readable
-pub mod RoundTrip
-pub mod Sound
 pub mod SameDependency
+pub mod Staying
+pub mod HandLines
+pub mod ReaderLines

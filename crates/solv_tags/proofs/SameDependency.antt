@@ -6,7 +6,7 @@ use Rattle.solv_base.specs.contracts.comparison.CmpPartialEq.TheImpl.{eq-value}
 use Rattle.solv_base.specs.declared.comparison.Cmp.{Cmp}
 use Rattle.solv_base.specs.Dependency.{Dep, Capability, plain, versioned, one, namespace, and, or, with, without, if_then, if_else, unless, unless_else, missing}
 use Rattle.solv_tags.specs.Entries.{is_same, is_same_capability}
-use Rattle.solv_tags.proofs.Both.{both_left, both_right, both_true}
+use Rattle.solv_deps.proofs.Both.{both_left, both_right, both_true}
 
 same_text : (a b : List ℕ) → bytes_eq a b ≡ true → a ≡ b
 same_text a b h = search (rules, bytes_eq-Decides a b)

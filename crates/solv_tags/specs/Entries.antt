@@ -1,5 +1,5 @@
 -- The entries of a package in a testtags file: its lists, in which equal entries stand once.
-use Rattle.std.specs.Prelude.{ℕ, ◌&&◌, ◌||◌, Bool, true, false, List, [], ◌∷◌, ◌++◌, map, codes, None, if◌then◌else◌}
+use Rattle.std.specs.Prelude.{ℕ, ◌≡◌, ◌↔◌, ◌&&◌, ◌||◌, Bool, true, false, List, [], ◌∷◌, ◌++◌, map, codes, None, if◌then◌else◌}
 use Rattle.std.specs.List.{list_any}
 use Rattle.std.specs.Str.{bytes_eq}
 use Rattle.solv_base.specs.contracts.comparison.CmpPartialEq.TheImpl.{eq-value}
@@ -28,6 +28,10 @@ is_same (if_else a b e) (if_else c d f) = is_same a c && (is_same b d && is_same
 is_same (unless_else a b e) (unless_else c d f) = is_same a c && (is_same b d && is_same e f)
 is_same missing missing = true
 is_same a b = false
+
+-- the test tells dependencies apart exactly where they are not equal
+abbrev pub SameIsEqual : Type 0
+SameIsEqual = (a b : Dep (List ℕ)) → is_same a b ≡ true ↔ a ≡ b
 
 -- a list with a dependency, which stands in it once, at its first place
 abbrev pub with_dependency : Dep (List ℕ) → List (Dep (List ℕ)) → List (Dep (List ℕ))

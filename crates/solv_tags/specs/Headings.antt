@@ -3,8 +3,8 @@ use Rattle.std.specs.Prelude.{ℕ, ◌==◌, ◌&&◌, Bool, false, List, [], �
 use Rattle.std.specs.Char.{is_ascii_alphabetic}
 use Rattle.std.specs.Str.{bytes_eq}
 use Rattle.solv_io.specs.Words.{is_blank}
-use Rattle.solv_tags.specs.declared.place.Place.{Place}
-use Rattle.solv_tags.specs.declared.place.Place.TheVariants.{Requires, Conflicts, Plain}
+use Rattle.solv_deps.specs.declared.place.Place.{Place}
+use Rattle.solv_deps.specs.declared.place.Place.TheVariants.{Requires, Conflicts, Plain}
 use Rattle.solv_tags.specs.declared.tag.Tag.{Tag}
 use Rattle.solv_tags.specs.declared.tag.Tag.TheVariants.{Pkg, Prv, Req, Prq, Con, Obs, Rec, Sug, Sup, Enh, Vnd, Fls}
 
@@ -63,6 +63,10 @@ abbrev pub without_front_blanks : List ℕ → List ℕ
 without_front_blanks [] = []
 without_front_blanks (byte ∷ rest) = let later : List ℕ = without_front_blanks rest in if is_blank byte then later else byte ∷ rest
 
+-- a text without the blanks at its end
+abbrev pub without_back_blanks : List ℕ → List ℕ
+without_back_blanks text = reverse (without_front_blanks (reverse text))
+
 -- a text without the blanks round it
 abbrev pub trimmed : List ℕ → List ℕ
-trimmed text = reverse (without_front_blanks (reverse (without_front_blanks text)))
+trimmed text = without_back_blanks (without_front_blanks text)

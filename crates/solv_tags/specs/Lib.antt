@@ -1,15 +1,6 @@
-pub mod Words
-pub mod Grammar
-pub mod Table
-pub mod Drafts
-pub mod Points
-pub mod Entering
-pub mod Reading
-pub mod Canonical
-pub mod Appending
-pub mod Laws
 pub mod Headings
 pub mod Entries
 pub mod Testtags
+pub mod TagReading
 pub mod TesttagsExamples
 pub mod RepositoryReading

@@ -7,7 +7,7 @@ use Rattle.solv_pool.specs.declared.packages.Package.{Package}
 use Rattle.solv_tags.specs.declared.tag_fault.TagFault.{TagFault}
 use Rattle.solv_tags.specs.declared.tag_fault.TagCause.{TagCause}
 use Rattle.solv_tags.specs.declared.tag_fault.TagCause.TheVariants.{Memory, Dep}
-use Rattle.solv_tags.specs.declared.fault.DepFault.TheVariants as of_text
+use Rattle.solv_deps.specs.declared.fault.DepFault.TheVariants as of_text
 use Rattle.solv_tags.specs.Testtags.{Repository}
 
 -- these packages, seen through their texts, stand behind the others, none of them disabled; all else is as before

@@ -6,15 +6,15 @@ use Rattle.solv_io.specs.Lines.{numbered_lines}
 use Rattle.solv_base.specs.Pool.{Held}
 use Rattle.solv_pool.specs.Contents.{most_packages}
 use Rattle.solv_pool.specs.Written.{WrittenPackage}
-use Rattle.solv_tags.specs.declared.fault.DepFault.{DepFault}
-use Rattle.solv_tags.specs.declared.fault.DepFault.TheVariants as of_text
+use Rattle.solv_deps.specs.declared.fault.DepFault.{DepFault}
+use Rattle.solv_deps.specs.declared.fault.DepFault.TheVariants as of_text
 use Rattle.solv_tags.specs.declared.tag.Tag.{Tag}
 use Rattle.solv_tags.specs.declared.tag.Tag.TheVariants.{Pkg, Vnd, Fls}
 use Rattle.solv_tags.specs.declared.tag_fault.TagCause.{TagCause}
 use Rattle.solv_tags.specs.declared.tag_fault.TagCause.TheVariants as cause
 use Rattle.solv_tags.specs.declared.tag_fault.TagFault.{TagFault}
-use Rattle.solv_tags.specs.Reading.{dependency}
-use Rattle.solv_tags.specs.Entering.{text_entered, dependency_entered}
+use Rattle.solv_deps.specs.Reading.{dependency}
+use Rattle.solv_deps.specs.Entering.{text_entered, dependency_entered}
 use Rattle.solv_tags.specs.Headings.{entry_sign, opening_sign, closing_sign, is_heading, letters, after_heading, tag, place_of, trimmed}
 use Rattle.solv_tags.specs.Entries.{with_entry, with_path, evr_text, bare_package}
 

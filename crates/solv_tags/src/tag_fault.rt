@@ -1,4 +1,4 @@
-use crate::fault::DepFault;
+use solv_deps::DepFault;
 use thiserror::Error;
 
 /// Why a line of a testtags file is refused.

@@ -1,6 +1,6 @@
 use Rattle.std.proofs.Common.{ap, Err}
-use Rattle.solv_tags.proofs.Entering.{relation_fits, relation_refused}
-use Rattle.solv_tags.proofs.dependency.enter_relation.Goals as goal
+use Rattle.solv_deps.proofs.Entering.{relation_fits, relation_refused}
+use Rattle.solv_deps.proofs.dependency.enter_relation.Goals as goal
 
 pub returns-in-Ok-clause-entered : goal.returns-in-Ok-clause-entered
 returns-in-Ok-clause-entered c =

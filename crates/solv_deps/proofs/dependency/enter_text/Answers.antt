@@ -1,5 +1,5 @@
-use Rattle.solv_tags.proofs.Entering.{text_fits}
-use Rattle.solv_tags.proofs.dependency.enter_text.Goals as goal
+use Rattle.solv_deps.proofs.Entering.{text_fits}
+use Rattle.solv_deps.proofs.dependency.enter_text.Goals as goal
 
 pub returns-in-Ok-clause-entered : goal.returns-in-Ok-clause-entered
 returns-in-Ok-clause-entered c =

@@ -1,6 +1,6 @@
-use Rattle.solv_tags.specs.Table.{stands_at}
-use Rattle.solv_tags.proofs.RoundTrip.{printed_again}
-use Rattle.solv_tags.proofs.laws.printed_is_read_again.Goals as goal
+use Rattle.solv_deps.specs.Table.{stands_at}
+use Rattle.solv_deps.proofs.RoundTrip.{printed_again}
+use Rattle.solv_deps.proofs.laws.printed_is_read_again.Goals as goal
 
 pub returns-clause-here : goal.returns-clause-here
 returns-clause-here c = λ place. printed_again (stands_at place)

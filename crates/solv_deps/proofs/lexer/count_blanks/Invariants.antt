@@ -1,6 +1,6 @@
 use Rattle.std.proofs.Common.{length, ◌-◌, ◌≡◌, ◌+◌, ◌≤◌, drop}
-use Rattle.solv_tags.specs.Words.{blanks}
-use Rattle.solv_tags.proofs.lexer.count_blanks.Given as goal
+use Rattle.solv_deps.specs.Words.{blanks}
+use Rattle.solv_deps.proofs.lexer.count_blanks.Given as goal
 
 abbrev pub invariant-loop-i : goal.invariant-loop-i
 invariant-loop-i l = (l.i ≤ length l.text) × (blanks l.text ≡ l.i + blanks (drop l.i l.text))

@@ -1,7 +1,7 @@
 use Rattle.std.proofs.Common.{◌≡◌, ◌-◌, length, drop, take, ◌∙◌, ap, arith, ℕ, List, length-drop}
 use Rattle.std.proofs.lemmas.Grind.{common_steps}
-use Rattle.solv_tags.proofs.Lexing.{no_word, split_word}
-use Rattle.solv_tags.proofs.lexer.next_word.Goals as goal
+use Rattle.solv_deps.proofs.Lexing.{no_word, split_word}
+use Rattle.solv_deps.proofs.lexer.next_word.Goals as goal
 
 pub returns-then-start-text-clause-none : goal.returns-then-start-text-clause-none
 returns-then-start-text-clause-none c = no_word c.args.text.now (omega arith)

@@ -1,6 +1,6 @@
 use Rattle.std.proofs.Common.{◌+◌, ◌*◌}
 use Rattle.std.specs.Prelude.{max}
-use Rattle.solv_tags.proofs.printing.+write.Given as goal
+use Rattle.solv_deps.proofs.printing.+write.Given as goal
 
 abbrev pub decreases-write_dep : goal.decreases-write_dep
 decreases-write_dep l = l.dep * 4

@@ -1,6 +1,6 @@
 use Rattle.std.proofs.Common.{length, ◌-◌, ◌≡◌, ◌≤◌, drop}
-use Rattle.solv_tags.specs.Words.{unpaired_in}
-use Rattle.solv_tags.proofs.printing.count_unpaired.Given as goal
+use Rattle.solv_deps.specs.Words.{unpaired_in}
+use Rattle.solv_deps.proofs.printing.count_unpaired.Given as goal
 
 abbrev pub invariant-loop-i : goal.invariant-loop-i
 invariant-loop-i l = (l.i ≤ length l.word) × (l.unpaired ≤ l.i) × (unpaired_in 0 l.word ≡ unpaired_in l.unpaired (drop l.i l.word))

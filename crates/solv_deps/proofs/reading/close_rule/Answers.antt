@@ -1,8 +1,8 @@
 use Rattle.std.proofs.Common.{length, nat_lt, ◌&&◌, arith, refl}
-use Rattle.solv_tags.specs.Points.{rule_in}
-use Rattle.solv_tags.proofs.Both.{both_left}
-use Rattle.solv_tags.proofs.Points.{leads_closed}
-use Rattle.solv_tags.proofs.reading.close_rule.Goals as goal
+use Rattle.solv_deps.specs.Points.{rule_in}
+use Rattle.solv_deps.proofs.Both.{both_left}
+use Rattle.solv_deps.proofs.Points.{leads_closed}
+use Rattle.solv_deps.proofs.reading.close_rule.Goals as goal
 
 pub returns : goal.returns
 returns c =

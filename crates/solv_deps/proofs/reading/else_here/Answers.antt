@@ -1,7 +1,7 @@
 use Rattle.std.proofs.Common.{◌∙◌, sym}
 use Rattle.std.specs.Prelude.{nat_lt}
-use Rattle.solv_tags.proofs.InnerElse.{top_some, top_none, top_in}
-use Rattle.solv_tags.proofs.reading.else_here.Goals as goal
+use Rattle.solv_deps.proofs.InnerElse.{top_some, top_none, top_in}
+use Rattle.solv_deps.proofs.reading.else_here.Goals as goal
 
 pub returns-in-Some-clause-goes : goal.returns-in-Some-clause-goes
 returns-in-Some-clause-goes c = λ at. c.else_inside.ensures.goes at ∙ sym (top_some at c.args.outer.now c.in-Some.rule (at c.args.id) c.in-Some.ensures)

@@ -1,8 +1,8 @@
 use Rattle.std.proofs.Common.{sym, length, nat_lt}
-use Rattle.solv_tags.specs.Drafts.{said}
-use Rattle.solv_tags.specs.Points.{rule_in, rules_in}
-use Rattle.solv_tags.proofs.Points.{without_middle}
-use Rattle.solv_tags.proofs.reading.go_on.Goals as goal
+use Rattle.solv_deps.specs.Drafts.{said}
+use Rattle.solv_deps.specs.Points.{rule_in, rules_in}
+use Rattle.solv_deps.proofs.Points.{without_middle}
+use Rattle.solv_deps.proofs.reading.go_on.Goals as goal
 
 pub returns-in-Nothing-clause-goes : goal.returns-in-Nothing-clause-goes
 returns-in-Nothing-clause-goes c =

@@ -1,10 +1,10 @@
 use Rattle.std.proofs.Common.{◌≡◌, ℕ, List, Result, subst}
 use Rattle.std.specs.Prelude.{IfOk, IfErr, Err}
 use Rattle.solv_base.specs.Dependency.{Dep}
-use Rattle.solv_tags.specs.declared.fault.DepFault.{DepFault}
-use Rattle.solv_tags.specs.Points.{Ends}
-use Rattle.solv_tags.proofs.Points.{goes_first, goes_last}
-use Rattle.solv_tags.proofs.reading.read_tree.Goals as goal
+use Rattle.solv_deps.specs.declared.fault.DepFault.{DepFault}
+use Rattle.solv_deps.specs.Points.{Ends}
+use Rattle.solv_deps.proofs.Points.{goes_first, goes_last}
+use Rattle.solv_deps.proofs.reading.read_tree.Goals as goal
 
 pub loop-word-init : goal.loop-word-init
 loop-word-init c = goes_first c.args.draft.now c.new-outer.result c.args.text.now c.requires c.new-outer.ensures

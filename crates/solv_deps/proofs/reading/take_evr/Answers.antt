@@ -1,8 +1,8 @@
 use Rattle.std.proofs.Common.{◌∙◌, sym}
-use Rattle.solv_tags.specs.Drafts.{said}
-use Rattle.solv_tags.specs.Points.{rule_hand, hands}
-use Rattle.solv_tags.proofs.Points.{stands_operator, evr_entered}
-use Rattle.solv_tags.proofs.reading.take_evr.Goals as goal
+use Rattle.solv_deps.specs.Drafts.{said}
+use Rattle.solv_deps.specs.Points.{rule_hand, hands}
+use Rattle.solv_deps.proofs.Points.{stands_operator, evr_entered}
+use Rattle.solv_deps.proofs.reading.take_evr.Goals as goal
 
 pub returns-then-is_plain_word-clause-ok : goal.returns-then-is_plain_word-clause-ok
 returns-then-is_plain_word-clause-ok c =

@@ -1,10 +1,10 @@
 use Rattle.std.proofs.Common.{◌≡◌, sym, subst, Result}
 use Rattle.std.specs.Prelude.{IfOk, IfErr, Err}
-use Rattle.solv_tags.specs.declared.fault.DepFault.{DepFault}
-use Rattle.solv_tags.specs.Reading.{Point}
-use Rattle.solv_tags.specs.Points.{Stands}
-use Rattle.solv_tags.proofs.Points.{still_in, named_same, stands_evr}
-use Rattle.solv_tags.proofs.reading.take_named.Goals as goal
+use Rattle.solv_deps.specs.declared.fault.DepFault.{DepFault}
+use Rattle.solv_deps.specs.Reading.{Point}
+use Rattle.solv_deps.specs.Points.{Stands}
+use Rattle.solv_deps.proofs.Points.{still_in, named_same, stands_evr}
+use Rattle.solv_deps.proofs.reading.take_named.Goals as goal
 
 pub take_operator-requires-clause-within : goal.take_operator-requires-clause-within
 take_operator-requires-clause-within c = still_in c.args.draft.now c.push-id.new.self c.args.outer.now c.args.rule c.push-id.result _ c.requires.within c.push-id.ensures.entered

@@ -1,8 +1,8 @@
 use Rattle.std.proofs.Common.{◌∙◌, sym, arith}
-use Rattle.solv_tags.specs.Drafts.{said}
-use Rattle.solv_tags.specs.Points.{rule_hand, hands}
-use Rattle.solv_tags.proofs.Points.{stands_operator, stands_open, stands_named, operand_namespace}
-use Rattle.solv_tags.proofs.reading.take_operand.Goals as goal
+use Rattle.solv_deps.specs.Drafts.{said}
+use Rattle.solv_deps.specs.Points.{rule_hand, hands}
+use Rattle.solv_deps.proofs.Points.{stands_operator, stands_open, stands_named, operand_namespace}
+use Rattle.solv_deps.proofs.reading.take_operand.Goals as goal
 
 pub returns-then-opens_one-clause-ok : goal.returns-then-opens_one-clause-ok
 returns-then-opens_one-clause-ok c =

@@ -1,9 +1,9 @@
 use Rattle.std.proofs.Common.{◌∙◌, sym, length, nat_lt, ◌&&◌}
-use Rattle.solv_tags.specs.Drafts.{said}
-use Rattle.solv_tags.specs.Points.{rule_in, rules_in}
-use Rattle.solv_tags.proofs.Both.{both_left}
-use Rattle.solv_tags.proofs.Points.{stands_closed}
-use Rattle.solv_tags.proofs.reading.take_other.Goals as goal
+use Rattle.solv_deps.specs.Drafts.{said}
+use Rattle.solv_deps.specs.Points.{rule_in, rules_in}
+use Rattle.solv_deps.proofs.Both.{both_left}
+use Rattle.solv_deps.proofs.Points.{stands_closed}
+use Rattle.solv_deps.proofs.reading.take_other.Goals as goal
 
 pub returns-in-Some-clause-ok : goal.returns-in-Some-clause-ok
 returns-in-Some-clause-ok c =

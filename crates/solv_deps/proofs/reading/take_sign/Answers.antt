@@ -1,8 +1,8 @@
 use Rattle.std.proofs.Common.{length, nat_lt, ◌&&◌, Some, refl}
-use Rattle.solv_tags.specs.Points.{rule_in, rules_in}
-use Rattle.solv_tags.proofs.Both.{both_left}
-use Rattle.solv_tags.proofs.Points.{stands_sign}
-use Rattle.solv_tags.proofs.reading.take_sign.Goals as goal
+use Rattle.solv_deps.specs.Points.{rule_in, rules_in}
+use Rattle.solv_deps.proofs.Both.{both_left}
+use Rattle.solv_deps.proofs.Points.{stands_sign}
+use Rattle.solv_deps.proofs.reading.take_sign.Goals as goal
 
 pub returns-else-count-ge64-clause-ok : goal.returns-else-count-ge64-clause-ok
 returns-else-count-ge64-clause-ok c =

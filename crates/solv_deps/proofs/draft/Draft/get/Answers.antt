@@ -1,6 +1,6 @@
 use Rattle.std.proofs.Common.{take}
-use Rattle.solv_tags.proofs.Drafts.{said-part, kept_part, within_array}
-use Rattle.solv_tags.proofs.draft.Draft.get.Goals as goal
+use Rattle.solv_deps.proofs.Drafts.{said-part, kept_part, within_array}
+use Rattle.solv_deps.proofs.draft.Draft.get.Goals as goal
 
 pub returns-clause-below : goal.returns-clause-below
 returns-clause-below c =

@@ -1,5 +1,5 @@
-use Rattle.solv_tags.proofs.Drafts.{IsDraft-push, room, below_len, length-pushed, entered}
-use Rattle.solv_tags.proofs.draft.Draft.push.Goals as goal
+use Rattle.solv_deps.proofs.Drafts.{IsDraft-push, room, below_len, length-pushed, entered}
+use Rattle.solv_deps.proofs.draft.Draft.push.Goals as goal
 
 pub bounds-self-inside-number : goal.bounds-self-inside-number
 bounds-self-inside-number c = room c.self.inside.parts c.self.inside.len c.args.part.now c.args.self.now c.self.view_is c.self.invariant c.requires.room

@@ -1,0 +1,10 @@
+pub mod Words
+pub mod Grammar
+pub mod Table
+pub mod Drafts
+pub mod Points
+pub mod Entering
+pub mod Reading
+pub mod Canonical
+pub mod Appending
+pub mod Laws

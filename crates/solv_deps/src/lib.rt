@@ -1,0 +1,38 @@
+//! Dependency text, read and printed.
+//!
+//! The text is that of libsolv's testcase format, with rpm's boolean dependencies: `&`, `|`, `+`, `-`, `<IF>` and
+//! `<ELSE>` between operands, each a name, a name with a comparison and an EVR, or parentheses.
+//!
+//! - [`read_dep`]: the dependency that a text spells at a [`Place`], entered into a pool, or the first cause,
+//!   [`DepFault`], from left to right. A text is read into a draft first, so that one with a cause of its own enters
+//!   nothing, and every such cause comes before the limits of the pool.
+//! - [`dep_text`]: the canonical text of a dependency.
+//! - [`enter_text`]: a text that is no dependency, entered with the same causes.
+//! - Laws, each the contract of a function that does nothing: [`written_is_read`], [`read_is_written`],
+//!   [`printed_is_read_again`], [`printed_is_the_same`]; and examples on which the definitions are evaluated:
+//!   [`words_of_texts`], [`comparisons`], [`texts_at_places`], [`rich_texts`], [`rich_causes`], [`limits_of_texts`].
+#![tactic(auto)]
+
+mod dependency;
+mod draft;
+mod fault;
+mod laws;
+mod lexer;
+mod outer;
+mod place;
+mod printing;
+mod reading;
+mod rows;
+mod sign;
+
+pub use dependency::{enter_text, read_dep};
+pub use fault::DepFault;
+pub use laws::{printed_is_read_again, printed_is_the_same, read_is_written, written_is_read};
+pub use place::Place;
+pub use printing::dep_text;
+pub use rows::{
+    comparisons, limits_of_texts, rich_causes, rich_texts, texts_at_places, words_of_texts,
+};
+
+#[cfg(test)]
+mod tests;

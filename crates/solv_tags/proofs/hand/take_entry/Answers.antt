@@ -1,0 +1,13 @@
+use Rattle.solv_tags.proofs.HandLines.{on_ok, if_err, other_read, other_ended}
+use Rattle.solv_tags.proofs.hand.take_entry.Goals as goal
+
+pub returns-in_default : goal.returns-in_default
+returns-in_default c =
+    let d = c.in_default in
+    let e = c.take_dependency.ensures in
+    record {
+      ok = on_ok c.take_dependency.result (λ h. other_read c.args.tag d.not-Vnd d.not-Fls c.args.pool.now c.take_dependency.new.pool c.args.hand.now c.take_dependency.new.hand c.args.text.now h) e.ok;
+      refused = if_err c.take_dependency.result (λ f h. other_ended c.args.tag d.not-Vnd d.not-Fls c.args.pool.now c.args.hand.now c.args.text.now f h) e.refused;
+      form = e.form;
+      grows = e.grows;
+    }

@@ -1,0 +1,16 @@
+use Rattle.std.proofs.Common.{◌≡◌, length, arith, true}
+use Rattle.std.specs.Prelude.{nat_lt}
+use Rattle.std.proofs.lemmas.Bool.Decides.{nat_tests}
+use Rattle.solv_tags.proofs.HandLines.{vendor_nothing, vendor_read}
+use Rattle.solv_tags.proofs.hand.take_vendor.Goals as goal
+
+pub returns-then-is_empty-clause-ok : goal.returns-then-is_empty-clause-ok
+returns-then-is_empty-clause-ok c =
+    let none : length c.args.text.now ≡ 0 = grind (arith, nat_tests, c.is_empty.ensures, c.if-is_empty.true) in
+    vendor_nothing c.args.pool.now c.args.hand.now c.args.text.now none c.requires
+
+pub returns-in-Ok-clause-ok : goal.returns-in-Ok-clause-ok
+returns-in-Ok-clause-ok c =
+    let some : length c.args.text.now ≡ 0 → ⊥ = grind (arith, nat_tests, c.is_empty.ensures, c.if-is_empty.false) in
+    let low : nat_lt c.in-Ok.id (length c.enter.new.pool.names) ≡ true = grind (arith, nat_tests, c.in-Ok.ensures.within) in
+    vendor_read c.args.pool.now c.enter.new.pool c.args.hand.now c.args.text.now c.in-Ok.id some c.enter.ensures.grows c.requires c.in-Ok.ensures.entered c.in-Ok.ensures.text low

@@ -1,0 +1,97 @@
+//! Testtags files.
+ghost use Rattle.std.specs.Prelude.{◌≡◌, ◌<◌, ◌≤◌, length, Some, None, IsOkAnd, IfOk, IfErr, OnOk, OnErr};
+ghost use Rattle.solv_base.specs.Pool.{Held, Grows};
+ghost use Rattle.solv_pool.specs.Belonging.{IsOver};
+ghost use Rattle.solv_io.specs.Lines.{numbered_lines};
+ghost use Rattle.solv_tags.specs.RepositoryReading.{IsTaken, IsTagRefusal, HasOneForm};
+ghost use Rattle.solv_tags.specs.TagReading.{IsReading, HasMore, IsReadTo, tagged_of};
+ghost use Rattle.solv_tags.specs.Testtags.{testtags_file, lines_read};
+
+use crate::tag_fault::TagFault;
+use crate::tag_reader::TagReader;
+use solv_base::Pool;
+use solv_io::lines;
+use solv_pool::{RepoNo, Universe};
+
+/// Reads all lines, and gives the number of the last one.
+fn read_lines(
+    reader: &mut TagReader,
+    pool: &mut Pool,
+    universe: &mut Universe,
+    bytes: &[u8],
+) -> Result<u64, TagFault>
+    requires { IsReading reader.old pool.old universe.old }
+    ensures ok { IfOk result (λ last. IsReadTo last reader.old reader.new pool.new universe.new (lines_read 0 (tagged_of reader.old pool.old universe.old) (numbered_lines bytes.now))) }
+    ensures refused { IfErr result (λ fault. IsTagRefusal fault (lines_read 0 (tagged_of reader.old pool.old universe.old) (numbered_lines bytes.now))) }
+    ensures form { IfErr result (λ fault. HasOneForm fault.cause) }
+    ensures more { HasMore universe.old universe.new }
+    ensures grows { Grows pool.old pool.new }
+{
+    let mut last = 0;
+    for (number, line) in lines(bytes) {
+        match reader.line(pool, universe, line) {
+            Ok(()) => {}
+            Err(cause) => {
+                return Err(TagFault {
+                    line: number,
+                    cause,
+                });
+            }
+        }
+        last = number;
+    }
+    Ok(last)
+}
+
+/// Reads all lines and the end.
+fn read_all(
+    reader: &mut TagReader,
+    pool: &mut Pool,
+    universe: &mut Universe,
+    bytes: &[u8],
+) -> Result<(), TagFault>
+    requires reading { IsReading reader.old pool.old universe.old }
+    requires before { reader.old.before ≡ length universe.old.packages }
+    requires hand { reader.old.hand ≡ None }
+    requires block { reader.old.block ≡ None }
+    ensures read { OnOk result (IsOkAnd (testtags_file pool.old (length universe.old.packages) reader.old.repo bytes.now) (λ r. IsTaken r pool.new universe.old universe.new)) }
+    ensures over { OnOk result (IsOver pool.new universe.new) }
+    ensures refused { IfErr result (λ fault. IsTagRefusal fault (testtags_file pool.old (length universe.old.packages) reader.old.repo bytes.now)) }
+    ensures form { IfErr result (λ fault. HasOneForm fault.cause) }
+    ensures more { HasMore universe.old universe.new }
+    ensures grows { Grows pool.old pool.new }
+{
+    match read_lines(reader, pool, universe, bytes) {
+        Ok(last) => reader.end(universe, last),
+        Err(fault) => Err(fault),
+    }
+}
+
+/// Reads a testtags file, the packages of a repository, into a universe: its packages stand behind the others, or the first
+/// bad line is refused and the universe is as before. After a refusal the pool may hold more than before.
+pub fn read_testtags(
+    pool: &mut Pool,
+    universe: &mut Universe,
+    bytes: &[u8],
+    repo: RepoNo,
+) -> Result<(), TagFault>
+    requires over { IsOver pool.old universe.old }
+    requires repo { repo < length universe.old.repos }
+    ensures read { OnOk result (IsOkAnd (testtags_file pool.old (length universe.old.packages) repo bytes.now) (λ r. IsTaken r pool.new universe.old universe.new)) }
+    ensures over { OnOk result (IsOver pool.new universe.new) }
+    ensures refused { IfErr result (λ fault. IsTagRefusal fault (testtags_file pool.old (length universe.old.packages) repo bytes.now)) }
+    ensures form { IfErr result (λ fault. HasOneForm fault.cause) }
+    ensures unchanged { OnErr result (universe.new ≡ universe.old) }
+    ensures grows { Grows pool.old pool.new }
+{
+    universe.marks_each();
+    let before = universe.count();
+    let mut reader = TagReader::new(pool.alloc(), repo, before);
+    match read_all(&mut reader, pool, universe, bytes) {
+        Ok(()) => Ok(()),
+        Err(fault) => {
+            universe.cut(before);
+            Err(fault)
+        }
+    }
+}
