@@ -8,6 +8,7 @@
 //!   nothing, and every such cause comes before the limits of the pool.
 //! - [`dep_text`]: the canonical text of a dependency.
 //! - [`enter_text`]: a text that is no dependency, entered with the same causes.
+//! - [`comparison_of`], [`is_namespace_name`]: what a word of such a text is.
 //! - Laws, each the contract of a function that does nothing: [`written_is_read`], [`read_is_written`],
 //!   [`printed_is_read_again`], [`printed_is_the_same`]; and examples on which the definitions are evaluated:
 //!   [`words_of_texts`], [`comparisons`], [`texts_at_places`], [`rich_texts`], [`rich_causes`], [`limits_of_texts`].
@@ -33,6 +34,7 @@ pub use printing::dep_text;
 pub use rows::{
     comparisons, limits_of_texts, rich_causes, rich_texts, texts_at_places, words_of_texts,
 };
+pub use sign::{comparison_of, is_namespace_name};
 
 #[cfg(test)]
 mod tests;

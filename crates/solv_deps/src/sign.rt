@@ -64,8 +64,8 @@ fn cmp(less: bool, equal: bool, greater: bool) -> Option<Cmp>
     })
 }
 
-/// The comparison that a word is.
-pub(crate) fn comparison_of(word: &[u8]) -> Option<Cmp>
+/// The comparison that a word is: `<`, `<=`, `=`, `>=`, `>` or `<>`.
+pub fn comparison_of(word: &[u8]) -> Option<Cmp>
     ensures { result ≡ comparison word.now }
 {
     if is_word(word, b"<") {
@@ -113,8 +113,8 @@ pub(crate) fn is_plain_word(word: &[u8]) -> bool
     operator_of(word).is_none() && comparison_of(word).is_none()
 }
 
-/// Whether a name is a namespace.
-pub(crate) fn is_namespace_name(word: &[u8]) -> bool
+/// Whether a name is a namespace, as `namespace:language(de)`.
+pub fn is_namespace_name(word: &[u8]) -> bool
     ensures { result ≡ is_namespace word.now }
 {
     let Some((last, _)) = word.split_last() else {

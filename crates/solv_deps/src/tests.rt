@@ -2,7 +2,7 @@ ghost use Rattle.std.specs.Prelude.{◌≤◌, length, IsTrue};
 ghost use Rattle.solv_base.specs.Pool.{uses_below};
 
 use super::*;
-use solv_base::{DepNode, Pool};
+use solv_base::{Cmp, DepNode, Pool};
 use std::alloc::{AllocError, Global};
 use std::process::Abort;
 use std::test::Fail;
@@ -171,4 +171,34 @@ fn a_text_has_one_id(rt: HostRuntime) -> Result<(), Fail> {
     assert_eq!(rt; again, first);
     assert_eq!(rt; again == second, false);
     Ok(())
+}
+
+#[test]
+fn words_are_comparisons_and_namespaces(rt: HostRuntime) {
+    for (word, less, equal, greater) in [
+        ("<", true, false, false),
+        ("<=", true, true, false),
+        ("=", false, true, false),
+        (">=", false, true, true),
+        (">", false, false, true),
+        ("<>", true, false, true),
+    ] {
+        let wanted = Cmp {
+            less,
+            equal,
+            greater,
+        };
+        assert_eq!(rt; comparison_of(word.as_bytes()), Some(wanted), "{word}");
+    }
+    for word in ["==", "=<", "", "!="] {
+        assert_eq!(rt; comparison_of(word.as_bytes()), None, "{word}");
+    }
+    for (word, wanted) in [
+        ("namespace:language(de)", true),
+        ("namespace:()", true),
+        ("namespace:language", false),
+        ("language(de)", false),
+    ] {
+        assert_eq!(rt; is_namespace_name(word.as_bytes()), wanted, "{word}");
+    }
 }
