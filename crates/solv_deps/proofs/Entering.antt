@@ -30,7 +30,7 @@ text_fits old new text id fit full e f =
     ] refl
 
 -- a test that a value of the list meets has a place in it
-place_within : {X : Type 0} (p : X → Bool) (xs : List X) → list_any p xs ≡ true → position_or_len p xs < length xs
+pub place_within : {X : Type 0} (p : X → Bool) (xs : List X) → list_any p xs ≡ true → position_or_len p xs < length xs
 place_within p [] h = cc
 place_within p (x ∷ xs) h =
     elim (p x) as (λ b. p x ≡ b → position_or_len p (x ∷ xs) < length (x ∷ xs)) [

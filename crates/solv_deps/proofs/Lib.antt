@@ -8,4 +8,5 @@ pub mod Complete
 pub mod Printed
 pub mod Readable
 pub mod RoundTrip
+pub mod HeldEntered
 pub mod Sound

@@ -6,6 +6,7 @@ use Rattle.solv_base.specs.Pool.{Held, IsPool, Grows, text_tree}
 use Rattle.solv_deps.specs.Grammar.{Expr, expr_right, expr_operators, expr_depth, expr_words, expr_sense}
 use Rattle.solv_deps.specs.Table.{stands_richly_at}
 use Rattle.solv_deps.specs.Reading.{dependency, dependency_by, reading}
+use Rattle.solv_deps.specs.Entering.{dependency_entered}
 use Rattle.solv_deps.specs.Canonical.{text}
 use Rattle.solv_deps.specs.declared.place.Place.{Place}
 use Rattle.solv_deps.specs.declared.fault.DepFault.{DepFault}
@@ -38,6 +39,11 @@ PrintedIsReadAgainByAnyTable = (fits : Dep (List ℕ) → Bool) (t : List ℕ) (
 abbrev pub PrintedIsTheSame : Type 0
 PrintedIsTheSame = (old new : Held) (place : Place) (t : List ℕ) (id again : ℕ) → IsPool new → Grows old new → id < length old.nodes → again < length new.nodes
     → dependency place t ≡ Ok (text_tree old id) → dependency place (text (text_tree old id)) ≡ Ok (text_tree new again) → again ≡ id
+
+-- what a pool holds is entered there as itself: no room is needed, and nothing is added
+abbrev pub HeldIsEntered : Type 0
+HeldIsEntered = (held : Held) (id : ℕ) → IsPool held → id < length held.nodes
+    → dependency_entered (text_tree held id) held ≡ Ok (record { id = id; held = held })
 
 -- is this the canonical text of what was read?
 abbrev pub has_text : List ℕ → Result (Dep (List ℕ)) DepFault → Bool

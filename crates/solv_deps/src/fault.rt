@@ -3,7 +3,7 @@ use thiserror::Error;
 /// Why a dependency's text is refused: the first cause from left to right.
 #[derive(Clone, Copy, PartialEq, Eq, Debug, Error)]
 pub enum DepFault {
-    /// A word stands where an operator, a comparison or a closing parenthesis is due.
+    /// Where an operator, a comparison or a closing parenthesis is due, another word stands.
     #[error("BadOperator")]
     BadOperator,
     /// An operand or an EVR is due, and the text ends or another word stands there.
@@ -12,7 +12,7 @@ pub enum DepFault {
     /// An operator that the rule in hand does not go on with.
     #[error("MixedOperators")]
     MixedOperators,
-    /// The text ends with a parenthesis open.
+    /// The text ends with a parenthesis open, and no operand is due.
     #[error("UnclosedParenthesis")]
     UnclosedParenthesis,
     /// The 65th operator, or the 65th parenthesis that is open at one time.

@@ -1,5 +1,5 @@
 //! Laws of dependency text.
-ghost use Rattle.solv_deps.specs.Laws.{WrittenIsRead, ReadIsWritten, PrintedIsReadAgain, PrintedIsReadAgainByAnyTable, PrintedIsTheSame};
+ghost use Rattle.solv_deps.specs.Laws.{WrittenIsRead, ReadIsWritten, PrintedIsReadAgain, PrintedIsReadAgainByAnyTable, HeldIsEntered, PrintedIsTheSame};
 
 /// What is written by the grammar, with at most 64 operators and 64 open parentheses, is read as what it means.
 pub fn written_is_read()
@@ -20,4 +20,10 @@ pub fn printed_is_read_again()
 /// What was read at a place, printed and read there again, is the same relation of the pool, which may have grown.
 pub fn printed_is_the_same()
     ensures { PrintedIsTheSame }
+{}
+
+/// A relation that a pool holds is entered there under its own id, whether or not there is room, and adds nothing. So the
+/// canonical text of what was read is read, in the pool that holds it, as the same id.
+pub fn held_is_entered()
+    ensures { HeldIsEntered }
 {}

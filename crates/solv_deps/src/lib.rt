@@ -10,7 +10,7 @@
 //! - [`enter_text`]: a text that is no dependency, entered with the same causes.
 //! - [`comparison_of`], [`is_namespace_name`]: what a word of such a text is.
 //! - Laws, each the contract of a function that does nothing: [`written_is_read`], [`read_is_written`],
-//!   [`printed_is_read_again`], [`printed_is_the_same`]; and examples on which the definitions are evaluated:
+//!   [`printed_is_read_again`], [`printed_is_the_same`], [`held_is_entered`]; and examples on which the definitions are evaluated:
 //!   [`words_of_texts`], [`comparisons`], [`texts_at_places`], [`rich_texts`], [`rich_causes`], [`limits_of_texts`].
 #![tactic(auto)]
 
@@ -28,7 +28,9 @@ mod sign;
 
 pub use dependency::{enter_text, read_dep};
 pub use fault::DepFault;
-pub use laws::{printed_is_read_again, printed_is_the_same, read_is_written, written_is_read};
+pub use laws::{
+    held_is_entered, printed_is_read_again, printed_is_the_same, read_is_written, written_is_read,
+};
 pub use place::Place;
 pub use printing::dep_text;
 pub use rows::{

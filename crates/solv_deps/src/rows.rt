@@ -54,6 +54,8 @@ pub fn rich_texts()
     ensures inner_else { reads_richly_as Requires (codes "A <IF> (B <ELSE> C)") (codes "A <IF> B <ELSE> C") ≡ true }
     ensures outer_else { reads_richly_as Requires (codes "A <IF> B <ELSE> C") (codes "A <IF> B <ELSE> C") ≡ true }
     ensures space { reads_richly_as Requires (codes "(A & f(x ) | B") (codes "(A & f(x ) | B") ≡ true }
+    ensures condition_after_else { reads_richly_as Requires (codes "A <IF> B <ELSE> (C <IF> D)") (codes "A <IF> B <ELSE> (C <IF> D)") ≡ true }
+    ensures conditional_operand { reads_richly_as Requires (codes "(A <IF> B) <IF> C") (codes "(A <IF> B) <IF> C") ≡ true }
     ensures without { reads_richly_as Conflicts (codes "A - (B | C = 1)") (codes "A - (B | C = 1)") ≡ true }
 {}
 
@@ -67,6 +69,7 @@ pub fn rich_causes()
     ensures second_else { IsRefusedRichly Requires (codes "A <IF> (B <ELSE> C) <ELSE> D") BadOperator }
     ensures after_condition { IsRefusedRichly Requires (codes "A <IF> (B <ELSE> C) & D") MixedOperators }
     ensures compared_close { IsRefusedRichly Requires (codes "(A) = 1") BadOperator }
+    ensures condition_in_difference { IsRefusedRichly Requires (codes "(A <IF> B) - C") OperatorNotHere }
     ensures close { IsRefusedRichly Requires (codes "A )") BadOperator }
 {}
 

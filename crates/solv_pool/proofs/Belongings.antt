@@ -1,6 +1,6 @@
 -- What a universe over its pool tells of each package.
 use Rattle.std.proofs.Common.{◌≡◌, ℕ, zero, suc, ◌<◌, ◌≤◌, ◌+◌, Bool, true, false, ◌&&◌, List, [], ◌∷◌, ◌++◌, length, Some, refl, arith, drop, add-one, length-append}
-use Rattle.std.specs.Prelude.{slice_get, nat_lt}
+use Rattle.std.specs.Prelude.{slice_get, nat_lt, take}
 use Rattle.std.specs.List.{list_all}
 use Rattle.std.proofs.lemmas.Bool.{ltb-true, lt-ltb}
 use Rattle.solv_pool.specs.Belonging.{IsOver, fits, names_of, relations_of}
@@ -96,5 +96,16 @@ pub IsOver-package : (pool : Held) (contents : Contents) (a : Package) (disabled
     → IsOver pool (record contents { packages = contents.packages ++ a ∷ []; disabled = disabled })
 IsOver-package pool contents a disabled h e = record {
   packages = all_push (fits (length pool.names) (length pool.nodes) (length contents.repos)) contents.packages a h.packages e;
+  repos = h.repos;
+}
+
+all_taken : {X : Type 0} (p : X → Bool) (n : ℕ) (xs : List X) → list_all p xs ≡ true → list_all p (take n xs) ≡ true
+all_taken p zero xs h = refl
+all_taken p (suc n) [] h = refl
+all_taken p (suc n) (x ∷ xs) h = rw (both_left (p x) (list_all p xs) h) (all_taken p n xs (both_right (p x) (list_all p xs) h))
+
+pub IsOver-cut : (pool : Held) (contents : Contents) (n : ℕ) (disabled : List Bool) → IsOver pool contents → IsOver pool (record contents { packages = take n contents.packages; disabled = disabled })
+IsOver-cut pool contents n disabled h = record {
+  packages = all_taken (fits (length pool.names) (length pool.nodes) (length contents.repos)) n contents.packages h.packages;
   repos = h.repos;
 }

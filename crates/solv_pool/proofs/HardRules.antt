@@ -19,7 +19,7 @@ use Rattle.solv_pool.specs.JobMarks.{marks_of, is_install, is_update}
 use Rattle.solv_pool.specs.Selections.{selection}
 use Rattle.solv_pool.specs.RuleMeaning.{HardRule, not_installable, req, con, rich_con, obs, same, infarch, update, feature, install, erase, lock, best_job, best_update, is_fixed, meets_rule}
 use Rattle.solv_pool.specs.Best.{best}
-use Rattle.solv_pool.specs.HardRules.{not_installable_rules, counted_requirements, requirement_rules, package_wise_conflicts, is_conflicting, conflicting, conflict_rules, counted_rich_conflicts, rich_conflict_rules, obsoleted, obsoletion_rules, later_namesakes, same_name_rules, rules_asked_by, rules_of_package, package_rules, inferior_packages, infarch_rules, is_kept, kept_packages, is_restrained, update_rules, feature_rules, update_candidates, feature_candidates, numbered_jobs, rule_of_job, job_rules, best_job_rule, best_job_rules, selected_installed, best_update_rule, best_update_rules, hard_rules_by, hard_rules}
+use Rattle.solv_pool.specs.HardRules.{not_installable_rules, counted_requirements, requirement_rules, package_wise_conflicts, is_conflicting, conflicting, conflict_rules, counted_rich_conflicts, rich_conflict_rules, obsoleted, obsoletion_rules, later_namesakes, same_name_rules, rules_asked_by, rules_of_package, package_rules, inferior_packages, infarch_rules, is_kept, kept_packages, has_update_rule, update_rules, feature_rules, update_candidates, feature_candidates, numbered_jobs, rule_of_job, job_rules, best_job_rule, best_job_rules, selected_installed, best_update_rule, best_update_rules, hard_rules_by, hard_rules}
 use Rattle.solv_pool.specs.Laws.{names_packages, system_alone, AgreeOn}
 use Rattle.solv_pool.proofs.Tests.{and_left, and_right, and_true, both, or_right, ap2}
 use Rattle.solv_pool.proofs.Lists.{list_all_made, map_each, flat_each, join_six, list_all_filter, list_all_join, list_all_flat, list_all_when, list_all_option, among_itself, passes_in, list_any_agree, list_all_agree, zero_not_among, suc_not_zero}
@@ -89,8 +89,8 @@ module _ (catalog : Catalog) where
       update-named : list_all named (update_rules catalog flags marks jobs) ≡ true
       update-named =
           list_all_made is_package named (λ p. update p (update_candidates catalog flags marks p)) (λ p k. both (is_package p) (list_all is_package (update_candidates catalog flags marks p)) k (filtered _))
-          (filter (is_restrained catalog jobs marks) (kept_packages catalog flags marks))
-          (list_all_filter is_package (is_restrained catalog jobs marks) (kept_packages catalog flags marks) kept-named)
+          (filter (has_update_rule catalog jobs marks) (kept_packages catalog flags marks))
+          (list_all_filter is_package (has_update_rule catalog jobs marks) (kept_packages catalog flags marks) kept-named)
 
       feature-named : list_all named (feature_rules catalog flags marks) ≡ true
       feature-named =

@@ -9,3 +9,4 @@ pub mod Best
 pub mod Counts
 pub mod ClauseNames
 pub mod Guards
+pub mod WellPlaced

@@ -166,14 +166,14 @@ module _ (catalog : Catalog) (jobs : List Job) (marks : Marks) where
   abbrev pub is_asked_exactly : ℕ → Bool
   is_asked_exactly p = list_any (λ job. is_install job.action && (is_exact catalog job.choice && are_of_name catalog p (selection catalog job.choice))) jobs
 
-  -- the flags hold what may take p's place: p is multiversion, or no job asks exactly for what is to take it
-  abbrev pub is_restrained : ℕ → Bool
-  is_restrained p = marked marks.multiversion p || not (is_asked_exactly p)
+  -- p has an update rule, where it is kept: it is multiversion, or no job asks exactly for what is to take its place
+  abbrev pub has_update_rule : ℕ → Bool
+  has_update_rule p = marked marks.multiversion p || not (is_asked_exactly p)
 
 module _ (catalog : Catalog) (flags : Flags) (marks : Marks) where
-  -- for each package that is kept and restrained, with what may take its place
+  -- for each package that is kept and has such a rule, with what may take its place
   abbrev pub update_rules : List Job → List HardRule
-  update_rules jobs = map (λ p. update p (update_candidates catalog flags marks p)) (filter (is_restrained catalog jobs marks) (kept_packages catalog flags marks))
+  update_rules jobs = map (λ p. update p (update_candidates catalog flags marks p)) (filter (has_update_rule catalog jobs marks) (kept_packages catalog flags marks))
 
   -- for each package that is kept, with what may take its place were every change allowed
   abbrev pub feature_rules : List HardRule

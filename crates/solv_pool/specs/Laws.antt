@@ -10,6 +10,7 @@ use Rattle.solv_pool.specs.Installable.{is_installable}
 use Rattle.solv_pool.specs.RuleMeaning.{HardRule, not_installable, req, con, rich_con, obs, same, infarch, update, feature, install, erase, lock, best_job, best_update, meets_rule, is_fixed}
 use Rattle.solv_pool.specs.Best.{best}
 use Rattle.solv_pool.specs.HardRules.{hard_rules}
+use Rattle.solv_pool.specs.TaskForms.{HasForms}
 use Rattle.solv_pool.specs.Clauses.{clauses_of, clause_count, dependency_clauses, rule_clauses, guarded, all_true}
 use Rattle.solv_pool.specs.declared.tasks.Task.{Task}
 
@@ -39,6 +40,16 @@ abbrev pub ClausesSayTheRule : Type 0
 ClausesSayTheRule = (catalog : Catalog) (set : ℕ → Bool) (r : HardRule)
     → set 0 ≡ true → IsWellPlaced catalog r
     → all_true set (rule_clauses catalog r) ≡ meets_rule catalog r set
+
+-- where the dependencies of a task have forms for their places, those of its hard rules have
+abbrev pub RulesAreWellPlaced : Type 0
+RulesAreWellPlaced = (task : Task) (r : HardRule) → HasForms task → Contains (hard_rules task) r → IsWellPlaced (catalog_of task) r
+
+-- so a set that holds the system makes the clauses of each hard rule of a task true exactly where it meets the rule
+abbrev pub ClausesSayTheTask : Type 0
+ClausesSayTheTask = (task : Task) (set : ℕ → Bool) (r : HardRule)
+    → HasForms task → set 0 ≡ true → Contains (hard_rules task) r
+    → all_true set (rule_clauses (catalog_of task) r) ≡ meets_rule (catalog_of task) r set
 
 -- the clauses of a requirement, and of a conflict that is not package-wise, are those of its dependency, guarded
 pub record IsGuarded (catalog : Catalog) (p d : ℕ) : Type 0 where

@@ -18,4 +18,5 @@ pub mod HardRules
 pub mod Clauses
 pub mod Parts
 pub mod Propagation
+pub mod TaskForms
 pub mod Laws

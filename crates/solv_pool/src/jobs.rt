@@ -14,7 +14,7 @@ pub enum Action {
     Update,
     /// On the selection, the resulting set is as installed.
     Lock,
-    /// Its installed packages are verified: broken, they count.
+    /// Its installed packages are verified: what is broken among them counts.
     Verify,
     /// Its packages may be installed beside others of their name.
     Multiversion,

@@ -199,17 +199,19 @@ impl Universe {
 
     /// Sets the system's architecture and the installed repository.
     pub fn set_system(&mut self, arch: Arch, installed: Option<RepoNo>)
-        ensures { self.new ≡ record self.old { arch = Some arch; installed = installed } }
+        ensures set { self.new ≡ record self.old { arch = Some arch; installed = installed } }
+        ensures over { (pool : Held) → IsOver pool self.old → IsOver pool self.new }
     {
         self.arch = Some(arch);
         self.installed = installed;
     }
 
-    /// Keeps a package from being installed.
+    /// Keeps a package from being installed. One that is installed stays installable.
     pub fn disable(&mut self, pack: PackNo)
         requires a_package { 0 < pack }
         requires held { pack ≤ length self.old.packages }
-        ensures { self.new ≡ record self.old { disabled = slice_set self.old.disabled (pack - 1) true } }
+        ensures set { self.new ≡ record self.old { disabled = slice_set self.old.disabled (pack - 1) true } }
+        ensures over { (pool : Held) → IsOver pool self.old → IsOver pool self.new }
     {
         self.disabled[pack.0 as usize - 1] = true;
     }
@@ -217,7 +219,8 @@ impl Universe {
     /// Lets all packages go but the first so many.
     pub fn cut(&mut self, count: u32)
         requires { count ≤ length self.old.packages }
-        ensures { self.new ≡ record self.old { packages = take count self.old.packages; disabled = take count self.old.disabled } }
+        ensures left { self.new ≡ record self.old { packages = take count self.old.packages; disabled = take count self.old.disabled } }
+        ensures over { (pool : Held) → IsOver pool self.old → IsOver pool self.new }
     {
         self.packages.truncate(count as usize);
         self.disabled.truncate(count as usize);

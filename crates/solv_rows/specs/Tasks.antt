@@ -1,10 +1,11 @@
 -- Tasks, each small enough to be solved by hand.
-use Rattle.std.specs.Prelude.{pos, true, false, [], ◌∷◌, Some, codes}
-use Rattle.solv_base.specs.declared.relation.DepNode.TheVariants.{Simple, Versioned, Namespace, And, With, If, Unless, UnlessElse}
+use Rattle.std.specs.Prelude.{pos, true, false, [], ◌∷◌, Some, None, codes}
+use Rattle.solv_base.specs.declared.relation.DepNode.TheVariants.{Simple, Versioned, Namespace, And, Or, With, Without, If, IfElse, Unless, UnlessElse}
 use Rattle.solv_pool.specs.declared.tasks.Task.{Task}
 use Rattle.solv_pool.specs.declared.jobs.Choice.TheVariants.{Pkg, Name, All}
 use Rattle.solv_pool.specs.declared.jobs.Action.TheVariants.{Install, Erase, Update, Lock, Verify, Multiversion, AllowUninstall, Favor, Disfavor}
-use Rattle.solv_rows.specs.Making.{below, equal, at_least, system, available, one_one, two_one, plain_package, need, job, first_flags, task_of, and_job, with_flags, with_repos, with_disabled}
+use Rattle.solv_pool.specs.declared.universes.Arch.TheVariants.{I686}
+use Rattle.solv_rows.specs.Making.{below, equal, at_least, system, available, one_one, two_one, plain_package, need, job, first_flags, task_of, and_job, with_flags, with_repos, with_disabled, with_arch}
 
 -- A 1-1 requires lib >= 2; there are lib 1-1, lib 2-1, and other 1-1, which provides lib; `install name A`
 abbrev pub required_library : Task
@@ -97,6 +98,17 @@ conflict_with_both = task_of (codes "A" ∷ codes "B" ∷ codes "C" ∷ [])
     ∷ [])
     (job Install (Name 0) ∷ job Install (Name 1) ∷ job Install (Name 3) ∷ [])
 
+-- there are X 1-1, Y 1-1, Z 1-1, and W 1-1, which provides X and Y; relation 3 is X <IF> Y <ELSE> Z, 4 is X - Y, 5 is X & Y, and 6 is (X & Y) | Z
+abbrev pub many_operators : Task
+many_operators = task_of (codes "X" ∷ codes "Y" ∷ codes "Z" ∷ codes "W" ∷ [])
+    (Simple 5 ∷ Simple 6 ∷ Simple 7 ∷ IfElse 0 1 2 ∷ Without 0 1 ∷ And 0 1 ∷ Or 5 2 ∷ [])
+    (plain_package available 5 one_one
+    ∷ plain_package available 6 one_one
+    ∷ plain_package available 7 one_one
+    ∷ record (plain_package available 8 one_one) { provides = 0 ∷ 1 ∷ [] }
+    ∷ [])
+    []
+
 -- P 1-1 conflicts with X <UNLESS> Y; there are X 1-1, and ya and yb, which both provide Y; relation 4 is X <UNLESS> Y <ELSE> P
 abbrev pub conflict_unless : Task
 conflict_unless = task_of (codes "P" ∷ codes "X" ∷ codes "Y" ∷ codes "ya" ∷ codes "yb" ∷ [])
@@ -114,6 +126,14 @@ system_provides = task_of (codes "P" ∷ codes "rpmlib(x)" ∷ codes "rpmlib(y)"
     (Simple 6 ∷ Simple 7 ∷ [])
     (record (plain_package available 5 one_one) { requires_ = need 0 ∷ []; conflicts = 1 ∷ [] } ∷ [])
     []
+
+-- the same on a system of i686
+abbrev pub old_machine : Task
+old_machine = with_arch (Some I686) two_architectures
+
+-- the same without a `system` line
+abbrev pub no_machine : Task
+no_machine = with_arch None two_architectures
 
 -- the same with `solverflags noinfarchcheck`
 abbrev pub any_architecture : Task

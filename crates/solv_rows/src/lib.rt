@@ -7,6 +7,7 @@
 pub mod clauses;
 pub mod dependencies;
 pub mod hard_rules;
+pub mod operators;
 pub mod propagation;
 pub mod texts;
 pub mod updates;

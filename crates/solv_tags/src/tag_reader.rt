@@ -287,7 +287,8 @@ impl TagReader {
         self.entry_if_tag(pool, universe, &name, line)
     }
 
-    /// Reads a line.
+    /// Reads a line. After a refusal the reader is of no more use, and the universe may hold packages of this repository:
+    /// a cut to the count before takes them away.
     pub fn line(
         &mut self,
         pool: &mut Pool,
@@ -307,7 +308,7 @@ impl TagReader {
         }
     }
 
-    /// The end behind the line of this number.
+    /// The end behind the line of this number. After a refusal the reader is of no more use, as after one of a line.
     pub fn end(&mut self, universe: &mut Universe, last: u64) -> Result<(), TagFault>
         ensures ok { OnOk result ((pool : Held) → IsReading self.old pool universe.old → IsEnded self.old pool universe.old universe.new (end_read last (tagged_of self.old pool universe.old))) }
         ensures refused { IfErr result (λ fault. (pool : Held) → IsTagRefusal fault (end_read last (tagged_of self.old pool universe.old))) }

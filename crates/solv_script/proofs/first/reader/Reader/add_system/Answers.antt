@@ -27,5 +27,5 @@ pub returns-clause-ok : goal.returns-clause-ok
 returns-clause-ok c =
     let self = c.self.inside in
     let s : Reading = record { pool = self.pool; universe = self.universe; jobs = self.jobs } in
-    rw (← c.self.view_is, c.set_system.ensures) (system-set s c.args.line c.args.name.now c.in-Some.repo (sym c.repo_named.ensures ∙ c.in-Some.is)
+    rw (← c.self.view_is, c.set_system.ensures.set) (system-set s c.args.line c.args.name.now c.in-Some.repo (sym c.repo_named.ensures ∙ c.in-Some.is)
     (c.self.invariant.system_is ∙ none_is self.system (sym c.is_some.ensures ∙ c.if-is_some.false)) (sym c.holds_package_of.ensures ∙ c.if-holds_package_of.false))
