@@ -8,7 +8,7 @@ use Rattle.solv_pool.specs.Written.{WrittenTask}
 use Rattle.solv_script.specs.FirstScript.{State, Bad, first_script}
 use Rattle.solv_script.specs.Reads.{WrittenScript, script_of}
 use Rattle.solv_script.specs.Reads.{IsFirstFault}
-use Rattle.solv_script.specs.declared.causes.Cause.{Cause}
+use Rattle.solv_commands.specs.declared.causes.Cause.{Cause}
 use Rattle.solv_script.specs.declared.scripts.ScriptFault.{ScriptFault}
 use Rattle.solv_script.specs.declared.scripts.ScriptFault.TheVariants.{Refused, ReadFault, Memory}
 use Rattle.solv_run.specs.Faults.{bad_line_in}

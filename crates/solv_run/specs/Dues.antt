@@ -3,7 +3,7 @@ use Rattle.std.specs.Prelude.{ℕ, List, [], ◌∷◌, ◌++◌, codes, Result,
 use Rattle.std.specs.Fmt.{decimal}
 use Rattle.solv_io.specs.declared.status.Status.{Status}
 use Rattle.solv_io.specs.declared.status.Status.TheVariants as status
-use Rattle.solv_script.specs.Causes.{cause_name}
+use Rattle.solv_commands.specs.Causes.{cause_name}
 use Rattle.solv_script.specs.FirstScript.{State, Bad}
 use Rattle.solv_script.specs.Reads.{script_of}
 use Rattle.solv_run.specs.CommandLine.{usage_line}

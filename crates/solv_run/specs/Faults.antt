@@ -1,6 +1,6 @@
 -- The bad line that a refusal carries.
 use Rattle.std.specs.Prelude.{ℕ, Option, Some, None}
-use Rattle.solv_script.specs.declared.causes.Cause.{Cause}
+use Rattle.solv_commands.specs.declared.causes.Cause.{Cause}
 use Rattle.solv_script.specs.declared.scripts.ScriptFault.{ScriptFault}
 use Rattle.solv_script.specs.declared.scripts.ScriptFault.TheVariants.{Refused, ReadFault, Memory}
 

@@ -1,7 +1,7 @@
 //! What is said on the sinks.
 ghost use Rattle.std.specs.Prelude.{◌≡◌, [], ◌∷◌, ◌++◌, ℕ, List, codes, IfOk, string_bytes};
 ghost use Rattle.std.specs.Fmt.{decimal};
-ghost use Rattle.solv_script.specs.Causes.{cause_name};
+ghost use Rattle.solv_commands.specs.Causes.{cause_name};
 ghost use Rattle.solv_script.specs.FirstScript.{Bad};
 ghost use Rattle.solv_run.specs.CommandLine.{usage_line};
 ghost use Rattle.solv_run.specs.Dues.{read_fault_line, bad_line};

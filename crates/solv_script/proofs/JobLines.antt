@@ -26,7 +26,7 @@ use Rattle.solv_script.specs.FirstEntering.{asked_job, EntersRelation, IsRelatio
 use Rattle.solv_script.specs.FirstReader.{IsReader, Reading, state_of, relation_text, is_name_below, asked, names_package}
 use Rattle.solv_script.specs.FirstStop.{IsStop, stop_of, unheld_stop}
 use Rattle.solv_script.specs.Reads.{first_job}
-use Rattle.solv_script.specs.declared.causes.Cause.TheVariants.{NotBuilt}
+use Rattle.solv_commands.specs.declared.causes.Cause.TheVariants.{NotBuilt}
 use Rattle.solv_script.specs.declared.first.stops.Stop.{Stop}
 use Rattle.solv_script.specs.declared.first.stops.Stop.TheVariants as stop
 use Rattle.solv_script.proofs.WrittenTexts.{text_stays, relations_stay, repos_stay, packages_stay}

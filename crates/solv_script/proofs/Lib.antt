@@ -1,4 +1,3 @@
-pub mod Digits
 pub mod Entered
 pub mod LinesLeft
 pub mod WrittenTexts

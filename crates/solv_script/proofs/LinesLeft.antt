@@ -5,9 +5,9 @@ use Rattle.std.specs.List.{enumerate_from}
 use Rattle.std.specs.Str.{bytes_eq}
 use Rattle.solv_io.specs.Words.{words_of}
 use Rattle.solv_script.specs.Items.{items, block_of, is_inline, own_words}
-use Rattle.solv_script.specs.Numbers.{priority}
+use Rattle.solv_commands.specs.Numbers.{priority}
 use Rattle.solv_script.specs.FirstScript.{State, Bad, and_then, bad, with_repo, inline_row, inline_rows, repo_row, row, rows}
-use Rattle.solv_script.specs.declared.causes.Cause.TheVariants.{NotBuilt}
+use Rattle.solv_commands.specs.declared.causes.Cause.TheVariants.{NotBuilt}
 use Rattle.solv_script.specs.FirstWalk.{bare, opens, left}
 
 pub then_both : {A B C : Type 0} (r : Result A Bad) (f : A → Result B Bad) (g : B → Result C Bad) → and_then (and_then r f) g ≡ and_then r (λ x. and_then (f x) g)

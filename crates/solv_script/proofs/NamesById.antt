@@ -19,7 +19,7 @@ use Rattle.solv_pool.proofs.Belongings.{name_below}
 use Rattle.solv_script.specs.FirstScript.{entered, with_repo}
 use Rattle.solv_script.specs.FirstReader.{IsReader, state_of, relation_text}
 use Rattle.solv_script.specs.FirstStop.{IsStop, stop_of}
-use Rattle.solv_script.specs.declared.causes.Cause.TheVariants.{DuplicateRepo}
+use Rattle.solv_commands.specs.declared.causes.Cause.TheVariants.{DuplicateRepo}
 use Rattle.solv_script.proofs.WrittenTexts.{relations_stay, repos_stay, packages_stay}
 
 pub any_map : {X Y : Type 0} (p : Y → Bool) (f : X → Y) (xs : List X) → list_any p (map f xs) ≡ list_any (λ x. p (f x)) xs

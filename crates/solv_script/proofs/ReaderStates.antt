@@ -26,7 +26,7 @@ use Rattle.solv_script.specs.FirstEntering.{AreWithin, HaveTexts}
 use Rattle.solv_script.specs.FirstReader.{IsReader, Reading, state_of, relation_text, is_name_below, package_of}
 use Rattle.solv_script.specs.FirstStop.{IsStop}
 use Rattle.solv_script.specs.Reads.{first_flags, script_of}
-use Rattle.solv_script.specs.declared.causes.Cause.TheVariants.{TooManyPackages}
+use Rattle.solv_commands.specs.declared.causes.Cause.TheVariants.{TooManyPackages}
 use Rattle.solv_script.specs.declared.first.stops.Stop.{Stop}
 use Rattle.solv_script.specs.declared.first.entering.PackageIds.{PackageIds}
 use Rattle.solv_script.proofs.WrittenTexts.{relations_stay, repos_stay, packages_stay, jobs_stay}

@@ -9,7 +9,7 @@ use Rattle.solv_pool.specs.Written.{written_repo, written_package}
 use Rattle.solv_pool.specs.declared.universes.Arch.TheVariants.{X86_64}
 use Rattle.solv_script.specs.FirstScript.{with_system}
 use Rattle.solv_script.specs.FirstReader.{Reading, state_of, holds_package_of}
-use Rattle.solv_script.specs.declared.causes.Cause.TheVariants.{NotBuilt}
+use Rattle.solv_commands.specs.declared.causes.Cause.TheVariants.{NotBuilt}
 use Rattle.solv_script.proofs.NamesById.{any_map}
 
 -- the first of what is left

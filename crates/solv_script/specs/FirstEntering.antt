@@ -4,7 +4,7 @@ use Rattle.solv_base.specs.Pool.{Held, is_name, text_at, most}
 use Rattle.solv_base.specs.declared.relation.DepNode.TheVariants.{Simple}
 use Rattle.solv_script.specs.FirstReader.{relation_text}
 use Rattle.solv_script.specs.FirstScript.{State, Bad, bad, has_package_named, with_job}
-use Rattle.solv_script.specs.declared.causes.Cause.TheVariants.{NotBuilt, FullRelations}
+use Rattle.solv_commands.specs.declared.causes.Cause.TheVariants.{NotBuilt, FullRelations}
 use Rattle.solv_script.specs.declared.first.stops.Stop.{Stop}
 use Rattle.solv_script.specs.declared.first.stops.Stop.TheVariants as stop
 use Rattle.solv_script.specs.declared.first.entering.PackageIds.{PackageIds}

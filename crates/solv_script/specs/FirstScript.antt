@@ -9,9 +9,9 @@ use Rattle.solv_io.specs.Words.{words_of}
 use Rattle.solv_pool.specs.Contents.{most_packages}
 use Rattle.solv_pool.specs.Written.{WrittenRepo, WrittenPackage}
 use Rattle.solv_script.specs.Items.{Item, items}
-use Rattle.solv_script.specs.Numbers.{priority}
-use Rattle.solv_script.specs.declared.causes.Cause.{Cause}
-use Rattle.solv_script.specs.declared.causes.Cause.TheVariants.{DuplicateRepo, TooManyPackages, FileTooLong, FullNames, FullRelations, NotBuilt}
+use Rattle.solv_commands.specs.Numbers.{priority}
+use Rattle.solv_commands.specs.declared.causes.Cause.{Cause}
+use Rattle.solv_commands.specs.declared.causes.Cause.TheVariants.{DuplicateRepo, TooManyPackages, FileTooLong, FullNames, FullRelations, NotBuilt}
 
 -- what the lines so far give; `names` are the texts held, in the order in which they came, and `relations` the names that jobs asked for
 pub record State : Type 0 where

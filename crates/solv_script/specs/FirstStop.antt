@@ -3,7 +3,7 @@ use Rattle.std.specs.Prelude.{ℕ, ◌≡◌, Result, Err}
 use Rattle.solv_base.specs.declared.interning.PoolFault.{PoolFault}
 use Rattle.solv_base.specs.declared.interning.PoolFault.TheVariants as fault
 use Rattle.solv_script.specs.FirstScript.{Bad}
-use Rattle.solv_script.specs.declared.causes.Cause.TheVariants.{FullNames, FullRelations, NotBuilt}
+use Rattle.solv_commands.specs.declared.causes.Cause.TheVariants.{FullNames, FullRelations, NotBuilt}
 use Rattle.solv_script.specs.declared.first.stops.Stop.{Stop}
 use Rattle.solv_script.specs.declared.first.stops.Stop.TheVariants as stop
 

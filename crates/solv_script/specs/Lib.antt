@@ -1,6 +1,4 @@
-pub mod Causes
 pub mod Items
-pub mod Numbers
 pub mod FirstScript
 pub mod Reads
 pub mod Examples

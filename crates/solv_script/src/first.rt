@@ -2,7 +2,7 @@
 //!
 //! - `reader`: what the lines so far gave. The lines fill it: `repo_lines`, `package_lines`, `system_lines`, `job_lines`.
 //! - `lines`: the lines of a script in turn, each with the inline lines that follow it.
-//! - `entering`, `marks`, `priorities`, `words`: what the lines stand on. `stops` has why no more is read.
+//! - `entering`, `marks`, `words`: what the lines stand on. `stops` has why no more is read.
 ghost use Rattle.std.specs.Prelude.{◌≡◌, Result, IfOk, IfErr, IsOkAnd};
 ghost use Rattle.solv_pool.specs.TaskBelonging.{IsClosed};
 ghost use Rattle.solv_script.specs.FirstScript.{State, Bad, first_script};
@@ -14,14 +14,13 @@ mod job_lines;
 mod lines;
 mod marks;
 mod package_lines;
-mod priorities;
 mod reader;
 mod repo_lines;
 mod stops;
 mod system_lines;
 mod words;
 
-use crate::causes::Cause;
+use solv_commands::Cause;
 use crate::first::reader::Reader;
 use crate::first::stops::Stop;
 use crate::scripts::{Script, ScriptFault};

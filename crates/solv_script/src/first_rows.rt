@@ -1,9 +1,8 @@
 //! Examples on which the reading of scripts is evaluated.
 ghost use Rattle.std.specs.Prelude.{◌≡◌, codes, map, Result, Ok, Err, Some, None, pos, negsuc, ℕ, [], ◌∷◌, List};
 ghost use Rattle.solv_script.specs.FirstScript.{first_script, State, Bad};
-ghost use Rattle.solv_script.specs.Numbers.{priority};
 ghost use Rattle.solv_script.specs.Examples.{two_jobs, map_ok};
-ghost use Rattle.solv_script.specs.declared.causes.Cause.TheVariants.{NotBuilt, DuplicateRepo};
+ghost use Rattle.solv_commands.specs.declared.causes.Cause.TheVariants.{NotBuilt, DuplicateRepo};
 
 /// Scripts that are refused: an unknown line, a repository given twice, a package line with an architecture, a job for a
 /// name that no package has.
@@ -22,14 +21,4 @@ pub fn read_script_by_example()
     ensures jobs { map_ok (λ s. s.jobs) (first_script two_jobs) ≡ Ok (codes "N" ∷ codes "N" ∷ []) }
     ensures relations { map_ok (λ s. s.relations) (first_script two_jobs) ≡ Ok (codes "N" ∷ []) }
     ensures names { map_ok (λ s. s.names) (first_script two_jobs) ≡ Ok (codes "system" ∷ codes "available" ∷ codes "N" ∷ codes "1-1" ∷ codes "noarch" ∷ codes "2" ∷ codes "M" ∷ []) }
-{}
-
-/// Priorities.
-pub fn priorities()
-    ensures below { priority (codes "-99") ≡ Some (negsuc 98) }
-    ensures least { priority (codes "-2147483648") ≡ Some (negsuc 2147483647) }
-    ensures too_great { priority (codes "2147483648") ≡ None }
-    ensures sign { priority (codes "+1") ≡ None }
-    ensures fraction { priority (codes "0.5") ≡ None }
-    ensures empty { priority (codes "-") ≡ None }
 {}

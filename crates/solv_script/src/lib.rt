@@ -4,12 +4,11 @@
 //! - [`Script`] is what is read, [`ScriptFault`] why nothing is, [`Cause`] why a line is refused.
 #![tactic(auto)]
 
-mod causes;
 mod first;
 mod first_rows;
 mod scripts;
 
-pub use causes::Cause;
 pub use first::read_first;
-pub use first_rows::{priorities, read_script_by_example, refused_scripts};
+pub use first_rows::{read_script_by_example, refused_scripts};
+pub use solv_commands::Cause;
 pub use scripts::{EvrCheck, Kinds, Script, ScriptFault};

@@ -1,5 +1,5 @@
 //! What is read of a script.
-use crate::causes::Cause;
+use solv_commands::Cause;
 use solv_base::Cmp;
 use solv_list::{Bytes, Items, Text};
 use solv_pool::Task;

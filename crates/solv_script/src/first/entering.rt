@@ -6,7 +6,7 @@ ghost use Rattle.solv_script.specs.FirstScript.{State, entered, with_names};
 ghost use Rattle.solv_script.specs.FirstStop.{IsStop, stop_of};
 ghost use Rattle.solv_script.specs.FirstEntering.{AreWithin, HaveTexts};
 
-use crate::causes::Cause;
+use solv_commands::Cause;
 use crate::first::stops::Stop;
 use solv_base::{NameId, Pool, PoolFault};
 

@@ -10,7 +10,7 @@ ghost use Rattle.solv_script.specs.FirstScript.{signs, is_plain_name, with_job, 
 ghost use Rattle.solv_script.specs.FirstStop.{IsStop, unheld_stop};
 ghost use Rattle.solv_script.specs.FirstEntering.{asked_job, EntersRelation, IsRelationStop};
 
-use crate::causes::Cause;
+use solv_commands::Cause;
 use crate::first::entering::{enter, stop_at};
 use crate::first::marks::is_marked;
 use crate::first::reader::Reader;

@@ -7,7 +7,7 @@ ghost use Rattle.solv_script.specs.FirstStop.{IsStop};
 ghost use Rattle.solv_script.specs.FirstWalk.{bare, opens, left, IsInRepo};
 ghost use Rattle.solv_script.specs.Items.{items, own_words};
 
-use crate::causes::Cause;
+use solv_commands::Cause;
 use crate::first::reader::Reader;
 use crate::first::stops::Stop;
 use crate::first::words::begins_with;

@@ -6,7 +6,7 @@ ghost use Rattle.solv_script.specs.FirstReader.{package_of, state_of};
 ghost use Rattle.solv_script.specs.FirstScript.{evr_text, with_package, package_row, inline_row};
 ghost use Rattle.solv_script.specs.FirstStop.{IsStop};
 
-use crate::causes::Cause;
+use solv_commands::Cause;
 use crate::first::entering::{PackageIds, enter_package};
 use crate::first::marks::{make_room, mark};
 use crate::first::reader::Reader;

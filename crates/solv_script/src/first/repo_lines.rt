@@ -4,12 +4,12 @@ ghost use Rattle.solv_io.specs.Words.{words_of};
 ghost use Rattle.solv_script.specs.FirstReader.{state_of};
 ghost use Rattle.solv_script.specs.FirstScript.{with_repo, repo_row};
 ghost use Rattle.solv_script.specs.FirstStop.{IsStop};
-ghost use Rattle.solv_script.specs.Numbers.{priority};
+ghost use Rattle.solv_commands.specs.Numbers.{priority};
 ghost use Rattle.solv_script.specs.FirstWalk.{bare, opens, IsInRepo};
 
-use crate::causes::Cause;
+use solv_commands::Cause;
 use crate::first::entering::{enter, stop_at};
-use crate::first::priorities::read_priority;
+use solv_commands::read_priority;
 use crate::first::reader::Reader;
 use crate::first::stops::Stop;
 use crate::first::words::{four_words, three_words};

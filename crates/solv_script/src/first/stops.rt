@@ -1,5 +1,5 @@
 //! Why the reading of a script stops.
-use crate::causes::Cause;
+use solv_commands::Cause;
 
 /// Why no more is read.
 #[derive(Clone, Copy)]

@@ -1,6 +1,6 @@
 //! Why a line of a script is refused.
 ghost use Rattle.std.specs.Prelude.{◌≡◌};
-ghost use Rattle.solv_script.specs.Causes.{cause_name};
+ghost use Rattle.solv_commands.specs.Causes.{cause_name};
 
 /// The cause for which a line of a script, or of a file that it names, is refused. The names are those that are printed.
 #[derive(Clone, Copy, PartialEq, Eq, Debug)]

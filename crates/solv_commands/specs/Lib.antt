@@ -1,0 +1,7 @@
+pub mod Causes
+pub mod Numbers
+pub mod Commas
+pub mod Commands
+pub mod SolverFlags
+pub mod Borrowed
+pub mod Examples

@@ -1,0 +1,35 @@
+//! The lines of a script in libsolv's testcase format, each by itself: what its words say, or the first cause for which
+//! they say nothing.
+//!
+//! - [`read_command`]: what a line says, a [`Command`], of which a job's selection is [`Asked`]. It borrows the words of the line.
+//! - [`line_words`]: the words of a line; [`append_joined`]: words joined by one space.
+//! - [`set_flags`]: what the words of a `solverflags` line do to the flags.
+//! - [`read_priority`]: the number that a priority is.
+//! - [`Cause`]: why a line of a script is refused, here or by the layers above.
+//! - Examples on which the definitions are evaluated: [`repo_lines`], [`system_lines`], [`other_lines`], [`job_lines`],
+//!   [`job_flags`], [`selections`], [`solver_flags`], [`unknown_lines`], [`priorities_of_words`].
+#![tactic(auto)]
+
+mod causes;
+mod commands;
+mod commas;
+mod flags_of_jobs;
+mod flags_of_solver;
+mod job_words;
+mod other_words;
+mod priorities;
+mod rows;
+mod words_of_lines;
+
+pub use causes::Cause;
+pub use commands::{Asked, Command, read_command};
+pub use flags_of_solver::set_flags;
+pub use priorities::read_priority;
+pub use rows::{
+    job_flags, job_lines, other_lines, priorities_of_words, repo_lines, selections, solver_flags,
+    system_lines, unknown_lines,
+};
+pub use words_of_lines::{append_joined, line_words};
+
+#[cfg(test)]
+mod tests;
