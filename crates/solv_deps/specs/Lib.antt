@@ -4,6 +4,7 @@ pub mod Table
 pub mod Drafts
 pub mod Points
 pub mod Entering
+pub mod Singles
 pub mod Reading
 pub mod Canonical
 pub mod Appending

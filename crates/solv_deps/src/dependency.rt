@@ -6,6 +6,7 @@ ghost use Rattle.solv_deps.specs.declared.fault.DepFault.{DepFault as Cause};
 ghost use Rattle.solv_deps.specs.Drafts.{said};
 ghost use Rattle.solv_deps.specs.Table.{stands_at};
 ghost use Rattle.solv_deps.specs.Reading.{dependency};
+ghost use Rattle.solv_deps.specs.Singles.{capability_of};
 ghost use Rattle.solv_deps.specs.Entering.{text_entered, relation_entered, dependency_entered, text_read, IsEntered, IsRefusal, IsOfPool, refusal, link_node};
 
 use crate::draft::{Draft, Written};
@@ -13,6 +14,7 @@ use crate::fault::DepFault;
 use crate::place::Place;
 use crate::reading::read_tree;
 use crate::sign::Joint;
+use crate::single::{Single, single_of};
 use solv_base::{Cmp, DepId, DepNode, NameId, Pool, PoolFault};
 
 /// The refusal that a pool's is.
@@ -161,9 +163,21 @@ fn may_stand(draft: &Draft<'_>, number: u8, place: Place) -> bool
     }
 }
 
-/// The dependency that a text spells at a place. Its texts are entered from left to right, and each relation directly
-/// after its operands; a text with a cause of its own enters nothing. After a refusal the pool may hold more than before.
-pub fn read_dep(pool: &mut Pool, text: &[u8], place: Place) -> Result<DepId, DepFault>
+/// Enters a name, or a name with a comparison and an EVR.
+fn enter_single(pool: &mut Pool, single: &Single<'_>) -> Result<DepId, DepFault>
+    ensures entered { IfOk result (λ id. IsEntered (one (capability_of single.now)) pool.old pool.new id) }
+    ensures refused { IfErr result (λ e. IsRefusal e (dependency_entered (one (capability_of single.now)) pool.old)) }
+    ensures of_pool { IfErr result IsOfPool }
+    ensures grows { Grows pool.old pool.new }
+{
+    match single {
+        Single::Name(name) => enter_simple(pool, name),
+        Single::Versioned(name, cmp, evr) => enter_versioned(pool, name, *cmp, evr),
+    }
+}
+
+/// The dependency that any text spells at a place.
+fn read_any(pool: &mut Pool, text: &[u8], place: Place) -> Result<DepId, DepFault>
     ensures read { IfOk result (λ id. dependency place text.now ≡ Ok (text_tree pool.new id)) }
     ensures within { IfOk result (λ id. id < length pool.new.nodes) }
     ensures entered { IfOk result (λ id. text_read place text.now pool.old ≡ Ok (record { id = id; held = pool.new })) }
@@ -178,4 +192,21 @@ pub fn read_dep(pool: &mut Pool, text: &[u8], place: Place) -> Result<DepId, Dep
         return Err(DepFault::OperatorNotHere);
     }
     enter(pool, &draft, number)
+}
+
+/// The dependency that a text spells at a place. Its texts are entered from left to right, and each relation directly
+/// after its operands; a text with a cause of its own enters nothing. After a refusal the pool may hold more than before.
+pub fn read_dep(pool: &mut Pool, text: &[u8], place: Place) -> Result<DepId, DepFault>
+    ensures read { IfOk result (λ id. dependency place text.now ≡ Ok (text_tree pool.new id)) }
+    ensures within { IfOk result (λ id. id < length pool.new.nodes) }
+    ensures entered { IfOk result (λ id. text_read place text.now pool.old ≡ Ok (record { id = id; held = pool.new })) }
+    ensures cause { (e : Cause) → (IsOfPool e → ⊥) → (result ≡ Err e ↔ dependency place text.now ≡ Err e) }
+    ensures unchanged { (e : Cause) → dependency place text.now ≡ Err e → pool.new ≡ pool.old }
+    ensures refused { IfErr result (λ e. IsRefusal e (text_read place text.now pool.old)) }
+    ensures grows { Grows pool.old pool.new }
+{
+    match single_of(text) {
+        Some(single) => enter_single(pool, &single),
+        None => read_any(pool, text, place),
+    }
 }

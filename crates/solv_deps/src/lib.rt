@@ -25,6 +25,7 @@ mod printing;
 mod reading;
 mod rows;
 mod sign;
+mod single;
 
 pub use dependency::{enter_text, read_dep};
 pub use fault::DepFault;
