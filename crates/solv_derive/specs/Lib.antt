@@ -1,0 +1,7 @@
+pub mod Forced
+pub mod Logs
+pub mod Leaves
+pub mod Range
+pub mod Laws
+pub mod Marks
+pub mod Examples
