@@ -151,6 +151,13 @@ impl Pool {
         Ok(DepId(place as u32))
     }
 
+    /// How many relations are held: each id is below.
+    pub fn relation_count(&self) -> usize
+        ensures { result ≡ length self.now.nodes }
+    {
+        self.relations.len()
+    }
+
     /// The relation of an id.
     pub fn dep(&self, id: DepId) -> DepNode
         requires { id < length self.now.nodes }

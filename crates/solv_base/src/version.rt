@@ -122,7 +122,7 @@ fn compare_releases(a: Option<&[u8]>, b: Option<&[u8]>) -> Ordering
 
 /// Whether a provide with an EVR meets a dependency that wants one, both of one name.
 ///
-/// Two open ranges on the same side always meet. Otherwise the order decides, except that where epoch and version are equal and one side alone has no release, that side stands for every release: it meets where its own comparison has equal.
+/// Two ranges that are unbounded on the same side always meet. Otherwise the order decides, except that where epoch and version are equal and one side alone has no release, that side stands for every release: it meets where its own comparison has equal.
 pub fn evr_meets(provide: Cmp, have: &[u8], wanted: Cmp, want: &[u8]) -> bool
     ensures { result ≡ meets provide have.now wanted want.now }
 {
@@ -130,7 +130,7 @@ pub fn evr_meets(provide: Cmp, have: &[u8], wanted: Cmp, want: &[u8]) -> bool
         || meets_by_table(provide, &evr_split(have), wanted, &evr_split(want))
 }
 
-/// Whether both are open below or both above.
+/// Whether both are unbounded below or both above.
 fn same_side(provide: Cmp, wanted: Cmp) -> bool
     ensures { result ≡ same_side provide wanted }
 {

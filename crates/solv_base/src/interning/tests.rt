@@ -25,6 +25,7 @@ fn interns_many_texts(rt: HostRuntime) -> Result<(), Fail> {
     }
     let empty = pool.intern(b"")?;
     let odd = pool.intern(b"\xff \0")?;
+    assert_eq!(rt; pool.name_count(), 10_002);
     assert_eq!(rt; empty, NameId(10000));
     assert_eq!(rt; odd, NameId(10001));
     assert_eq!(rt; pool.name(odd), b"\xff \0".as_slice());
@@ -132,5 +133,6 @@ fn tells_operands_by_their_order(rt: HostRuntime) -> Result<(), Fail> {
     expect_id(&rt, &mut pool, DepNode::Or(a, b), 3, true)?;
     expect_id(&rt, &mut pool, DepNode::Or(b, a), 4, true)?;
     assert_eq!(rt; pool.dep(a), DepNode::Simple(lib));
+    assert_eq!(rt; pool.relation_count(), 5);
     Ok(())
 }
