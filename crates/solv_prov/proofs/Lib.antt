@@ -1,0 +1,12 @@
+pub mod Booleans
+pub mod Chains
+pub mod Pieces
+pub mod Fronts
+pub mod Gathered
+pub mod Entries
+pub mod Provided
+pub mod Listed
+pub mod Obsoleting
+pub mod Relations
+pub mod Outcomes
+pub mod Turns

@@ -1,0 +1,28 @@
+//! Which packages meet a dependency, have a name, or obsolete a package.
+//!
+//! [`Providers`] is the index of a task: it is built once, and then answers without memory, each list ascending. It rests
+//! on the task's pool, universe and namespaces alone, so the jobs and the flags may change after it was built.
+//!
+//! `specs/Index` says what it holds, in the words of `solv_pool`'s `Providing` and `Holding`. The other modules of
+//! `specs/` are about how it is made, and no public contract names them.
+//!
+//! It is made by groups: what packages provide is put into groups by name, from the last package to the first, so each
+//! group is in order of packages; a relation then goes through the group of its name alone. The lists lie one behind
+//! another in one vector, with the place where each ends.
+#![tactic(auto)]
+
+mod by_relation;
+mod capability;
+mod groups;
+mod lists;
+mod namespaces;
+mod obsoletions;
+mod provider_rows;
+mod providers;
+mod provides;
+
+pub use provider_rows::rows_of_providers;
+pub use providers::Providers;
+
+#[cfg(test)]
+mod tests;
