@@ -5,3 +5,13 @@ pub mod ReaderStates
 pub mod NamesById
 pub mod SystemLines
 pub mod JobLines
+pub mod Finding
+pub mod TaskGrowth
+pub mod RowReadings
+pub mod PieceRuns
+pub mod ChoiceReadings
+pub mod FetchedFiles
+pub mod TagRefusals
+pub mod FileFolders
+pub mod FileRows
+pub mod AsciiNames

@@ -29,34 +29,11 @@ use Rattle.solv_script.specs.Reads.{first_flags, script_of}
 use Rattle.solv_commands.specs.declared.causes.Cause.TheVariants.{TooManyPackages}
 use Rattle.solv_script.specs.declared.first.stops.Stop.{Stop}
 use Rattle.solv_script.specs.declared.first.entering.PackageIds.{PackageIds}
-use Rattle.solv_script.proofs.WrittenTexts.{relations_stay, repos_stay, packages_stay, jobs_stay}
-
-all_weaker : {X : Type 0} (p q : X → Bool) → ((x : X) → p x ≡ true → q x ≡ true) → (xs : List X) → list_all p xs ≡ true → list_all q xs ≡ true
-all_weaker p q weaker [] h = refl
-all_weaker p q weaker (x ∷ xs) h =
-    rw (weaker x (elim (p x) as (λ b. (b && list_all p xs) ≡ true → b ≡ true) [ true ↦ λ e. refl | false ↦ λ e. e ] h))
-    (all_weaker p q weaker xs (elim (p x) as (λ b. (b && list_all p xs) ≡ true → list_all p xs ≡ true) [ true ↦ λ e. e | false ↦ λ e. absurd (cc) ] h))
-
-below_more : (m n k : ℕ) → m ≤ n → nat_lt k m ≡ true → nat_lt k n ≡ true
-below_more m n k le h = let lt : k < m = ltb-true k m h in lt-ltb k n (omega arith)
+use Rattle.solv_script.proofs.WrittenTexts.{all_weaker, below_more, jobs_more, relations_stay, repos_stay, packages_stay, jobs_stay}
 
 name_below_more : (m n : ℕ) → m ≤ n → (node : DepNode) → is_name_below m node ≡ true → is_name_below n node ≡ true
 name_below_more m n le (Simple k) h = below_more m n k le h
 name_below_more m n le _ h = h
-
-pack_more : (m n p : ℕ) → m ≤ n → is_pack m p ≡ true → is_pack n p ≡ true
-pack_more m n p le h = grind (arith, nat_tests)
-
-choice_more : (m n k l : ℕ) → m ≤ n → k ≤ l → (choice : Choice) → choice_fits m k choice ≡ true → choice_fits n l choice ≡ true
-choice_more m n k l le le' (Pkg p) h = pack_more k l p le' h
-choice_more m n k l le le' (Name d) h = below_more m n d le h
-choice_more m n k l le le' (Provides d) h = below_more m n d le h
-choice_more m n k l le le' (OneOf ps) h = all_weaker (is_pack k) (is_pack l) (λ p. pack_more k l p le') ps h
-choice_more m n k l le le' All h = h
-choice_more m n k l le le' Nothing h = h
-
-jobs_more : (m n k l : ℕ) → m ≤ n → k ≤ l → (jobs : List Job) → list_all (λ job. choice_fits m k job.choice) jobs ≡ true → list_all (λ job. choice_fits n l job.choice) jobs ≡ true
-jobs_more m n k l le le' jobs h = all_weaker (λ job. choice_fits m k job.choice) (λ job. choice_fits n l job.choice) (λ job. choice_more m n k l le le' job.choice) jobs h
 
 -- a reader whose pool grew by names, and by relations that are names
 pub IsReader-grows : (old new : Held) (universe : Contents) (system : Option ℕ) (jobs : List Job) (marks : List Bool) → Grows old new

@@ -22,7 +22,7 @@ place_map : {X Y : Type 0} (p : Y → Bool) (f : X → Y) (xs : List X) → posi
 place_map p f [] = refl
 place_map p f (x ∷ xs) = ap (λ n. cond (not (p (f x))) (1 + n) 0) (place_map p f xs)
 
-position_map : {X Y : Type 0} (p : Y → Bool) (f : X → Y) (xs : List X) → position p (map f xs) ≡ position (λ x. p (f x)) xs
+pub position_map : {X Y : Type 0} (p : Y → Bool) (f : X → Y) (xs : List X) → position p (map f xs) ≡ position (λ x. p (f x)) xs
 position_map p f xs = rw (place_map p f xs, length-map xs f) refl
 
 some_is : (o : Option ℕ) → is_some o ≡ true → is_none o ≡ false

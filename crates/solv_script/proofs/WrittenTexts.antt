@@ -1,15 +1,16 @@
 -- What is written over a pool stays while the pool grows.
-use Rattle.std.proofs.Common.{◌≡◌, ℕ, Bool, true, List, [], ◌∷◌, ◌++◌, map, length, Option, Some, None, refl, sym, ap, ◌∙◌}
+use Rattle.std.proofs.Common.{◌≡◌, ℕ, ◌<◌, ◌≤◌, Bool, true, List, [], ◌∷◌, ◌++◌, map, length, Option, Some, None, false, refl, sym, ap, ◌∙◌, arith}
 use Rattle.std.specs.Prelude.{nat_lt, ◌&&◌, option_to_list}
 use Rattle.std.specs.Option.{option_map}
 use Rattle.std.specs.List.{list_all}
-use Rattle.std.proofs.lemmas.Bool.{ltb-true}
+use Rattle.std.proofs.lemmas.Bool.{ltb-true, lt-ltb}
+use Rattle.std.proofs.lemmas.Bool.Decides.{nat_tests}
 use Rattle.std.proofs.lemmas.List.Folds.{list_all-append}
 use Rattle.solv_base.specs.Pool.{Held, Grows, text_at, text_tree}
 use Rattle.solv_base.specs.declared.relation.DepNode.{DepNode}
 use Rattle.solv_base.specs.declared.relation.DepNode.TheVariants.{Simple}
 use Rattle.solv_pool.specs.Belonging.{fits, names_of, relations_of}
-use Rattle.solv_pool.specs.TaskBelonging.{choice_fits}
+use Rattle.solv_pool.specs.TaskBelonging.{is_pack, choice_fits}
 use Rattle.solv_pool.specs.Written.{WrittenNeed, written_repo, written_package, written_choice, written_job}
 use Rattle.solv_pool.specs.declared.jobs.Choice.{Choice}
 use Rattle.solv_pool.specs.declared.jobs.Choice.TheVariants.{Pkg, Name, Provides, OneOf, All, Nothing}
@@ -124,3 +125,26 @@ module _ (old new : Held) (grows : Grows old new) where
   pub jobs_stay : (count : ℕ) (jobs : List Job) → list_all (λ job. choice_fits (length old.nodes) count job.choice) jobs ≡ true → map (written_job new) jobs ≡ map (written_job old) jobs
   jobs_stay count jobs h =
       same_map (λ job. choice_fits (length old.nodes) count job.choice) (written_job new) (written_job old) (λ job e. rw (choice_stays count job.choice e) refl) jobs h
+
+pub all_weaker : {X : Type 0} (p q : X → Bool) → ((x : X) → p x ≡ true → q x ≡ true) → (xs : List X) → list_all p xs ≡ true → list_all q xs ≡ true
+all_weaker p q weaker [] h = refl
+all_weaker p q weaker (x ∷ xs) h =
+    rw (weaker x (elim (p x) as (λ b. (b && list_all p xs) ≡ true → b ≡ true) [ true ↦ λ e. refl | false ↦ λ e. e ] h))
+    (all_weaker p q weaker xs (elim (p x) as (λ b. (b && list_all p xs) ≡ true → list_all p xs ≡ true) [ true ↦ λ e. e | false ↦ λ e. absurd (cc) ] h))
+
+pub below_more : (m n k : ℕ) → m ≤ n → nat_lt k m ≡ true → nat_lt k n ≡ true
+below_more m n k le h = let lt : k < m = ltb-true k m h in lt-ltb k n (omega arith)
+
+pub pack_more : (m n p : ℕ) → m ≤ n → is_pack m p ≡ true → is_pack n p ≡ true
+pack_more m n p le h = grind (arith, nat_tests)
+
+pub choice_more : (m n k l : ℕ) → m ≤ n → k ≤ l → (choice : Choice) → choice_fits m k choice ≡ true → choice_fits n l choice ≡ true
+choice_more m n k l le le' (Pkg p) h = pack_more k l p le' h
+choice_more m n k l le le' (Name d) h = below_more m n d le h
+choice_more m n k l le le' (Provides d) h = below_more m n d le h
+choice_more m n k l le le' (OneOf ps) h = all_weaker (is_pack k) (is_pack l) (λ p. pack_more k l p le') ps h
+choice_more m n k l le le' All h = h
+choice_more m n k l le le' Nothing h = h
+
+pub jobs_more : (m n k l : ℕ) → m ≤ n → k ≤ l → (jobs : List Job) → list_all (λ job. choice_fits m k job.choice) jobs ≡ true → list_all (λ job. choice_fits n l job.choice) jobs ≡ true
+jobs_more m n k l le le' jobs h = all_weaker (λ job. choice_fits m k job.choice) (λ job. choice_fits n l job.choice) (λ job. choice_more m n k l le le' job.choice) jobs h

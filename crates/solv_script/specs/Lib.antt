@@ -6,3 +6,13 @@ pub mod FirstStop
 pub mod FirstWalk
 pub mod FirstEntering
 pub mod FirstReader
+pub mod FileNames
+pub mod ScriptLines
+pub mod States
+pub mod LineCauses
+pub mod Rows
+pub mod Grammar
+pub mod Halts
+pub mod FileRuns
+pub mod Readings
+pub mod ScriptExamples

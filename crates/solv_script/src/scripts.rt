@@ -1,6 +1,6 @@
 //! What is read of a script.
-use solv_commands::Cause;
 use solv_base::Cmp;
+use solv_commands::Cause;
 use solv_list::{Bytes, Items, Text};
 use solv_pool::Task;
 

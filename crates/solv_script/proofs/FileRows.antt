@@ -1,0 +1,182 @@
+-- The lines of repositories, as pieces of a script.
+use Rattle.std.proofs.Common.{◌≡◌, ℕ, true, false, Bool, List, [], ◌∷◌, ◌++◌, Option, Some, None, Result, Ok, Err, refl, sym, ap, subst, ◌∙◌}
+use Rattle.std.specs.Prelude.{IfSome, IsSomeAnd, IsOkAnd, IsOk, OnOk, IfErr, codes, take, length}
+use Rattle.std.specs.Option.{option_map}
+use Rattle.std.specs.Str.{bytes_eq, is_utf8, IsUtf8}
+use Rattle.std.proofs.lemmas.Str.{IsUtf8-from_is_utf8, is_utf8-from_IsUtf8}
+use Rattle.solv_io.specs.Counters.{Rose}
+use Rattle.solv_io.specs.Lines.{lines_of}
+use Rattle.solv_io.specs.Words.{words_of}
+use Rattle.solv_commands.specs.Commands.{Command, command}
+use Rattle.solv_commands.specs.declared.causes.Cause.{Cause}
+use Rattle.solv_commands.specs.declared.causes.Cause.TheVariants.{Compressed, BadFileName}
+use Rattle.solv_script.specs.FileNames.{fetched_name, is_compressed}
+use Rattle.solv_script.specs.FileRuns.{FilesRun, AskedBesides, bytes_in, Piece, HasGiven, IsRead, HasEnded, IsWant, IsReadFault, row_piece, lines_piece, script_piece}
+use Rattle.solv_script.specs.Grammar.{Bad, Row, counted, done, asks, at_line, inline, with_lines, file_named, file_row, lines_row, command_row, said_row, row, fetched_given, lines_given, script_read}
+use Rattle.solv_script.specs.Halts.{IsHalt, IsRefusal}
+use Rattle.solv_script.specs.Items.{own_words}
+use Rattle.solv_script.specs.Rows.{plain_row}
+use Rattle.solv_script.specs.Reads.{written_script}
+use Rattle.solv_script.specs.ScriptLines.{ScriptLine, script_lines}
+use Rattle.solv_script.specs.States.{State, no_line, script_given}
+use Rattle.solv_script.specs.declared.scripts.Script.{Script}
+use Rattle.solv_script.specs.declared.scripts.ScriptFault.{ScriptFault}
+use Rattle.solv_script.specs.declared.scripts.ScriptFault.TheVariants.{Refused, ReadFault, Memory}
+use Rattle.solv_script.specs.declared.whole.halts.Halt.{Halt}
+use Rattle.solv_script.proofs.FetchedFiles.{file_given}
+use Rattle.solv_script.proofs.PieceRuns.{Contents, Asked, quiet, quiet_given, quiet_ended, quiet_want, fetched_all, fetched_ended, not_fetched, asked_none, if_some, if_all}
+
+pub on_ok : {T E P Q : Type 0} (r : Result T E) → (P → Q) → OnOk r P → OnOk r Q
+on_ok (Ok x) f h = f h
+on_ok (Err e) f h = tt
+
+pub ok_from : {A B T E : Type 0} (P : Type 0) (r : Result A B) (t : Result T E) → OnOk r (IsOk t) → OnOk t P → OnOk r P
+ok_from P (Ok x) (Ok y) h k = k
+ok_from P (Ok x) (Err e) h k = absurd (let no : false ≡ true = h in cc)
+ok_from P (Err e) t h k = tt
+
+pub if_err : {T E : Type 0} {P Q : E → Type 0} (r : Result T E) → ((e : E) → P e → Q e) → IfErr r P → IfErr r Q
+if_err (Ok x) f h = tt
+if_err (Err e) f h = f e h
+
+-- the names told stay where none is asked
+pub asked_same : (a : Asked) → option_map (λ names. names) a ≡ a
+asked_same None = refl
+asked_same (Some names) = refl
+
+module _ (script : List ℕ) (s : State) (n : ℕ) (file : List ℕ) where
+  pub compressed : is_compressed file ≡ true → file_row script s n file ≡ done (Err (record { file = script; line = n; cause = Compressed }))
+  compressed h = rw h refl
+
+  pub bad_name : is_compressed file ≡ false → (IsUtf8 file → ⊥) → file_row script s n file ≡ done (Err (record { file = script; line = n; cause = BadFileName }))
+  bad_name h other =
+      let no : is_utf8 file ≡ false = elim (is_utf8 file) as (λ b. is_utf8 file ≡ b → b ≡ false) [ true ↦ λ e. absurd (other (IsUtf8-from_is_utf8 file e)) | false ↦ λ e. refl ] refl in
+      rw (h, no) refl
+
+  pub good_name : is_compressed file ≡ false → IsUtf8 file → file_row script s n file ≡ asks (fetched_name script file) (fetched_given script s n (fetched_name script file))
+  good_name h utf8 = rw (h, is_utf8-from_IsUtf8 file utf8) refl
+
+module _ (script : List ℕ) (s : State) (n : ℕ) (file : List ℕ) (contents : Contents) (asked : Asked) (faults : ℕ) where
+  pub compressed_ended : (fault : ScriptFault) → is_compressed file ≡ true → IsRefusal {A = State} fault (Err (record { file = script; line = n; cause = Compressed }))
+      → HasEnded (row_piece (file_row script s n file)) (quiet contents asked faults) fault
+  compressed_ended fault h refused = rw (compressed script s n file h) (quiet_ended contents asked faults (Err (record { file = script; line = n; cause = Compressed })) fault refused)
+
+  pub bad_name_ended : (fault : ScriptFault) → is_compressed file ≡ false → (IsUtf8 file → ⊥) → IsRefusal {A = State} fault (Err (record { file = script; line = n; cause = BadFileName }))
+      → HasEnded (row_piece (file_row script s n file)) (quiet contents asked faults) fault
+  bad_name_ended fault h other refused = rw (bad_name script s n file h other) (quiet_ended contents asked faults (Err (record { file = script; line = n; cause = BadFileName })) fault refused)
+
+-- the reading of a piece ended for want of memory before a name was asked for
+pub want_same : (piece : Piece) (files : FilesRun) → files.asked_after ≡ option_map (λ names. names) files.asked_before → IsWant piece files
+want_same piece files h = record {
+  names = [];
+  asked = h ∙ asked_same files.asked_before ∙ asked_none files.asked_before;
+  due = if_all files.contents (λ held. record { behind = piece.due (bytes_in held); is = refl });
+}
+
+-- a file that was fetched
+module _ (script : List ℕ) (s : State) (n : ℕ) (file : List ℕ) (files : FilesRun) (h : is_compressed file ≡ false) (utf8 : IsUtf8 file) (name : List ℕ) (named : name ≡ fetched_name script file)
+    (asked : AskedBesides files (name ∷ [])) where
+  abbrev next : List ℕ → Result State Bad
+  next = fetched_given script s n name
+
+  row_is : file_row script s n file ≡ asks name next
+  row_is = good_name script s n file h utf8 ∙ ap (λ m. asks m (fetched_given script s n m)) (sym named)
+
+  pub fault_read : Rose files.faults_before files.faults_after → IsReadFault (row_piece (file_row script s n file)) files name
+  fault_read rose = rw row_is (not_fetched files name next asked rose)
+
+  module _ (start got again read : List ℕ) (empty : start ≡ []) (same_name : again ≡ name) (same_bytes : read ≡ got)
+      (bytes : IfSome files.contents (λ held. IsSomeAnd (held name) (λ bytes. got ≡ start ++ take 67108865 bytes))) (quiet : files.faults_after ≡ files.faults_before) where
+    there : IfSome files.contents (λ held. fetched_given script s n again read ≡ next (bytes_in held name))
+    there =
+        let whole : IfSome files.contents (λ held. IsSomeAnd (held name) (λ bytes. got ≡ [] ++ take 67108865 bytes))
+        = subst (λ (l : List ℕ). IfSome files.contents (λ held. IsSomeAnd (held name) (λ bytes. got ≡ l ++ take 67108865 bytes))) empty bytes in
+        let same : fetched_given script s n again read ≡ fetched_given script s n name got = ap (λ m. fetched_given script s n m read) same_name ∙ ap (fetched_given script s n name) same_bytes in
+        if_some files.contents (λ held b. same ∙ file_given script s n name held name got b) whole
+
+    pub fetched_read : (t : State) → fetched_given script s n again read ≡ Ok t → HasGiven (row_piece (file_row script s n file)) files t
+    fetched_read t is = rw row_is (fetched_all files name next asked t (if_some files.contents (λ held e. sym e ∙ is) there) quiet)
+
+    pub fetched_refused : (fault : ScriptFault) → IsRefusal fault (fetched_given script s n again read) → HasEnded (row_piece (file_row script s n file)) files fault
+    fetched_refused fault is =
+        rw row_is (fetched_ended files name next asked fault (if_some files.contents (λ held e. subst (λ (given : Result State Bad). IsRefusal fault given) e is) there) (fetched_given script s n again read) is quiet)
+
+-- a line that gives this
+module _ (script : List ℕ) (s : State) (line : ScriptLine) where
+  pub command_then : (c : Command) (t : State) (file : Option (List ℕ)) → plain_row s c ≡ Ok t → file_named c ≡ file → command_row script s line c ≡ lines_row script t line file
+  command_then c t file h k = rw (h, k) refl
+
+  pub said_there : (first : List ℕ) (others : List (List ℕ)) → bytes_eq (take 1 line.text) (codes "#") ≡ false → words_of line.text ≡ first ∷ others → row script s line ≡ said_row script s line (command first others)
+  said_there first others h k = rw (h, k) refl
+
+  pub row_said : (first : List ℕ) (others : List (List ℕ)) (c : Command) → bytes_eq (take 1 line.text) (codes "#") ≡ false → words_of line.text ≡ first ∷ others → command first others ≡ Ok c → row script s line ≡ command_row script s line c
+  row_said first others c h k l = said_there first others h k ∙ ap (said_row script s line) l
+
+module _ (script : List ℕ) (s : State) (line : ScriptLine) (contents : Contents) (asked : Asked) (faults : ℕ) where
+  pub inline_ended : (file : List ℕ) (fault : ScriptFault) → bytes_eq file inline ≡ true → IsRefusal fault (with_lines s script line.block) → HasEnded (row_piece (lines_row script s line (Some file))) (quiet contents asked faults) fault
+  inline_ended file fault h refused = rw h (quiet_ended contents asked faults (with_lines s script line.block) fault refused)
+
+  command_halted_by : (c : Command) (given : Result State Cause) → plain_row s c ≡ given → (fault : ScriptFault) → IsRefusal fault (at_line script line.number given)
+      → HasEnded (row_piece (command_row script s line c)) (quiet contents asked faults) fault
+  command_halted_by c (Err x) is fault h = rw is (quiet_ended contents asked faults (Err (record { file = script; line = line.number; cause = x })) fault h)
+  command_halted_by c (Ok t) is (Refused f n x) h = absurd (cc)
+  command_halted_by c (Ok t) is (ReadFault f) h = absurd h
+  command_halted_by c (Ok t) is Memory h = quiet_want contents asked faults (row_piece (command_row script s line c))
+
+  pub command_halted : (c : Command) (fault : ScriptFault) → IsRefusal fault (at_line script line.number (plain_row s c)) → HasEnded (row_piece (command_row script s line c)) (quiet contents asked faults) fault
+  command_halted c fault h = command_halted_by c (plain_row s c) refl fault h
+
+  pub row_unsaid : (first : List ℕ) (others : List (List ℕ)) (x : Cause) (fault : ScriptFault) → bytes_eq (take 1 line.text) (codes "#") ≡ false → words_of line.text ≡ first ∷ others → command first others ≡ Err x
+      → IsRefusal {A = State} fault (Err (record { file = script; line = line.number; cause = x })) → HasEnded (row_piece (row script s line)) (quiet contents asked faults) fault
+  row_unsaid first others x fault h k l refused =
+      rw (said_there script s line first others h k ∙ ap (said_row script s line) l) (quiet_ended contents asked faults (Err (record { file = script; line = line.number; cause = x })) fault refused)
+
+read_is : (given : Result State Bad) (s : State) (read : Script) → given ≡ Ok s → written_script read ≡ script_given s → IsOkAnd given (λ u. written_script read ≡ script_given u)
+read_is given s read e is = rw e is
+
+-- a script that is too long
+module _ (script bytes : List ℕ) (contents : Contents) (asked : Asked) (faults : ℕ) where
+  script_halted_by : (given : Result State Cause) → counted no_line (length bytes) ≡ given → (fault : ScriptFault) → IsRefusal fault (at_line script 1 given) → HasEnded (script_piece script bytes) (quiet contents asked faults) fault
+  script_halted_by (Err x) is (Refused f n c) h = record {
+    names = [];
+    asked = asked_none asked;
+    all_due = if_all contents (λ held. rw is refl);
+    first_bad = if_all contents (λ held. rw is h);
+    no_fault = refl;
+  }
+  script_halted_by (Err x) is (ReadFault f) h = absurd h
+  script_halted_by (Err x) is Memory h = quiet_want contents asked faults (script_piece script bytes)
+  script_halted_by (Ok t) is (Refused f n c) h = absurd (cc)
+  script_halted_by (Ok t) is (ReadFault f) h = absurd h
+  script_halted_by (Ok t) is Memory h = quiet_want contents asked faults (script_piece script bytes)
+
+  pub script_halted : (fault : ScriptFault) → IsRefusal fault (at_line script 1 (counted no_line (length bytes))) → HasEnded (script_piece script bytes) (quiet contents asked faults) fault
+  script_halted fault h = script_halted_by (counted no_line (length bytes)) refl fault h
+
+-- a script that is not
+module _ (script bytes : List ℕ) (t : State) (begun : counted no_line (length bytes) ≡ Ok t) (files : FilesRun) where
+  whole_given : (held : List ℕ → List ℕ) → script_read script held bytes ≡ lines_given script held t (script_lines 1 (lines_of bytes))
+  whole_given held = rw begun refl
+
+  whole_is : (held : List ℕ → List ℕ) (s : State) → lines_given script held t (script_lines 1 (lines_of bytes)) ≡ Ok s → script_read script held bytes ≡ Ok s
+  whole_is held s g = whole_given held ∙ g
+
+  pub script_whole : (s : State) (read : Script) → HasGiven (lines_piece script t (script_lines 1 (lines_of bytes))) files s → written_script read ≡ script_given s → IsRead (script_piece script bytes) files read
+  script_whole s read h is = record {
+    names = h.names;
+    asked = h.asked;
+    all_due = if_some files.contents (λ held d. rw begun d) h.all_due;
+    given = if_some files.contents (λ held g. read_is (script_read script (bytes_in held) bytes) s read (whole_is (bytes_in held) s g) is) h.given;
+    no_fault = h.no_fault;
+  }
+
+  pub script_ended : (fault : ScriptFault) → HasEnded (lines_piece script t (script_lines 1 (lines_of bytes))) files fault → HasEnded (script_piece script bytes) files fault
+  script_ended (Refused f n c) h = record {
+    names = h.names;
+    asked = h.asked;
+    all_due = if_some files.contents (λ held d. rw begun d) h.all_due;
+    first_bad = if_some files.contents (λ held g. rw begun g) h.first_bad;
+    no_fault = h.no_fault;
+  }
+  script_ended (ReadFault name) h = record { before = h.before; asked = h.asked; due = if_some files.contents (λ held d. rw begun d) h.due; rose = h.rose }
+  script_ended Memory h = record { names = h.names; asked = h.asked; due = if_some files.contents (λ held d. rw begun d) h.due }

@@ -1,0 +1,29 @@
+use Rattle.std.proofs.Common.{◌≡◌, Some, sym}
+use Rattle.solv_commands.specs.Borrowed.{command_of}
+use Rattle.solv_script.specs.Grammar.{command_row, lines_row}
+use Rattle.solv_script.specs.Readings.{state_of, line_before}
+use Rattle.solv_script.specs.Rows.{plain_row}
+use Rattle.solv_script.proofs.FileRows.{on_ok, if_err, command_then, command_halted}
+use Rattle.solv_script.proofs.whole.reader.Reader.command_row.Goals as goal
+
+pub returns-in-Ok-Some-clause-given : goal.returns-in-Ok-Some-clause-given
+returns-in-Ok-Some-clause-given g c =
+    let s = state_of c.args.self.now in
+    let said = command_of c.args.command.now in
+    let named = rw c.in-Ok-Some.field-0-is at c.in-Ok-Some.ensures.file in
+    on_ok c.lines_row.result (λ h text. rw (command_then c.args.script.now s (line_before c.args.line text c.args.behind.now) said (state_of c.plain_row.new.self) (Some c.in-Ok-Some.opened.file.now) c.in-Ok-Some.ensures.ok.is (sym named)) (h text)) c.lines_row.ensures.given
+
+pub returns-in-Ok-Some-clause-ended : goal.returns-in-Ok-Some-clause-ended
+returns-in-Ok-Some-clause-ended g c =
+    let s = state_of c.args.self.now in
+    let said = command_of c.args.command.now in
+    let named = rw c.in-Ok-Some.field-0-is at c.in-Ok-Some.ensures.file in
+    if_err c.lines_row.result (λ fault h text. rw (command_then c.args.script.now s (line_before c.args.line text c.args.behind.now) said (state_of c.plain_row.new.self) (Some c.in-Ok-Some.opened.file.now) c.in-Ok-Some.ensures.ok.is (sym named)) (h text)) c.lines_row.ensures.ended
+
+pub returns-in-Err-clause-ended : goal.returns-in-Err-clause-ended
+returns-in-Err-clause-ended g c = λ text.
+    let files = c.args.files.now in
+    let s = state_of c.args.self.now in
+    let said = command_of c.args.command.now in
+    command_halted c.args.script.now s (line_before c.args.line text c.args.behind.now) (g.F.Files.contents files) (g.F.Files.asked files) (g.F.Files.faults files) said c.halted.result
+    (c.halted.ensures (plain_row s said) c.in-Err.ensures.refused)

@@ -1,0 +1,34 @@
+-- What the reader of a script holds, as what the lines so far give.
+use Rattle.std.specs.Prelude.{ℕ, ◌≡◌, ◌+◌, ◌≤◌, List, map, is_some, Result, Ok}
+use Rattle.solv_io.specs.Lines.{lines_of}
+use Rattle.solv_pool.specs.TaskBelonging.{IsClosed}
+use Rattle.solv_pool.specs.Written.{written_task}
+use Rattle.solv_script.specs.Grammar.{most_script}
+use Rattle.solv_script.specs.Reads.{WrittenCheck}
+use Rattle.solv_script.specs.ScriptLines.{ScriptLine, inline_lines}
+use Rattle.solv_script.specs.States.{State}
+use Rattle.solv_script.specs.declared.scripts.EvrCheck.{EvrCheck}
+use Rattle.solv_script.specs.declared.whole.reader.Reader.{Reader}
+
+-- a comparison as it is written
+abbrev pub written_check : EvrCheck → WrittenCheck
+written_check check = record { left = check.left; op = check.op; right = check.right }
+
+-- the state that a reader stands for
+unfoldable pub state_of : Reader → State
+state_of r = record { bytes = r.bytes; held = r.task.pool; task = written_task r.task; checks = map written_check r.checks }
+
+-- what holds of a reader between two lines
+pub record IsReader (r : Reader) : Type 0 where
+  pub closed : IsClosed r.task
+  pub system : r.has_system ≡ is_some r.task.universe.arch
+  pub bytes : r.bytes ≤ most_script
+
+-- a reader has read what gives this
+pub record HasRead {E : Type 0} (r : Reader) (given : Result State E) : Type 0 where
+  pub is : given ≡ Ok (state_of r)
+  pub reader : IsReader r
+
+-- the line of this number, and the text behind it
+abbrev pub line_before : ℕ → List ℕ → List ℕ → ScriptLine
+line_before n text behind = record { number = n; text = text; block = inline_lines (n + 1) (lines_of behind) }

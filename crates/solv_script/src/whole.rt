@@ -1,0 +1,65 @@
+//! Whole scripts.
+//!
+//! - `reader`: what the lines so far gave. The lines fill it: `repo_lines`, `system_lines`, `namespace_lines`, `job_lines`,
+//!   `other_lines`; `rows` takes a line's command to one of them.
+//! - `files`: a repository's file, by `file_names`; `blocks`: a repository's inline lines.
+//! - `lines`: the lines of a script in turn.
+//! - `packages`, `choices`: what packages and dependencies of a line select. `halts`, `refusals`: why no more is read.
+ghost use Rattle.std.specs.Prelude.{◌≡◌, IfOk, IfErr};
+ghost use Rattle.solv_pool.specs.TaskBelonging.{IsClosed};
+ghost use Rattle.solv_script.specs.FileRuns.{script_piece, IsRead, HasEnded};
+
+mod blocks;
+mod choices;
+mod file_names;
+mod files;
+mod halts;
+mod job_lines;
+mod lines;
+mod namespace_lines;
+mod other_lines;
+mod packages;
+mod reader;
+mod refusals;
+mod repo_lines;
+mod rows;
+mod system_lines;
+
+use crate::scripts::{Script, ScriptFault};
+use crate::whole::reader::Reader;
+use crate::whole::refusals::halted;
+use solv_io::Files;
+use std::alloc::Global;
+
+/// Reads a script and the files that it names. `name` is the name of the script's own file, which a refusal at its lines
+/// carries, and in whose folder the other files are.
+///
+/// The first bad line is refused, and nothing is asked for behind it. A file that cannot be read ends the reading.
+pub fn read_script<F: Files>(
+    alloc: Global,
+    name: &str,
+    bytes: &[u8],
+    files: &mut F,
+) -> Result<Script, ScriptFault>
+    ensures read { IfOk result (λ script. IsRead (script_piece name.now bytes.now)
+        (record { contents = F.contents files.old; asked_before = F.asked files.old; asked_after = F.asked files.new; faults_before = F.faults files.old; faults_after = F.faults files.new })
+        script) }
+    ensures closed { IfOk result (λ script. IsClosed script.task) }
+    ensures ended { IfErr result (λ fault. HasEnded (script_piece name.now bytes.now)
+        (record { contents = F.contents files.old; asked_before = F.asked files.old; asked_after = F.asked files.new; faults_before = F.faults files.old; faults_after = F.faults files.new })
+        fault) }
+    ensures contents { F.contents files.new ≡ F.contents files.old }
+{
+    let mut reader = Reader::new(alloc);
+    match reader.count(bytes.len()) {
+        Ok(()) => {}
+        Err(halt) => return Err(halted(alloc, name, 1, halt)),
+    }
+    match reader.lines(name, bytes, files) {
+        Ok(()) => Ok(reader.finish()),
+        Err(fault) => Err(fault),
+    }
+}
+
+#[cfg(test)]
+mod tests;

@@ -1,0 +1,92 @@
+//! The reader of scripts.
+ghost use Rattle.std.specs.Prelude.{◌≡◌, OnOk, IfErr};
+ghost use Rattle.solv_pool.specs.TaskBelonging.{IsClosed};
+ghost use Rattle.solv_script.specs.Grammar.{counted};
+ghost use Rattle.solv_script.specs.Halts.{IsHalt};
+ghost use Rattle.solv_script.specs.Readings.{IsReader, HasRead, state_of};
+ghost use Rattle.solv_script.specs.Reads.{written_script};
+ghost use Rattle.solv_script.specs.States.{no_line, script_given};
+
+use crate::scripts::{EvrCheck, Kinds, Script};
+use crate::whole::halts::Halt;
+use solv_base::Pool;
+use solv_commands::Cause;
+use solv_list::Items;
+use solv_pool::{Flags, Task, Universe};
+use std::alloc::Global;
+
+/// The most bytes of one file.
+pub(crate) const MOST_FILE: usize = 67_108_864;
+
+/// The most bytes of a script and its files together.
+const MOST_SCRIPT: usize = 268_435_456;
+
+/// What the lines so far gave.
+#[derive(Drop)]
+pub(crate) struct Reader {
+    pub(crate) task: Task,
+    pub(crate) checks: Items<EvrCheck>,
+    /// The bytes of the script and of the files that it named.
+    pub(crate) bytes: usize,
+    /// Whether a `system` line stands before.
+    pub(crate) has_system: bool,
+}
+
+impl Reader {
+    /// Before the first line. It takes no memory.
+    pub(crate) fn new(alloc: Global) -> Reader
+        ensures state { state_of result ≡ no_line }
+        ensures reader { IsReader result }
+    {
+        Reader {
+            task: Task {
+                pool: Pool::new(alloc),
+                universe: Universe::new(alloc),
+                flags: Flags::default(),
+                namespaces: Items::wrap(Vec::new(alloc)),
+                jobs: Items::wrap(Vec::new(alloc)),
+            },
+            checks: Items::wrap(Vec::new(alloc)),
+            bytes: 0,
+            has_system: false,
+        }
+    }
+
+    /// Counts the bytes of one more file.
+    pub(crate) fn count(&mut self, size: usize) -> Result<(), Halt>
+        requires { IsReader self.old }
+        ensures ok { OnOk result (HasRead self.new (counted (state_of self.old) size)) }
+        ensures same { OnOk result (self.new.task ≡ self.old.task) }
+        ensures refused { IfErr result (λ h. IsHalt h (counted (state_of self.old) size)) }
+    {
+        if size > MOST_FILE {
+            return Err(Halt::Bad(Cause::FileTooLong));
+        }
+        if self.bytes + size > MOST_SCRIPT {
+            return Err(Halt::Bad(Cause::ScriptTooLong));
+        }
+        self.bytes += size;
+        Ok(())
+    }
+
+    /// The script, after the last line.
+    pub(crate) fn finish(self) -> Script
+        requires { IsReader self }
+        ensures script { written_script result ≡ script_given (state_of self) }
+        ensures closed { IsClosed result.task }
+    {
+        Script {
+            task: self.task,
+            kinds: Kinds {
+                transaction: true,
+                problems: true,
+                order: false,
+                reason: false,
+                userinstalled: false,
+                unneeded: false,
+            },
+            wanted: None,
+            checks: self.checks,
+        }
+    }
+}
