@@ -1,8 +1,20 @@
 use super::*;
 use solv_base::Cmp;
 use solv_pool::{Action, Flags};
-use std::alloc::AllocError;
+use std::alloc::{AllocError, Global};
 use std::test::Fail;
+
+/// The cause of a line, if it has one.
+fn cause_of(alloc: Global, line: &str) -> Result<Option<Cause>, Fail> {
+    let words = line_words(alloc, line.as_bytes())?;
+    match words.split_first() {
+        Some((first, others)) => match read_command(first, others) {
+            Ok(_) => Ok(None),
+            Err(cause) => Ok(Some(cause)),
+        },
+        None => Ok(None),
+    }
+}
 
 #[test]
 fn causes_stand_in_their_order(rt: HostRuntime) -> Result<(), Fail> {
@@ -46,9 +58,8 @@ fn causes_stand_in_their_order(rt: HostRuntime) -> Result<(), Fail> {
         ("job install all", Cause::BadWords),
         ("job install all others", Cause::BadWords),
     ] {
-        let words = line_words(rt.alloc(), line.as_bytes())?;
-        let got = read_command(words[0], &words[1..]);
-        assert_eq!(rt; got.err(), Some(cause), "{line}");
+        let got = cause_of(rt.alloc(), line)?;
+        assert_eq!(rt; got, Some(cause), "{line}");
     }
     Ok(())
 }

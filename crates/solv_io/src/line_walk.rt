@@ -37,7 +37,7 @@ impl<'a> Lines<'a> {
 }
 
 /// The first line of a text that is not empty, and the text behind its line feed.
-fn split_line(text: &[u8]) -> (&[u8], &[u8])
+pub fn split_line(text: &[u8]) -> (&[u8], &[u8])
     requires { 0 < length text.now }
     ensures first { lines_of text.now ≡ result.0.now ∷ lines_of result.1.now }
     ensures shorter { length result.1.now < length text.now }

@@ -271,3 +271,25 @@ fn blanks_are_spaces_tabs_and_carriage_returns(rt: HostRuntime) {
         assert_eq!(rt; is_blank(byte), blank, "{byte}");
     }
 }
+
+/// The first line of a text, and what is behind it.
+fn first_line(text: &[u8]) -> Option<(&[u8], &[u8])> {
+    if text.is_empty() {
+        return None;
+    }
+    Some(split_line(text))
+}
+
+#[test]
+fn the_first_line_is_split_off(rt: HostRuntime) {
+    for (text, line, behind) in [
+        ("a\nb\n", "a", "b\n"),
+        ("a", "a", ""),
+        ("a\n", "a", ""),
+        ("\n\nb", "", "\nb"),
+    ] {
+        let got = first_line(text.as_bytes());
+        assert_eq!(rt; got, Some((line.as_bytes(), behind.as_bytes())), "{text}");
+    }
+    assert_eq!(rt; first_line(b""), None);
+}

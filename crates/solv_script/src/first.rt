@@ -20,10 +20,10 @@ mod stops;
 mod system_lines;
 mod words;
 
-use solv_commands::Cause;
 use crate::first::reader::Reader;
 use crate::first::stops::Stop;
 use crate::scripts::{Script, ScriptFault};
+use solv_commands::Cause;
 use solv_list::Text;
 use std::alloc::Global;
 

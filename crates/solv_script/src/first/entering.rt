@@ -6,9 +6,9 @@ ghost use Rattle.solv_script.specs.FirstScript.{State, entered, with_names};
 ghost use Rattle.solv_script.specs.FirstStop.{IsStop, stop_of};
 ghost use Rattle.solv_script.specs.FirstEntering.{AreWithin, HaveTexts};
 
-use solv_commands::Cause;
 use crate::first::stops::Stop;
 use solv_base::{NameId, Pool, PoolFault};
+use solv_commands::Cause;
 
 /// Enters a text.
 pub(crate) fn enter(pool: &mut Pool, text: &[u8]) -> Result<NameId, PoolFault>

@@ -10,13 +10,13 @@ ghost use Rattle.solv_script.specs.FirstScript.{signs, is_plain_name, with_job, 
 ghost use Rattle.solv_script.specs.FirstStop.{IsStop, unheld_stop};
 ghost use Rattle.solv_script.specs.FirstEntering.{asked_job, EntersRelation, IsRelationStop};
 
-use solv_commands::Cause;
 use crate::first::entering::{enter, stop_at};
 use crate::first::marks::is_marked;
 use crate::first::reader::Reader;
 use crate::first::stops::Stop;
 use crate::first::words::{begins_with, three_words};
 use solv_base::{DepId, DepNode, NameId, Pool, PoolFault};
+use solv_commands::Cause;
 use solv_list::Bytes;
 use solv_pool::{Action, Choice, Job};
 use std::alloc::{AllocError, Global};

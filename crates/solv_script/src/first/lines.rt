@@ -7,10 +7,10 @@ ghost use Rattle.solv_script.specs.FirstStop.{IsStop};
 ghost use Rattle.solv_script.specs.FirstWalk.{bare, opens, left, IsInRepo};
 ghost use Rattle.solv_script.specs.Items.{items, own_words};
 
-use solv_commands::Cause;
 use crate::first::reader::Reader;
 use crate::first::stops::Stop;
 use crate::first::words::begins_with;
+use solv_commands::Cause;
 use solv_io::{lines, split_word};
 use solv_pool::RepoNo;
 

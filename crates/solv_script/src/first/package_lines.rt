@@ -6,12 +6,12 @@ ghost use Rattle.solv_script.specs.FirstReader.{package_of, state_of};
 ghost use Rattle.solv_script.specs.FirstScript.{evr_text, with_package, package_row, inline_row};
 ghost use Rattle.solv_script.specs.FirstStop.{IsStop};
 
-use solv_commands::Cause;
 use crate::first::entering::{PackageIds, enter_package};
 use crate::first::marks::{make_room, mark};
 use crate::first::reader::Reader;
 use crate::first::stops::Stop;
 use crate::first::words::{begins_with, four_words, is_heading};
+use solv_commands::Cause;
 use solv_list::Items;
 use solv_pool::{Package, RepoNo, Universe};
 use std::alloc::{AllocError, Global};

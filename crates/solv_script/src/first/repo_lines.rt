@@ -7,12 +7,11 @@ ghost use Rattle.solv_script.specs.FirstStop.{IsStop};
 ghost use Rattle.solv_commands.specs.Numbers.{priority};
 ghost use Rattle.solv_script.specs.FirstWalk.{bare, opens, IsInRepo};
 
-use solv_commands::Cause;
 use crate::first::entering::{enter, stop_at};
-use solv_commands::read_priority;
 use crate::first::reader::Reader;
 use crate::first::stops::Stop;
 use crate::first::words::{four_words, three_words};
+use solv_commands::{Cause, read_priority};
 use solv_pool::{RepoNo, UniverseFault};
 
 impl Reader {

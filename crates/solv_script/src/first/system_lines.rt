@@ -7,10 +7,10 @@ ghost use Rattle.solv_script.specs.FirstReader.{state_of, holds_package_of};
 ghost use Rattle.solv_script.specs.FirstScript.{with_system, system_row};
 ghost use Rattle.solv_script.specs.FirstStop.{IsStop};
 
-use solv_commands::Cause;
 use crate::first::reader::Reader;
 use crate::first::stops::Stop;
 use crate::first::words::three_words;
+use solv_commands::Cause;
 use solv_pool::{Arch, PackNo, RepoNo, Universe};
 
 /// Whether some package is of this repository.
