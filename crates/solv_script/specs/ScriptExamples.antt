@@ -26,6 +26,11 @@ abbrev pub map_given : {A : Type 0} → (State → A) → Result State Bad → O
 map_given f (Ok s) = Some (f s)
 map_given f (Err b) = None
 
+-- the bytes so far
+abbrev pub map_counted : Result State Cause → Result ℕ Cause
+map_counted (Ok s) = Ok s.bytes
+map_counted (Err c) = Err c
+
 -- what the script `case.t` gives, which names no file
 abbrev pub given : List ℕ → Result State Bad
 given text = script_read (codes "case.t") no_files text

@@ -3,7 +3,7 @@
 //! - [`read_script`] reads a script and the files that it names.
 //! - [`read_first`] reads scripts of packages without dependencies and jobs that install by name.
 //! - Examples on which the grammar is evaluated: [`lines_of_scripts`], [`repositories`], [`systems`], [`flags_of_scripts`],
-//!   [`packages_of_scripts`], [`comparisons_of_scripts`], [`jobs_of_scripts`], [`files_of_scripts`].
+//!   [`packages_of_scripts`], [`comparisons_of_scripts`], [`jobs_of_scripts`], [`files_of_scripts`], [`sizes_of_files`].
 //! - [`Script`] is what is read, [`ScriptFault`] why nothing is, [`Cause`] why a line is refused.
 #![tactic(auto)]
 
@@ -17,7 +17,7 @@ pub use first::read_first;
 pub use first_rows::{read_script_by_example, refused_scripts};
 pub use script_rows::{
     comparisons_of_scripts, files_of_scripts, flags_of_scripts, jobs_of_scripts, lines_of_scripts,
-    packages_of_scripts, repositories, systems,
+    packages_of_scripts, repositories, sizes_of_files, systems,
 };
 pub use scripts::{EvrCheck, Kinds, Script, ScriptFault};
 pub use solv_commands::Cause;

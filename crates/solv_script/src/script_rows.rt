@@ -1,12 +1,14 @@
 //! Examples on which the grammar of scripts is evaluated.
-ghost use Rattle.std.specs.Prelude.{◌≡◌, ◌∷◌, ◌++◌, [], codes, map, true, false, Some, None};
+ghost use Rattle.std.specs.Prelude.{◌≡◌, ◌∷◌, ◌++◌, [], ◌-◌, codes, map, true, false, Some, None, Ok, Err};
 ghost use Rattle.solv_base.specs.Dependency.{one, plain};
 ghost use Rattle.solv_base.specs.Pool.{Held};
 ghost use Rattle.solv_pool.specs.Written as written;
 ghost use Rattle.solv_pool.specs.declared.universes.Arch.TheVariants.{X86_64, I686};
-ghost use Rattle.solv_commands.specs.declared.causes.Cause.TheVariants.{BadWords, BadNumber, BadRepoType, DuplicateRepo, DuplicateSystem, BadArch, BadDisttype, UnknownRepo, UnknownFlag, BadNamespace, UnknownPackage, BadOperator, UnknownJob, UnknownJobFlag, FlagNotHere, UnknownSelection, SystemInJob, UnknownLine, Compressed, MissingOperand, OperatorNotHere, BadPackageLine, TagBeforePackage, UnclosedBlock, NotBuilt};
+ghost use Rattle.solv_commands.specs.declared.causes.Cause.TheVariants.{BadWords, BadNumber, BadRepoType, DuplicateRepo, DuplicateSystem, BadArch, BadDisttype, UnknownRepo, UnknownFlag, BadNamespace, UnknownPackage, BadOperator, UnknownJob, UnknownJobFlag, FlagNotHere, UnknownSelection, SystemInJob, UnknownLine, Compressed, FileTooLong, ScriptTooLong, MissingOperand, OperatorNotHere, BadPackageLine, TagBeforePackage, UnclosedBlock, NotBuilt};
 ghost use Rattle.solv_script.specs.Reads.{first_flags};
-ghost use Rattle.solv_script.specs.ScriptExamples.{at, bad_line, due_in_folder, given, given_in_folder, map_given, refused, with_packages};
+ghost use Rattle.solv_script.specs.Grammar.{counted};
+ghost use Rattle.solv_script.specs.States.{no_line};
+ghost use Rattle.solv_script.specs.ScriptExamples.{map_counted, at, bad_line, due_in_folder, given, given_in_folder, map_given, refused, with_packages};
 
 /// Comments, blank lines and inline lines that belong to no repository say nothing, and numbers go on over them. A block that
 /// is open at the end of a repository's lines is bad at the last of them.
@@ -102,6 +104,15 @@ pub fn jobs_of_scripts()
     ensures forcebest { map_given (λ s. map (λ j. j.forcebest) s.task.jobs) (given (codes "job install name A [forcebest]\njob install name A")) ≡ Some (true ∷ false ∷ []) }
     ensures text { map_given (λ s. map (λ j. j.text) s.task.jobs) (given (codes "job \tinstall  name A\t>= 1 [forcebest] \r")) ≡ Some (codes "install name A >= 1 [forcebest]" ∷ []) }
     ensures entered { map_given (λ s. s.held.names) (given (codes "job install name A >= 1\njob erase provides A")) ≡ Some (codes "A" ∷ codes "1" ∷ []) }
+{}
+
+/// The bytes of a file, and of a script and its files together.
+pub fn sizes_of_files()
+    ensures longest { map_counted (counted no_line 67108864) ≡ Ok 67108864 }
+    ensures too_long { map_counted (counted no_line 67108865) ≡ Err FileTooLong }
+    ensures together { map_counted (counted (record no_line { bytes = 268435456 - 67108864 }) 67108864) ≡ Ok 268435456 }
+    ensures too_long_together { map_counted (counted (record no_line { bytes = 268435456 }) 1) ≡ Err ScriptTooLong }
+    ensures file_first { map_counted (counted (record no_line { bytes = 268435456 }) 67108865) ≡ Err FileTooLong }
 {}
 
 /// Files: which are due, and by which names; a bad line of a file has the file's name and its own number.
