@@ -1,0 +1,7 @@
+pub mod Refuting
+pub mod Tables
+pub mod Collected
+pub mod Steps
+pub mod Levels
+pub mod Learnt
+pub mod Examples

@@ -1,0 +1,38 @@
+use Rattle.std.proofs.Common.{◌≡◌, ◌∙◌, ◌++◌, ◌∷◌, [], sym, subst, arith}
+use Rattle.std.specs.Prelude.{ℤ, List}
+use Rattle.solv_learn.specs.Collecting.{IsCollected}
+use Rattle.solv_learn.specs.Marks.{has}
+use Rattle.solv_learn.proofs.Collected.{IsAdded, collected_late, collected_between, collected_early}
+use Rattle.solv_learn.proofs.search.Search.mark.Goals as goal
+use Rattle.solv_learn.proofs.search.Search.mark.Goals.{After-insert}
+
+added : (c : After-insert) → IsAdded c.args.known.now.lits c.negated-fact.result (has c.args.self.now.marked) (has c.insert.new.self) c.place-place.result
+added c = record {
+  apart = record { apart = c.keep_apart.ensures.apart };
+  was = sym c.has.ensures ∙ c.if-has.false;
+  is = c.insert.ensures.has;
+  there = sym c.is_fact.ensures ∙ c.if-not-is_fact.false;
+  before = c.place-place.ensures.before;
+  within = c.place-place.ensures.within;
+}
+
+pub returns-then-place-last-clause-collected : goal.returns-then-place-last-clause-collected
+returns-then-place-last-clause-collected c = λ h.
+    let d = (goal.at.returns-then-place-last-clause-collected c).After-insert in
+    collected_late c.args.known.now.lits c.negated-fact.result (has c.args.self.now.marked) (has c.insert.new.self) c.place-place.result (added d)
+    c.args.first c.args.last c.args.self.now.clause.items c.args.self.now.lowest c.requires.order h c.min-self.result c.min-self.ensures (omega arith)
+
+pub returns-in_ok-push-clause-collected : goal.returns-in_ok-push-clause-collected
+returns-in_ok-push-clause-collected c = λ h.
+    let d = (goal.at.returns-in_ok-push-clause-collected c).After-insert in
+    let e : c.push.new.self.items ≡ c.args.self.now.clause.items ++ c.args.lit ∷ [] = c.in_ok-push.ensures.items in
+    let P : List ℤ → Type 0 = λ v. IsCollected c.args.known.now.lits c.args.first c.args.last (has c.insert.new.self) v c.args.self.now.lowest in
+    subst P (sym e)
+    (collected_between c.args.known.now.lits c.negated-fact.result (has c.args.self.now.marked) (has c.insert.new.self) c.place-place.result (added d)
+    c.args.first c.args.last c.args.self.now.clause.items c.args.self.now.lowest c.requires.order h c.args.lit (sym c.negated-fact.ensures.number) (omega arith) (omega arith))
+
+pub returns-else-place-first-clause-collected : goal.returns-else-place-first-clause-collected
+returns-else-place-first-clause-collected c = λ h.
+    let d = (goal.at.returns-else-place-first-clause-collected c).After-insert in
+    collected_early c.args.known.now.lits c.negated-fact.result (has c.args.self.now.marked) (has c.insert.new.self) c.place-place.result (added d)
+    c.args.first c.args.last c.args.self.now.clause.items c.args.self.now.lowest c.requires.order h (omega arith)

@@ -1,0 +1,5 @@
+pub mod Marks
+pub mod Refuting
+pub mod Collecting
+pub mod Learning
+pub mod Examples

@@ -1,0 +1,20 @@
+//! What is learnt from a conflict.
+//!
+//! When a rule is falsified, the search goes back over the literals that are known, and resolves the rule with the reasons of
+//! those that refute it. Without a choice it comes to nothing: the hints derive the empty clause. After choices it comes to a
+//! clause that asserts the negation of one literal, the first unique implication point, before the last choice.
+//!
+//! - [`Search::learn`] and [`Search::refute`] are the two.
+//! - [`Marked`]: a set of literals that is emptied in one step.
+//!
+//! `specs/Learning` says what they give; `specs/Refuting` and `specs/Collecting` what holds on the way.
+#![tactic(auto)]
+
+mod marked;
+mod search;
+
+pub use marked::Marked;
+pub use search::Search;
+
+#[cfg(test)]
+mod tests;

@@ -1,0 +1,9 @@
+pub mod Rounds
+pub mod Unit
+pub mod Walk
+pub mod Trails
+pub mod Holding
+pub mod Visits
+pub mod Runs
+pub mod Descent
+pub mod Examples

@@ -1,0 +1,9 @@
+pub mod Derivation
+pub mod Walk
+pub mod Held
+pub mod Asked
+pub mod Looks
+pub mod Propagated
+pub mod Used
+pub mod Descends
+pub mod Examples

@@ -1,0 +1,38 @@
+//! Who chooses.
+ghost use Rattle.std.specs.Prelude.{◌≡◌, ◌<◌, ℕ, ℤ, Bool, true, List, Option, length, nat_lt};
+ghost use Rattle.std.specs.List.{list_all};
+ghost use Rattle.solv_pool.specs.Propagation.{is_fact};
+ghost use Rattle.solv_trail.specs.Asked.{KeepsLaw, enabled_clauses};
+ghost use Rattle.solv_trail.specs.declared.questions.Ask.{Ask};
+
+use crate::known::Known;
+use crate::questions::Ask;
+
+/// Chooses the next package, over clauses each of which has an owner, a rule that may be enabled or not.
+pub trait Guide {
+    /// It is for these clauses, with their owners.
+    ghost is_for: { Self → List (List ℤ) → List ℕ → Type 0 };
+
+    /// It is for this number of packages.
+    ghost is_for_packages: { Self → ℕ → Type 0 };
+
+    /// What it asks where these literals are known and these rules enabled. So the order in which they came to be known does not matter.
+    ghost asks: { Self → (ℤ → Bool) → List Bool → Option Ask };
+
+    /// What is to be taken next, or nothing where no question is open. `enabled` has an entry for each owner of clauses that it is for. It takes no memory.
+    fn next(&self, known: &Known, enabled: &[bool]) -> Option<Ask>
+        requires { (clauses : List (List ℤ)) × ((owners : List ℕ) × (is_for self.now clauses owners × (list_all (λ o. nat_lt o (length enabled.now)) owners ≡ true))) }
+        ensures { result ≡ asks self.now (is_fact known.now.lits) enabled.now };
+
+    /// The law: where nothing more is forced and no enabled clause is falsified, it asks nothing only where counting all unknown packages out makes
+    /// each enabled clause true, and a package that it asks for is one of those that it is for and not known.
+    ghost keeps_law: { (g : Self) (count : ℕ) (clauses : List (List ℤ)) (owners : List ℕ) (enabled : List Bool) → is_for g clauses owners → is_for_packages g count → KeepsLaw count (enabled_clauses enabled clauses owners) (λ known. asks g known enabled) };
+}
+
+/// Asks once more, at what is known.
+fn next_ask<G: Guide>(guide: &G, known: &Known, enabled: &[bool]) -> Option<Ask>
+    requires { (clauses : List (List ℤ)) × ((owners : List ℕ) × (G.is_for guide.now clauses owners × (list_all (λ o. nat_lt o (length enabled.now)) owners ≡ true))) }
+    ensures { result ≡ G.asks guide.now (is_fact known.now.lits) enabled.now }
+{
+    guide.next(known, enabled)
+}
