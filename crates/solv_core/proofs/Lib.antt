@@ -1,0 +1,11 @@
+pub mod Switches
+pub mod Entering
+pub mod Settled
+pub mod Refuted
+pub mod Law
+pub mod Recorded
+pub mod Entailed
+pub mod Followed
+pub mod Happening
+pub mod Answering
+pub mod Copied

@@ -1,0 +1,9 @@
+pub mod Flags
+pub mod Refutation
+pub mod Learnings
+pub mod Settling
+pub mod Cores
+pub mod Running
+pub mod Ledgers
+pub mod GoodTrails
+pub mod Happened

@@ -1,0 +1,209 @@
+//! A core, and its runs.
+ghost use Rattle.std.specs.Prelude.{◌≡◌, ◌^◌, ◌≤◌, ◌+◌, ◌==◌, ◌++◌, ◌∷◌, [], ℤ, true, List, length, take, nat_lt, IfOk, OnOk, OnErr};
+ghost use Rattle.std.specs.List.{list_all};
+ghost use Rattle.solv_derive.specs.Range.{are_over};
+ghost use Rattle.solv_trail.specs.Propagated.{in_use};
+ghost use Rattle.solv_core.specs.Ledgers.{IsGoodLedger};
+ghost use Rattle.solv_core.specs.Settling.{HasLearnt};
+ghost use Rattle.solv_core.specs.Running.{is_spent_verdict, IsRefutation, IsFound};
+ghost use Rattle.solv_core.specs.declared.ledger.Entry.{Entry};
+
+use crate::events::events_of;
+use crate::flags::Flags;
+use crate::ledger::{Ledger, Run};
+use crate::refutation::log_of;
+use crate::settling::{Outcome, settle};
+use crate::verdicts::{Trail, Verdict};
+use solv_learn::Search;
+use solv_list::Items;
+use solv_pack::{RuleMem, RuleNo};
+use solv_trail::{Guide, Known};
+use std::alloc::{AllocError, Global};
+use std::marker::Model;
+
+/// The clause-learning core over clauses with their owners. Contracts see these and the number of packages.
+#[derive(Drop)]
+pub struct Core {
+    packages: u32,
+    book: RuleMem,
+    owners: Vec<usize>,
+    known: Known,
+    search: Search,
+}
+
+impl Model for Core {
+    ghost use Rattle.std.specs.Prelude.{◌≡◌, ◌≤◌, ◌^◌, true, length};
+    ghost use Rattle.solv_derive.specs.Range.{are_over};
+    ghost use Rattle.solv_core.specs.Cores.{CoreOf};
+
+    ghost Value = { CoreOf };
+
+    ghost view = { λ c. record { clauses = c.book.rules; owners = c.owners.items; packages = c.packages } };
+
+    ghost invariant = { λ c. record {
+      each : length c.owners.items ≡ length c.book.rules;
+      few : length c.book.rules ≤ 2 ^ 27;
+      over : are_over c.packages c.book.rules ≡ true;
+      known : c.known.count ≡ c.packages;
+      marked : c.search.marked.count ≡ c.packages;
+    } };
+}
+
+/// A copy of a memory.
+fn copy_of(alloc: Global, memory: &RuleMem) -> Result<RuleMem, AllocError>
+    ensures { IfOk result (λ copy. copy.rules ≡ memory.now.rules) }
+{
+    let mut copy = RuleMem::new(alloc);
+    for rule in 0..memory.len() as u32 {
+        match copy.push(memory.lits(RuleNo(rule))) {
+            Ok(_) => (),
+            Err(_) => return Err(AllocError),
+        }
+    }
+    Ok(copy)
+}
+
+/// Notes a run in the ledger.
+fn begin(alloc: Global, ledger: &mut Ledger, enabled: &[bool]) -> Result<(), AllocError>
+    ensures budget { ledger.new.budget ≡ ledger.old.budget }
+    ensures entries { ledger.new.entries ≡ ledger.old.entries }
+    ensures added { OnOk result (ledger.new.runs ≡ ledger.old.runs ++ (record { enabled = enabled.now; kept = [] }) ∷ []) }
+    ensures refused { OnErr result (ledger.new.runs ≡ ledger.old.runs) }
+{
+    let enabled_rules = Flags::from_slice(alloc, enabled)?;
+    ledger.runs.push(Run {
+        enabled: enabled_rules,
+        kept: Items::wrap(Vec::new(alloc)),
+    })
+}
+
+/// A run that is noted, over the parts of a core.
+fn run_over<G: Guide>(
+    alloc: Global,
+    known: &mut Known,
+    search: &mut Search,
+    book: &RuleMem,
+    owners: &[usize],
+    enabled: &[bool],
+    guide: &G,
+    ledger: &mut Ledger,
+    run: usize,
+) -> Result<Verdict, AllocError>
+    requires over { are_over known.old.count book.now.rules ≡ true }
+    requires each { length owners.now ≡ length book.now.rules }
+    requires owners { list_all (λ o. nat_lt o (length enabled.now)) owners.now ≡ true }
+    requires book { length book.now.rules ≤ 2 ^ 27 }
+    requires marked { search.old.marked.count ≡ known.old.count }
+    requires guide { G.is_for guide.now book.now.rules owners.now }
+    requires packages { G.is_for_packages guide.now known.old.count }
+    requires budget { ledger.old.budget ≤ 1000000 }
+    requires unspent { length ledger.old.entries ≤ ledger.old.budget }
+    ensures count { known.new.count ≡ known.old.count }
+    ensures marked { search.new.marked.count ≡ search.old.marked.count }
+    ensures budget { ledger.new.budget ≡ ledger.old.budget }
+    ensures runs { ledger.new.runs ≡ ledger.old.runs }
+    ensures few { length ledger.new.entries ≤ ledger.new.budget + 1 }
+    ensures learnt { (new : List Entry) × ((learnt : List (List ℤ)) × HasLearnt book.now.rules (in_use owners.now enabled.now) (λ facts. G.asks guide.now facts enabled.now) (length ledger.old.entries) known.old.count run ledger.old.entries ledger.new.entries learnt new) }
+    ensures spent { IfOk result (λ v. is_spent_verdict v ≡ (length ledger.new.entries == ledger.new.budget + 1)) }
+    ensures refutation { IfOk result (IsRefutation book.now.rules owners.now enabled.now) }
+    ensures found { IfOk result (IsFound known.old.count book.now.rules owners.now enabled.now (λ facts. G.asks guide.now facts enabled.now)) }
+{
+    let first = ledger.entries.len();
+    known.clear();
+    let mut learnt = RuleMem::new(alloc);
+    match settle(
+        alloc,
+        known,
+        search,
+        book,
+        owners,
+        &mut learnt,
+        enabled,
+        guide,
+        ledger,
+        first,
+        run,
+    )? {
+        Outcome::Spent => Ok(Verdict::Spent),
+        Outcome::Refuted => {
+            let log = log_of(alloc, &ledger.entries.held()[first..], first, &search.hints)?;
+            Ok(Verdict::Unsat(log))
+        }
+        Outcome::Settled => {
+            known.keep_apart();
+            let events = events_of(alloc, known)?;
+            Ok(Verdict::Sat(Trail {
+                events: Items::wrap(events),
+            }))
+        }
+    }
+}
+
+impl Core {
+    /// A core over these clauses, the owner of each, and packages from 1 to `packages`.
+    pub fn new(
+        alloc: Global,
+        memory: &RuleMem,
+        owners: &[usize],
+        packages: u32,
+    ) -> Result<Core, AllocError>
+        requires each { length owners.now ≡ length memory.now.rules }
+        requires few { length memory.now.rules ≤ 2 ^ 27 }
+        requires over { are_over packages memory.now.rules ≡ true }
+        requires packages { packages ≤ 1048575 }
+        ensures { IfOk result (λ core. core ≡ record { clauses = memory.now.rules; owners = owners.now; packages = packages }) }
+    {
+        Ok(Core {
+            packages,
+            book: copy_of(alloc, memory)?,
+            owners: Vec::from_slice(alloc, owners)?,
+            known: Known::new(alloc, packages)?,
+            search: Search::for_packages(alloc, packages)?,
+        })
+    }
+
+    /// Looks for a set that meets the clauses of enabled owners: choices as the guide asks, what follows from them, and
+    /// what is learnt where they clash. The ledger gets this run, and what it learnt.
+    ///
+    /// After want of memory the core may be run again, and the ledger holds what was learnt before.
+    pub fn run<G: Guide>(
+        &mut self,
+        enabled: &[bool],
+        guide: &G,
+        ledger: &mut Ledger,
+    ) -> Result<Verdict, AllocError>
+        requires enabled { list_all (λ o. nat_lt o (length enabled.now)) self.old.owners ≡ true }
+        requires guide { G.is_for guide.now self.old.clauses self.old.owners }
+        requires packages { G.is_for_packages guide.now self.old.packages }
+        requires budget { ledger.old.budget ≤ 1000000 }
+        requires few { length ledger.old.entries ≤ ledger.old.budget + 1 }
+        ensures core { self.new ≡ self.old }
+        ensures budget { ledger.new.budget ≡ ledger.old.budget }
+        ensures few { length ledger.new.entries ≤ ledger.new.budget + 1 }
+        ensures run { OnOk result (ledger.new.runs ≡ ledger.old.runs ++ (record { enabled = enabled.now; kept = [] }) ∷ []) }
+        ensures earlier_runs { take (length ledger.old.runs) ledger.new.runs ≡ ledger.old.runs }
+        ensures earlier_entries { take (length ledger.old.entries) ledger.new.entries ≡ ledger.old.entries }
+        ensures good { IsGoodLedger self.old.clauses self.old.owners self.old.packages (G.asks guide.now) ledger.old → IsGoodLedger self.old.clauses self.old.owners self.old.packages (G.asks guide.now) ledger.new }
+        ensures spent { IfOk result (λ v. is_spent_verdict v ≡ (length ledger.new.entries == ledger.new.budget + 1)) }
+        ensures refutation { IfOk result (IsRefutation self.old.clauses self.old.owners enabled.now) }
+        ensures found { IfOk result (IsFound self.old.packages self.old.clauses self.old.owners enabled.now (λ facts. G.asks guide.now facts enabled.now)) }
+    {
+        let alloc = *self.owners.allocator();
+        let run = ledger.runs.len();
+        begin(alloc, ledger, enabled)?;
+        if ledger.spent() {
+            return Ok(Verdict::Spent);
+        }
+        run_over(
+            alloc,
+            &mut self.known,
+            &mut self.search,
+            &self.book,
+            &self.owners,
+            enabled,
+            guide,
+            ledger,
+            run,
+        )
+    }
+}
