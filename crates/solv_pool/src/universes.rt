@@ -1,8 +1,8 @@
 //! The packages and repositories of a task, and the system that they are for.
-ghost use Rattle.std.specs.List.{list_any, list_all, range_with_len};
+ghost use Rattle.std.specs.List.{list_any, list_all, position_from, range_with_len};
 ghost use Rattle.std.specs.Str.{bytes_eq};
-ghost use Rattle.std.specs.Prelude.{◌||◌, codes};
-ghost use Rattle.solv_pool.specs.Installable.{allowed_archs};
+ghost use Rattle.std.specs.Prelude.{◌||◌, codes, unwrap_or, if◌then◌else◌};
+ghost use Rattle.solv_pool.specs.Installable.{allowed_archs, last_rank};
 ghost use Rattle.std.specs.Option.{option_map_or, option_copied};
 ghost use Rattle.solv_base.specs.Pool.{text_at};
 ghost use Rattle.std.specs.Prelude.{◌==◌, nat_lt, List, position, ◌≡◌, ◌∷◌, [], ◌++◌, ◌+◌, ◌-◌, ◌<◌, ◌≤◌, ◌↔◌, ℕ, true, false, Some, None, length, take, slice_get, slice_set, IsTrue, IfOk, OnOk, OnErr, IsErrOf};
@@ -104,6 +104,63 @@ fn is_i686(arch: &[u8]) -> bool
         || arch == b"i386".as_slice()
 }
 
+/// The rank of an architecture that is not allowed.
+const LAST_RANK: u32 = 5;
+
+/// The place of an architecture among those that an i686 runs, best first, counted from a number.
+fn place_on_i686(first: u32, arch: &[u8]) -> Option<u32>
+    requires { first ≤ 1 }
+    ensures { result ≡ position_from (bytes_eq arch.now) first (codes "i686" ∷ codes "i586" ∷ codes "i486" ∷ codes "i386" ∷ []) }
+{
+    if arch == b"i686".as_slice() {
+        return Some(first);
+    }
+    if arch == b"i586".as_slice() {
+        return Some(first + 1);
+    }
+    if arch == b"i486".as_slice() {
+        return Some(first + 2);
+    }
+    if arch == b"i386".as_slice() {
+        return Some(first + 3);
+    }
+    None
+}
+
+/// The place of an architecture among those that a system allows besides noarch, best first.
+fn place_on(system: Arch, arch: &[u8]) -> Option<u32>
+    ensures { result ≡ position_from (bytes_eq arch.now) 0 (allowed_archs system) }
+{
+    match system {
+        Arch::X86_64 => {
+            if arch == b"x86_64".as_slice() {
+                return Some(0);
+            }
+            place_on_i686(1, arch)
+        }
+        Arch::I686 => place_on_i686(0, arch),
+        Arch::Aarch64 => {
+            if arch == b"aarch64".as_slice() {
+                return Some(0);
+            }
+            None
+        }
+    }
+}
+
+/// The rank of an architecture on a system.
+fn rank_on(system: Arch, arch: &[u8]) -> u32
+    ensures { result ≡ unwrap_or (if bytes_eq arch.now (codes "noarch") then Some 0 else position_from (bytes_eq arch.now) 0 (allowed_archs system)) last_rank }
+{
+    if arch == b"noarch".as_slice() {
+        return 0;
+    }
+    match place_on(system, arch) {
+        Some(place) => place,
+        None => LAST_RANK,
+    }
+}
+
 /// What follows a piece and a byte at the start of a text.
 fn behind<'a>(text: &'a [u8], piece: &[u8], sign: u8) -> Option<&'a [u8]>
     ensures { (more : List ℕ) → bytes_eq text.now (piece.now ++ sign ∷ more) ≡ option_map_or (λ rest. bytes_eq rest more) (option_copied result) false }
@@ -121,7 +178,7 @@ impl Universe {
     ghost use Rattle.solv_pool.specs.Contents.{Contents, IsUniverse, most_packages, is_installed_in};
     ghost use Rattle.solv_pool.specs.Belonging.{IsOver, fits};
     ghost use Rattle.std.specs.Prelude.{IfSome, is_some};
-    ghost use Rattle.solv_pool.specs.Installable.{is_installable, arch_place};
+    ghost use Rattle.solv_pool.specs.Installable.{is_installable, is_disabled, arch_place, arch_rank};
     ghost use Rattle.solv_pool.specs.Words.{passes};
     ghost use Rattle.solv_pool.specs.Catalog.{package_at, alone};
     ghost use Rattle.solv_pool.specs.PackageText.{has_repo, repo_found, found, lowest, repo_text, written, package_text as text_of_package};
@@ -233,6 +290,27 @@ impl Universe {
         self.packages.len() as u32
     }
 
+    /// The number of repositories.
+    pub fn repos(&self) -> usize
+        ensures { result ≡ length self.now.repos }
+    {
+        self.repos.len()
+    }
+
+    /// The system's architecture, where one was set.
+    pub fn arch(&self) -> Option<Arch>
+        ensures { result ≡ self.now.arch }
+    {
+        self.arch
+    }
+
+    /// The installed repository, where one was set.
+    pub fn installed_repo(&self) -> Option<RepoNo>
+        ensures { result ≡ self.now.installed }
+    {
+        self.installed
+    }
+
     /// The record of a package. The system has none.
     pub fn package(&self, pack: PackNo) -> &Package
         requires a_package { 0 < pack }
@@ -267,6 +345,14 @@ impl Universe {
         ensures { result ≡ is_installed_in self.now pack }
     {
         pack.0 > 0 && self.installed == Some(self.package(pack).repo)
+    }
+
+    /// Whether a package is disabled by name, installed or not. The system is not.
+    pub fn disabled(&self, pack: PackNo) -> bool
+        requires { pack ≤ length self.now.packages }
+        ensures { (pool : Held) → result ≡ is_disabled (alone pool self.now) pack }
+    {
+        pack.0 > 0 && self.disabled[pack.0 as usize - 1]
     }
 
     /// The name of a package's architecture.
@@ -310,6 +396,23 @@ impl Universe {
             return false;
         }
         self.allows(pool, pack)
+    }
+
+    /// The rank of a package's architecture: 0 is the best, which noarch has too, and one that is not allowed ranks last.
+    /// Without an architecture of the system all packages have rank 0.
+    pub fn arch_rank(&self, pool: &Pool, pack: PackNo) -> u32
+        requires ids { IsOver pool.now self.now }
+        requires held { pack ≤ length self.now.packages }
+        ensures { result ≡ arch_rank (alone pool.now self.now) pack }
+    {
+        if pack.0 == 0 {
+            return LAST_RANK;
+        }
+        let arch = self.arch_text(pool, pack);
+        match self.arch {
+            None => 0,
+            Some(system) => rank_on(system, arch),
+        }
     }
 
     /// The name of a repository.

@@ -252,6 +252,54 @@ fn disabled_packages_are_installable_where_installed(rt: HostRuntime) -> Result<
     Ok(())
 }
 
+/// The ranks of all architectures, by the packages' numbers.
+fn expect_ranks(rt: &impl Abort, made: &Made, want: [u32; 9])
+    requires { IsOver made.now.pool made.now.universe }
+{
+    for (number, want) in want.iter().enumerate() {
+        let pack = PackNo(number as u32);
+        assert!(rt; pack.0 <= made.universe.count());
+        assert_eq!(rt;
+            made.universe.arch_rank(&made.pool, pack),
+            *want,
+            "{number}"
+        );
+    }
+}
+
+#[test]
+fn architectures_rank_by_the_system(rt: HostRuntime) -> Result<(), Fail> {
+    let mut made = filled(rt.alloc())?;
+    assert_eq!(rt; made.universe.arch(), None);
+    expect_ranks(&rt, &made, [5, 0, 0, 0, 0, 0, 0, 0, 0]);
+    made.universe.set_system(Arch::X86_64, Some(RepoNo(0)));
+    assert_eq!(rt; made.universe.arch(), Some(Arch::X86_64));
+    expect_ranks(&rt, &made, [5, 0, 5, 2, 0, 5, 0, 0, 1]);
+    made.universe.set_system(Arch::I686, None);
+    expect_ranks(&rt, &made, [5, 5, 5, 1, 0, 5, 5, 5, 0]);
+    made.universe.set_system(Arch::Aarch64, None);
+    expect_ranks(&rt, &made, [5, 5, 0, 5, 0, 0, 5, 5, 5]);
+    Ok(())
+}
+
+#[test]
+fn a_universe_tells_what_was_set(rt: HostRuntime) -> Result<(), Fail> {
+    let mut made = filled(rt.alloc())?;
+    assert_eq!(rt; made.universe.repos(), 2);
+    assert_eq!(rt; made.universe.installed_repo(), None);
+    made.universe.set_system(Arch::I686, Some(RepoNo(1)));
+    assert_eq!(rt; made.universe.installed_repo(), Some(RepoNo(1)));
+    made.universe.disable(PackNo(2));
+    for number in 0..9u32 {
+        assert_eq!(rt;
+            made.universe.disabled(PackNo(number)),
+            number == 2,
+            "{number}"
+        );
+    }
+    Ok(())
+}
+
 #[test]
 fn installed_are_the_packages_of_one_repository(rt: HostRuntime) -> Result<(), Fail> {
     let Made {
