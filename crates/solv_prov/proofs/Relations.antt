@@ -1,23 +1,23 @@
 -- The lists of one relation, by its node.
-use Rattle.std.proofs.Common.{◌≡◌, ◌<◌, ◌≤◌, ◌+◌, ℕ, zero, suc, Bool, true, false, cond, ◌&&◌, List, [], ◌∷◌, ◌++◌, map, length, Option, Some, None, refl, sym, ap, ◌∙◌, subst, arith, add-one}
+use Rattle.std.proofs.Common.{◌≡◌, ◌<◌, ◌+◌, ℕ, suc, Bool, true, false, cond, ◌&&◌, List, [], ◌∷◌, ◌++◌, length, Some, None, refl, sym, ap, ◌∙◌, arith, add-one}
 use Rattle.std.specs.Prelude.{filter, ◌==◌, nat_eq, nat_lt, codes, unwrap_or, option_map, slice_get}
-use Rattle.std.specs.List.{starts_with, range_with_len}
+use Rattle.std.specs.List.{starts_with}
 use Rattle.std.proofs.lemmas.Bool.{ltb-true}
 use Rattle.solv_base.specs.Pool.{uses_below}
-use Rattle.solv_base.specs.Dependency.{Capability, Dep, one, namespace, missing, tree, tree_of_node, capability, capability_of_node, operators}
+use Rattle.solv_base.specs.Dependency.{Capability, Dep, one, namespace, tree, tree_of_node, capability_of_node, operators}
 use Rattle.std.proofs.lemmas.List.{length-map}
 use Rattle.solv_base.specs.declared.comparison.Cmp.{Cmp}
 use Rattle.solv_base.specs.declared.relation.DepNode.{DepNode}
 use Rattle.solv_base.specs.declared.relation.DepNode.TheVariants.{Simple, Versioned, Namespace, And, Or, With, Without, If, IfElse, Unless, UnlessElse}
 use Rattle.solv_pool.specs.Words.{when, passes}
 use Rattle.solv_pool.specs.Catalog.{Catalog, packages, members, dependency, capability_at, text}
-use Rattle.solv_pool.specs.Providing.{name_of, has, has_namespace, is_named, covers}
+use Rattle.solv_pool.specs.Providing.{name_of, has, has_namespace, is_named}
 use Rattle.solv_pool.specs.Holding.{package_meets}
 use Rattle.solv_prov.specs.declared.capability.Provide.{Provide}
 use Rattle.solv_prov.specs.Capabilities.{version_of}
 use Rattle.solv_prov.specs.Groups.{group_at}
 use Rattle.solv_prov.specs.Gathering.{meeting_after, named_among, AreProvides}
-use Rattle.solv_prov.specs.Index.{relations, providers_of, named_by, obsoleters_of, index_of, Index, IsIndexOf}
+use Rattle.solv_prov.specs.Index.{relations, names, providers_of, named_by, obsoleters_of, packages_named, index_of, Index, IsIndexOf}
 use Rattle.solv_prov.proofs.Booleans.{both_left, filter_none, range_length, made_at}
 
 -- what a relation of a dependency has
@@ -110,6 +110,7 @@ IsIndexOf-made catalog index e = record {
   exact = e;
   providers_each = ap (λ (i : Index). length i.providers) e ∙ length-map (relations catalog) (providers_of catalog) ∙ range_length 0 (length catalog.pool.nodes);
   named_each = ap (λ (i : Index). length i.named) e ∙ length-map (relations catalog) (named_by catalog) ∙ range_length 0 (length catalog.pool.nodes);
+  by_name_each = ap (λ (i : Index). length i.by_name) e ∙ length-map (names catalog) (packages_named catalog) ∙ range_length 0 (length catalog.pool.names);
   obsoleters_each = ap (λ (i : Index). length i.obsoleters) e ∙ length-map (members catalog) (obsoleters_of catalog) ∙ range_length 0 (suc (length catalog.universe.packages)) ∙ sym (add-one (length catalog.universe.packages));
 }
 
@@ -122,6 +123,9 @@ module _ (catalog : Catalog) (index : Index) (h : IsIndexOf index catalog) (k : 
 
   pub obsoleters_held : k < length index.obsoleters → slice_get index.obsoleters k ≡ Some list → list ≡ obsoleters_of catalog k
   obsoleters_held lt e = made_at (obsoleters_of catalog) (suc (length catalog.universe.packages)) k list (omega (arith, h.obsoleters_each)) (sym (ap (λ (i : Index). slice_get i.obsoleters k) h.exact) ∙ e)
+
+  pub names_held : k < length index.by_name → slice_get index.by_name k ≡ Some list → list ≡ packages_named catalog k
+  names_held lt e = made_at (packages_named catalog) (length catalog.pool.names) k list (omega (arith, h.by_name_each)) (sym (ap (λ (i : Index). slice_get i.by_name k) h.exact) ∙ e)
 
   -- a dependency without operators
   pub providers_exact : k < length index.providers → slice_get index.providers k ≡ Some list → operators (dependency catalog k) ≡ 0 → list ≡ filter (package_meets catalog (dependency catalog k)) (members catalog)

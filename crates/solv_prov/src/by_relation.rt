@@ -13,7 +13,6 @@ use crate::capability::{Provide, Version, text, versions_meet};
 use crate::groups::Groups;
 use crate::lists::Lists;
 use crate::namespaces::packages_by_namespace;
-use crate::provides::provides_by_name;
 use solv_base::{DepId, DepNode, NameId, Pool};
 use solv_pool::{PackNo, Task};
 use std::alloc::{AllocError, Global};
@@ -146,11 +145,15 @@ fn close(made: &mut ByRelation) -> Result<(), AllocError>
 }
 
 /// The lists of all relations, by their ids.
-pub(crate) fn lists_by_relation(alloc: Global, task: &Task) -> Result<ByRelation, AllocError>
+pub(crate) fn lists_by_relation(
+    alloc: Global,
+    task: &Task,
+    provides: &Groups<Provide>,
+) -> Result<ByRelation, AllocError>
+    requires { AreProvides provides.now (catalog_of task.now) }
     ensures providers { IfOk result (λ made. made.providers ≡ record { closed = map (providers_of (catalog_of task.now)) (relations (catalog_of task.now)); open_list = [] }) }
     ensures named { IfOk result (λ made. made.named ≡ record { closed = map (named_by (catalog_of task.now)) (relations (catalog_of task.now)); open_list = [] }) }
 {
-    let provides = provides_by_name(alloc, task)?;
     let namespaces = packages_by_namespace(alloc, task)?;
     let count = task.pool.relation_count();
     task.pool.holds_each_once();
@@ -159,7 +162,7 @@ pub(crate) fn lists_by_relation(alloc: Global, task: &Task) -> Result<ByRelation
         named: Lists::new(alloc, count)?,
     };
     for id in 0..count {
-        add_relation(&mut made, task, &provides, &namespaces, DepId(id as u32))?;
+        add_relation(&mut made, task, provides, &namespaces, DepId(id as u32))?;
         close(&mut made)?;
     }
     Ok(made)

@@ -11,6 +11,7 @@
 //! another in one vector, with the place where each ends.
 #![tactic(auto)]
 
+mod by_name;
 mod by_relation;
 mod capability;
 mod groups;

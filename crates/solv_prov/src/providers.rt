@@ -1,28 +1,31 @@
 //! The index of providers.
 ghost use Rattle.std.specs.Prelude.{◌≡◌, ◌<◌, ◌+◌, [], length, map, filter, slice_get, Some, true, IfOk};
-ghost use Rattle.solv_base.specs.Dependency.{operators};
+ghost use Rattle.solv_base.specs.Dependency.{plain, operators};
 ghost use Rattle.solv_pool.specs.Catalog.{Catalog, catalog_of, packages, members, dependency};
 ghost use Rattle.solv_pool.specs.Holding.{package_meets};
-ghost use Rattle.solv_pool.specs.Providing.{covers, obsoletes};
+ghost use Rattle.solv_pool.specs.Providing.{is_named, covers, obsoletes};
 ghost use Rattle.solv_prov.specs.Index.{obsoleters_of, IsIndexOf};
 ghost use Rattle.solv_prov.specs.Gathering.{AreNamedLists};
 
+use crate::by_name::lists_by_name;
 use crate::by_relation::{add_distinct, lists_by_relation};
 use crate::lists::Lists;
 use crate::obsoletions::obsoleters_by_package;
-use solv_base::DepId;
+use crate::provides::provides_by_name;
+use solv_base::{DepId, NameId};
 use solv_pool::{PackNo, Task};
 use std::alloc::{AllocError, Global};
 use std::marker::Model;
 
-/// For each relation of a task the packages that meet it and the packages that it names, and for each package those that obsolete it.
+/// For each relation of a task the packages that meet it and the packages that it names, for each package those that obsolete it, and for each name the packages that have it.
 ///
-/// A relation is one that was in the pool, and a package one that was in the universe, when the index was built. Of relations with operators it has no providers.
+/// A relation or name is one that was in the pool, and a package one that was in the universe, when the index was built. Of relations with operators it has no providers.
 #[derive(Drop)]
 pub struct Providers {
     providers: Lists,
     named: Lists,
     obsoleters: Lists,
+    by_name: Lists,
 }
 
 impl Model for Providers {
@@ -30,7 +33,7 @@ impl Model for Providers {
 
     ghost Value = { Index };
 
-    ghost view = { λ p. record { providers = p.providers.closed; named = p.named.closed; obsoleters = p.obsoleters.closed } };
+    ghost view = { λ p. record { providers = p.providers.closed; named = p.named.closed; obsoleters = p.obsoleters.closed; by_name = p.by_name.closed } };
 }
 
 /// The lists of the packages that obsolete each package, the system's included.
@@ -53,12 +56,15 @@ impl Providers {
     pub fn build(alloc: Global, task: &Task) -> Result<Providers, AllocError>
         ensures { IfOk result (λ made. IsIndexOf made (catalog_of task.now)) }
     {
-        let made = lists_by_relation(alloc, task)?;
+        let provides = provides_by_name(alloc, task)?;
+        let made = lists_by_relation(alloc, task, &provides)?;
+        let by_name = lists_by_name(alloc, task, &provides)?;
         let obsoleters = lists_by_package(alloc, task, &made.named)?;
         Ok(Providers {
             providers: made.providers,
             named: made.named,
             obsoleters,
+            by_name,
         })
     }
 
@@ -87,5 +93,14 @@ impl Providers {
         ensures exact { (catalog : Catalog) → IsIndexOf self.now catalog → result.now ≡ filter (λ q. obsoletes catalog q pack) (packages catalog) }
     {
         self.obsoleters.list(pack.0 as usize)
+    }
+
+    /// The packages that have a name as their own, ascending.
+    pub fn of_name(&self, name: NameId) -> &[PackNo]
+        requires { name < length self.now.by_name }
+        ensures held { slice_get self.now.by_name name ≡ Some result.now }
+        ensures exact { (catalog : Catalog) → IsIndexOf self.now catalog → result.now ≡ filter (is_named catalog (plain name)) (packages catalog) }
+    {
+        self.by_name.list(name.0 as usize)
     }
 }

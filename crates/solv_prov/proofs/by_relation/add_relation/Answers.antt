@@ -1,9 +1,9 @@
-use Rattle.std.proofs.Common.{arith, refl, ap, sym, ◌∙◌, length}
+use Rattle.std.proofs.Common.{refl, length}
 use Rattle.std.proofs.lemmas.List.{append-nil}
 use Rattle.solv_prov.proofs.Outcomes.{ok_from}
 use Rattle.solv_base.specs.Dependency.{plain, versioned}
 use Rattle.solv_pool.specs.Catalog.{catalog_of}
-use Rattle.solv_prov.proofs.Relations.{IsOther, capability_providers, capability_named, capability_is, simple_within, versioned_within, namespace_within, other_providers, other_named, named_by-none, providers_of-namespace}
+use Rattle.solv_prov.proofs.Relations.{IsOther, capability_providers, capability_named, capability_is, simple_within, versioned_within, other_providers, other_named, named_by-none}
 use Rattle.solv_prov.proofs.by_relation.add_relation.Goals as goal
 
 pub returns-in-Simple-clause-providers : goal.returns-in-Simple-clause-providers

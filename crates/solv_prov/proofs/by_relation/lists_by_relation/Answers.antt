@@ -1,4 +1,4 @@
-use Rattle.std.proofs.Common.{arith, ◌≡◌, ◌<◌, ◌++◌, ◌∷◌, [], ap, ◌∙◌, map}
+use Rattle.std.proofs.Common.{arith, ◌<◌, ap, map}
 use Rattle.solv_pool.specs.Catalog.{catalog_of}
 use Rattle.solv_prov.specs.Index.{relations, providers_of, named_by}
 use Rattle.solv_prov.proofs.Turns.{list_closed}

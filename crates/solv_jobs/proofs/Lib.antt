@@ -1,0 +1,5 @@
+mod Ascending
+mod Choices
+mod Tables
+mod Puts
+mod Unions

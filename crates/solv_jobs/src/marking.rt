@@ -1,0 +1,174 @@
+//! How jobs mark packages.
+ghost use Rattle.std.specs.Prelude.{◌≡◌, ◌<◌, ◌≤◌, ◌+◌, ◌||◌, ◌∷◌, pos, not, true, length, filter, map, nat_lt, nat_le, IfOk, OnOk};
+ghost use Rattle.std.specs.List.{list_all};
+ghost use Rattle.solv_pool.specs.Catalog.{catalog_of, packages};
+ghost use Rattle.solv_pool.specs.Selections.{selection};
+ghost use Rattle.solv_pool.specs.JobMarks.{mark_each, favour_of, marks_of};
+ghost use Rattle.solv_pool.specs.TaskBelonging.{IsClosed, choice_fits, is_pack};
+ghost use Rattle.solv_prov.specs.Index.{IsIndexOf};
+ghost use Rattle.solv_jobs.specs.Marking.{with_values, with_job, with_favour, favour_given, makes, is_of_installed, may_bear, bears};
+
+use crate::selecting::selected;
+use solv_list::Items;
+use solv_pool::{Action, Job, Marks, PackNo, Task};
+use solv_prov::Providers;
+use std::alloc::{AllocError, Global};
+
+/// The marks that are true or false.
+#[derive(Clone, Copy)]
+pub(crate) enum Mark {
+    Update,
+    Verify,
+    Multiversion,
+    AllowUninstall,
+    Erased,
+}
+
+/// Whether a job makes a mark.
+fn makes(mark: Mark, action: Action) -> bool
+    ensures { result ≡ makes mark action }
+{
+    match mark {
+        Mark::Update => matches!(action, Action::Update),
+        Mark::Verify => matches!(action, Action::Verify),
+        Mark::Multiversion => matches!(action, Action::Multiversion),
+        Mark::AllowUninstall => matches!(action, Action::AllowUninstall),
+        Mark::Erased => matches!(action, Action::Erase),
+    }
+}
+
+/// Whether a mark is one of installed packages alone.
+fn is_of_installed(mark: Mark) -> bool
+    ensures { result ≡ is_of_installed mark }
+{
+    match mark {
+        Mark::Update | Mark::Verify | Mark::AllowUninstall => true,
+        Mark::Multiversion | Mark::Erased => false,
+    }
+}
+
+/// Marks those of the packages that may bear the mark.
+fn put_marks(task: &Task, mark: Mark, packs: &[PackNo], table: &mut [bool])
+    requires held { list_all (is_pack (length task.now.universe.packages)) packs.now ≡ true }
+    requires each { length table.old ≡ length task.now.universe.packages + 1 }
+    ensures { table.new ≡ with_values true (filter (may_bear (catalog_of task.now) mark) packs.now) table.old }
+{
+    let all = !is_of_installed(mark);
+    for pack in packs {
+        if all || task.universe.installed(*pack) {
+            table[pack.0 as usize] = true;
+        }
+    }
+}
+
+/// What one job adds to the table of a mark.
+fn put_job(
+    alloc: Global,
+    task: &Task,
+    prov: &Providers,
+    mark: Mark,
+    job: &Job,
+    table: &mut [bool],
+) -> Result<(), AllocError>
+    requires index { IsIndexOf prov.now (catalog_of task.now) }
+    requires fits { choice_fits (length task.now.pool.nodes) (length task.now.universe.packages) job.now.choice ≡ true }
+    requires each { length table.old ≡ length task.now.universe.packages + 1 }
+    ensures made { OnOk result (table.new ≡ with_job (catalog_of task.now) mark job.now table.old) }
+    ensures each { length table.new ≡ length table.old }
+{
+    if makes(mark, job.action) {
+        let packs = selected(alloc, task, prov, &job.choice)?;
+        put_marks(task, mark, &packs, table);
+    }
+    Ok(())
+}
+
+/// The packages that bear a mark, by their numbers.
+fn marked_by(
+    alloc: Global,
+    task: &Task,
+    prov: &Providers,
+    mark: Mark,
+) -> Result<Items<bool>, AllocError>
+    requires index { IsIndexOf prov.now (catalog_of task.now) }
+    requires closed { IsClosed task.now }
+    ensures { IfOk result (λ table. table ≡ mark_each (catalog_of task.now) task.now.jobs (bears (catalog_of task.now) task.now.jobs mark)) }
+{
+    let mut table = vec![in alloc; false; task.universe.count() as usize + 1]?;
+    for job in task.jobs.held() {
+        put_job(alloc, task, prov, mark, job, &mut table)?;
+    }
+    Ok(Items::wrap(table))
+}
+
+/// The favour that a job gives.
+fn favour_given(action: Action) -> Option<i8>
+    ensures { result ≡ favour_given action }
+{
+    match action {
+        Action::Favor => Some(1),
+        Action::Disfavor => Some(-1),
+        _ => None,
+    }
+}
+
+/// Writes the favour of these packages.
+fn put_favour(task: &Task, packs: &[PackNo], favour: i8, table: &mut [i8])
+    requires held { list_all (is_pack (length task.now.universe.packages)) packs.now ≡ true }
+    requires each { length table.old ≡ length task.now.universe.packages + 1 }
+    ensures { table.new ≡ with_values favour packs.now table.old }
+{
+    for pack in packs {
+        table[pack.0 as usize] = favour;
+    }
+}
+
+/// What one job adds to the table of favour.
+fn put_favour_of(
+    alloc: Global,
+    task: &Task,
+    prov: &Providers,
+    job: &Job,
+    table: &mut [i8],
+) -> Result<(), AllocError>
+    requires index { IsIndexOf prov.now (catalog_of task.now) }
+    requires fits { choice_fits (length task.now.pool.nodes) (length task.now.universe.packages) job.now.choice ≡ true }
+    requires each { length table.old ≡ length task.now.universe.packages + 1 }
+    ensures made { OnOk result (table.new ≡ with_favour (catalog_of task.now) job.now table.old) }
+    ensures each { length table.new ≡ length table.old }
+{
+    if let Some(favour) = favour_given(job.action) {
+        let packs = selected(alloc, task, prov, &job.choice)?;
+        put_favour(task, &packs, favour, table);
+    }
+    Ok(())
+}
+
+/// The favour of each package, by their numbers.
+fn favours(alloc: Global, task: &Task, prov: &Providers) -> Result<Items<i8>, AllocError>
+    requires index { IsIndexOf prov.now (catalog_of task.now) }
+    requires closed { IsClosed task.now }
+    ensures { IfOk result (λ table. table ≡ pos 0 ∷ map (favour_of (catalog_of task.now) task.now.jobs) (packages (catalog_of task.now))) }
+{
+    let mut table = vec![in alloc; 0i8; task.universe.count() as usize + 1]?;
+    for job in task.jobs.held() {
+        put_favour_of(alloc, task, prov, job, &mut table)?;
+    }
+    Ok(Items::wrap(table))
+}
+
+/// What the jobs of a task say of each package.
+pub fn read_marks(alloc: Global, task: &Task, prov: &Providers) -> Result<Marks, AllocError>
+    requires index { IsIndexOf prov.now (catalog_of task.now) }
+    requires closed { IsClosed task.now }
+    ensures { IfOk result (λ marks. marks ≡ marks_of task.now) }
+{
+    Ok(Marks {
+        update: marked_by(alloc, task, prov, Mark::Update)?,
+        verify: marked_by(alloc, task, prov, Mark::Verify)?,
+        multiversion: marked_by(alloc, task, prov, Mark::Multiversion)?,
+        allow_uninstall: marked_by(alloc, task, prov, Mark::AllowUninstall)?,
+        erased: marked_by(alloc, task, prov, Mark::Erased)?,
+        favour: favours(alloc, task, prov)?,
+    })
+}
