@@ -1,20 +1,22 @@
 -- Tables of packages after jobs were written into them.
-use Rattle.std.proofs.Common.{◌≡◌, ◌<◌, ◌≤◌, ◌+◌, ℕ, zero, suc, ℤ, pos, Bool, true, false, cond, ◌&&◌, ◌||◌, List, [], ◌∷◌, map, length, refl, ap, ◌∙◌, arith, add-one}
+use Rattle.std.proofs.Common.{◌≡◌, ◌<◌, ◌≤◌, ◌+◌, ℕ, zero, suc, ℤ, pos, Bool, true, false, cond, ◌&&◌, ◌||◌, List, [], ◌∷◌, map, length, refl, sym, ap, ◌∙◌, arith, add-one}
 use Rattle.std.specs.Prelude.{filter, fold, replicate, slice_set, ◌==◌, nat_lt, if◌then◌else◌}
 use Rattle.std.specs.List.{list_any, list_all, range_with_len}
 use Rattle.std.specs.Option.{option_map_or}
 use Rattle.std.proofs.lemmas.Bool.Decides.{nat_tests}
 use Rattle.solv_pool.specs.Words.{is_among}
-use Rattle.solv_pool.specs.Catalog.{Catalog, packages}
+use Rattle.std.proofs.lemmas.List.{length-map}
+use Rattle.solv_pool.specs.Catalog.{Catalog, catalog_of, packages}
+use Rattle.solv_pool.specs.declared.tasks.Task.{Task}
 use Rattle.solv_pool.specs.Selections.{selects, selection}
 use Rattle.solv_pool.specs.TaskBelonging.{is_pack}
-use Rattle.solv_pool.specs.JobMarks.{mark_each, favour_of, favour_after}
+use Rattle.solv_pool.specs.JobMarks.{mark_each, favour_of, favour_after, marks_of, job_selects, job_selects_installed, is_update, is_verify, is_multiversion, is_allow_uninstall, is_erase}
 use Rattle.solv_pool.specs.declared.jobs.Job.{Job}
 use Rattle.solv_pool.specs.declared.jobs.Action.{Action}
 use Rattle.solv_pool.specs.declared.jobs.Action.TheVariants.{Install, Erase, Update, Lock, Verify, Multiversion, AllowUninstall, Favor, Disfavor, Noop}
 use Rattle.solv_jobs.specs.declared.marking.Mark.{Mark}
 use Rattle.solv_jobs.specs.declared.marking.Mark.TheVariants as mark
-use Rattle.solv_jobs.specs.Marking.{with_values, with_jobs, with_favours, favour_given, makes, may_bear, bears}
+use Rattle.solv_jobs.specs.Marking.{with_values, with_jobs, with_favours, favour_given, makes, may_bear, bears, HasMarks}
 use Rattle.solv_jobs.proofs.Choices.{selection_within}
 
 left : (a b : Bool) → (a && b) ≡ true → a ≡ true
@@ -212,3 +214,21 @@ module _ (catalog : Catalog) where
 -- the table of favour after all jobs
 pub favours_are : (catalog : Catalog) (jobs : List Job) → with_favours catalog jobs (replicate (length catalog.universe.packages + 1) (pos 0)) ≡ pos 0 ∷ map (favour_of catalog jobs) (packages catalog)
 favours_are catalog jobs = ap (λ t. with_favours catalog jobs t) (fresh (pos 0) (length catalog.universe.packages)) ∙ favours_in_table catalog (λ q. pos 0) jobs
+
+-- the marks of all jobs have an entry for each package and for the system
+pub marks_each : (task : Task) → HasMarks (length task.universe.packages) (marks_of task)
+marks_each task = record {
+  update = each false (job_selects_installed (catalog_of task) task.jobs is_update);
+  verify = each false (job_selects_installed (catalog_of task) task.jobs is_verify);
+  multiversion = each false (job_selects (catalog_of task) task.jobs is_multiversion);
+  allow_uninstall = each false (job_selects_installed (catalog_of task) task.jobs is_allow_uninstall);
+  erased = each false (job_selects (catalog_of task) task.jobs is_erase);
+  favour = each (pos 0) (favour_of (catalog_of task) task.jobs);
+}
+  where
+    range_length : (start count : ℕ) → length (range_with_len start count) ≡ count
+    range_length start zero = refl
+    range_length start (suc count) = rw add-one (ap (λ n. suc n) (range_length (suc start) count))
+
+    each : {T : Type 0} (x : T) (f : ℕ → T) → length (x ∷ map f (packages (catalog_of task))) ≡ length task.universe.packages + 1
+    each x f = ap (λ n. suc n) (length-map (packages (catalog_of task)) f ∙ range_length 1 (length task.universe.packages)) ∙ sym (add-one (length task.universe.packages))

@@ -1,14 +1,24 @@
 -- Tables of packages that jobs are written into, one job after another.
-use Rattle.std.specs.Prelude.{ℕ, ℤ, pos, negsuc, Bool, true, false, not, ◌||◌, List, [], ◌∷◌, filter, slice_set, Option, Some, None, if◌then◌else◌}
+use Rattle.std.specs.Prelude.{ℕ, ℤ, pos, negsuc, Bool, true, false, not, ◌||◌, List, [], ◌∷◌, filter, slice_set, Option, Some, None, if◌then◌else◌, ◌≡◌, ◌+◌, length}
 use Rattle.std.specs.Option.{option_map_or}
 use Rattle.solv_pool.specs.Catalog.{Catalog, is_installed}
 use Rattle.solv_pool.specs.Selections.{selection}
 use Rattle.solv_pool.specs.JobMarks.{is_update, is_verify, is_multiversion, is_allow_uninstall, is_erase, job_selects, job_selects_installed}
 use Rattle.solv_pool.specs.declared.jobs.Job.{Job}
+use Rattle.solv_pool.specs.declared.job_marks.Marks.{Marks}
 use Rattle.solv_pool.specs.declared.jobs.Action.{Action}
 use Rattle.solv_pool.specs.declared.jobs.Action.TheVariants.{Favor, Disfavor}
 use Rattle.solv_jobs.specs.declared.marking.Mark.{Mark}
 use Rattle.solv_jobs.specs.declared.marking.Mark.TheVariants as mark
+
+-- an entry for each package and for the system
+pub record HasMarks (count : ℕ) (marks : Marks) : Type 0 where
+  pub update : length marks.update ≡ count + 1
+  pub verify : length marks.verify ≡ count + 1
+  pub multiversion : length marks.multiversion ≡ count + 1
+  pub allow_uninstall : length marks.allow_uninstall ≡ count + 1
+  pub erased : length marks.erased ≡ count + 1
+  pub favour : length marks.favour ≡ count + 1
 
 -- a value at each of these numbers
 abbrev pub with_values : {T : Type 0} → T → List ℕ → List T → List T

@@ -6,7 +6,7 @@ ghost use Rattle.solv_pool.specs.Selections.{selection};
 ghost use Rattle.solv_pool.specs.JobMarks.{mark_each, favour_of, marks_of};
 ghost use Rattle.solv_pool.specs.TaskBelonging.{IsClosed, choice_fits, is_pack};
 ghost use Rattle.solv_prov.specs.Index.{IsIndexOf};
-ghost use Rattle.solv_jobs.specs.Marking.{with_values, with_job, with_favour, favour_given, makes, is_of_installed, may_bear, bears};
+ghost use Rattle.solv_jobs.specs.Marking.{with_values, with_job, with_favour, favour_given, makes, is_of_installed, may_bear, bears, HasMarks};
 
 use crate::selecting::selected;
 use solv_list::Items;
@@ -161,7 +161,8 @@ fn favours(alloc: Global, task: &Task, prov: &Providers) -> Result<Items<i8>, Al
 pub fn read_marks(alloc: Global, task: &Task, prov: &Providers) -> Result<Marks, AllocError>
     requires index { IsIndexOf prov.now (catalog_of task.now) }
     requires closed { IsClosed task.now }
-    ensures { IfOk result (λ marks. marks ≡ marks_of task.now) }
+    ensures exact { IfOk result (λ marks. marks ≡ marks_of task.now) }
+    ensures each { IfOk result (λ marks. HasMarks (length task.now.universe.packages) marks) }
 {
     Ok(Marks {
         update: marked_by(alloc, task, prov, Mark::Update)?,

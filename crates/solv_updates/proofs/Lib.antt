@@ -1,0 +1,5 @@
+mod Pairs
+mod Near
+mod Puts
+mod Inferior
+mod Asking

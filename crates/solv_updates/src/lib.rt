@@ -1,0 +1,18 @@
+//! What may take the place of installed packages, and the rules on updates and architectures.
+//!
+//! - [`feature`] and [`legal`]: the packages that may take the place of an installed one, were every change allowed, and
+//!   with the changes that the flags allow.
+//! - [`infarch_rules`]: the rules on inferior architectures, put behind others.
+//!
+//! The meaning of each stands in `solv_pool`'s `Updates` and `HardRules`.
+#![tactic(auto)]
+
+mod architectures;
+mod comparing;
+mod exact_jobs;
+mod replacing;
+mod updating;
+
+pub use architectures::infarch_rules;
+pub use replacing::{feature, legal};
+pub use updating::update_rules;

@@ -1,0 +1,205 @@
+//! What may take the place of an installed package.
+ghost use Rattle.std.specs.Prelude.{◌≡◌, ◌&&◌, ◌||◌, ◌==◌, not, true, filter, length, IfOk, OnOk};
+ghost use Rattle.std.specs.List.{list_all};
+ghost use Rattle.solv_pool.specs.Belonging.{IsOver};
+ghost use Rattle.solv_pool.specs.Catalog.{catalog_of, packages, is_installed, same_name};
+ghost use Rattle.solv_pool.specs.HardRules.{update_candidates, feature_candidates};
+ghost use Rattle.solv_pool.specs.Installable.{is_installable};
+ghost use Rattle.solv_pool.specs.Providing.{obsoletes};
+ghost use Rattle.solv_pool.specs.TaskBelonging.{is_pack};
+ghost use Rattle.solv_pool.specs.Updates.{coexist, is_feature, is_legal, flags_allow, feature_set, legal_set};
+ghost use Rattle.solv_prov.specs.Index.{IsIndexOf};
+ghost use Rattle.solv_jobs.specs.Marking.{HasMarks};
+ghost use Rattle.solv_updates.specs.Places.{IsPlace};
+ghost use Rattle.solv_updates.specs.Replacing.{is_near, is_wanted, is_candidate};
+
+use crate::comparing::{coexist, flags_allow, package};
+use solv_jobs::put_in_order;
+use solv_pool::{Marks, PackNo, Task};
+use solv_prov::Providers;
+use std::alloc::{AllocError, Global};
+
+/// Which packages are asked for.
+#[derive(Clone, Copy)]
+pub(crate) struct Wanted {
+    /// The package itself, besides those that may take its place.
+    pub itself: bool,
+    /// Those too that need a change which the flags do not allow.
+    pub every_change: bool,
+}
+
+/// The packages of a package's name, itself among them, and those that obsolete it, ascending.
+fn near(
+    alloc: Global,
+    task: &Task,
+    prov: &Providers,
+    pack: PackNo,
+) -> Result<Vec<PackNo>, AllocError>
+    requires index { IsIndexOf prov.now (catalog_of task.now) }
+    requires over { IsOver task.now.pool task.now.universe }
+    requires pack { IsPlace task.now pack }
+    ensures exact { IfOk result (λ packs. packs.items ≡ filter (is_near (catalog_of task.now) pack) (packages (catalog_of task.now))) }
+    ensures within { IfOk result (λ packs. list_all (is_pack (length task.now.universe.packages)) packs.items ≡ true) }
+    ensures itself { OnOk result (is_near (catalog_of task.now) pack pack ≡ true) }
+{
+    let name = package(task, pack).name;
+    let mut found = Vec::from_slice(alloc, prov.of_name(name))?;
+    found.extend_from_slice(prov.obsoleted_by(pack))?;
+    put_in_order(&mut found);
+    Ok(found)
+}
+
+/// Whether a package may take the place of one, were every change allowed, where it is near by.
+fn replaces(task: &Task, marks: &Marks, pack: PackNo, other: PackNo) -> bool
+    requires over { IsOver task.now.pool task.now.universe }
+    requires marks { HasMarks (length task.now.universe.packages) marks.now }
+    requires pack { IsPlace task.now pack }
+    requires other { IsPlace task.now other }
+    ensures { result ≡ (is_installable (catalog_of task.now) other && (not (is_installed (catalog_of task.now) other) && not (coexist (catalog_of task.now) marks.now pack other))) }
+{
+    task.universe.installable(&task.pool, other)
+        && !task.universe.installed(other)
+        && !coexist(task, marks, pack, other)
+}
+
+/// Whether a package that is near by is asked for.
+fn is_wanted(task: &Task, marks: &Marks, wanted: &Wanted, pack: PackNo, other: PackNo) -> bool
+    requires over { IsOver task.now.pool task.now.universe }
+    requires marks { HasMarks (length task.now.universe.packages) marks.now }
+    requires pack { IsPlace task.now pack }
+    requires other { IsPlace task.now other }
+    ensures { result ≡ is_wanted (catalog_of task.now) task.now.flags marks.now wanted.now pack other }
+{
+    if wanted.itself && other == pack {
+        return true;
+    }
+    replaces(task, marks, pack, other) && (wanted.every_change || flags_allow(task, pack, other))
+}
+
+/// Those of the packages that are asked for.
+fn wanted_of(
+    alloc: Global,
+    task: &Task,
+    marks: &Marks,
+    wanted: &Wanted,
+    pack: PackNo,
+    packs: &[PackNo],
+) -> Result<Vec<PackNo>, AllocError>
+    requires over { IsOver task.now.pool task.now.universe }
+    requires marks { HasMarks (length task.now.universe.packages) marks.now }
+    requires pack { IsPlace task.now pack }
+    requires within { list_all (is_pack (length task.now.universe.packages)) packs.now ≡ true }
+    ensures { IfOk result (λ made. made.items ≡ filter (is_wanted (catalog_of task.now) task.now.flags marks.now wanted.now pack) packs.now) }
+{
+    let mut made = Vec::new(alloc);
+    for other in packs {
+        if is_wanted(task, marks, wanted, pack, *other) {
+            made.push(*other)?;
+        }
+    }
+    Ok(made)
+}
+
+/// The packages that are asked for, ascending.
+pub(crate) fn candidates(
+    alloc: Global,
+    task: &Task,
+    prov: &Providers,
+    marks: &Marks,
+    wanted: &Wanted,
+    pack: PackNo,
+) -> Result<Vec<PackNo>, AllocError>
+    requires index { IsIndexOf prov.now (catalog_of task.now) }
+    requires over { IsOver task.now.pool task.now.universe }
+    requires marks { HasMarks (length task.now.universe.packages) marks.now }
+    requires pack { IsPlace task.now pack }
+    ensures { IfOk result (λ made. made.items ≡ filter (is_candidate (catalog_of task.now) task.now.flags marks.now wanted.now pack) (packages (catalog_of task.now))) }
+{
+    let packs = near(alloc, task, prov, pack)?;
+    let made = wanted_of(alloc, task, marks, wanted, pack, &packs)?;
+    Ok(made)
+}
+
+/// The packages that may take the place of a package, were every change allowed, ascending.
+pub fn feature(
+    alloc: Global,
+    task: &Task,
+    prov: &Providers,
+    marks: &Marks,
+    pack: PackNo,
+) -> Result<Vec<PackNo>, AllocError>
+    requires index { IsIndexOf prov.now (catalog_of task.now) }
+    requires over { IsOver task.now.pool task.now.universe }
+    requires marks { HasMarks (length task.now.universe.packages) marks.now }
+    requires pack { IsPlace task.now pack }
+    ensures { IfOk result (λ made. made.items ≡ feature_set (catalog_of task.now) marks.now pack) }
+{
+    let wanted = Wanted {
+        itself: false,
+        every_change: true,
+    };
+    candidates(alloc, task, prov, marks, &wanted, pack)
+}
+
+/// The packages that may take the place of a package with the changes that the flags allow, ascending.
+pub fn legal(
+    alloc: Global,
+    task: &Task,
+    prov: &Providers,
+    marks: &Marks,
+    pack: PackNo,
+) -> Result<Vec<PackNo>, AllocError>
+    requires index { IsIndexOf prov.now (catalog_of task.now) }
+    requires over { IsOver task.now.pool task.now.universe }
+    requires marks { HasMarks (length task.now.universe.packages) marks.now }
+    requires pack { IsPlace task.now pack }
+    ensures { IfOk result (λ made. made.items ≡ legal_set (catalog_of task.now) task.now.flags marks.now pack) }
+{
+    let wanted = Wanted {
+        itself: false,
+        every_change: false,
+    };
+    candidates(alloc, task, prov, marks, &wanted, pack)
+}
+
+/// A package and those that may take its place, were every change allowed, ascending.
+pub(crate) fn feature_candidates(
+    alloc: Global,
+    task: &Task,
+    prov: &Providers,
+    marks: &Marks,
+    pack: PackNo,
+) -> Result<Vec<PackNo>, AllocError>
+    requires index { IsIndexOf prov.now (catalog_of task.now) }
+    requires over { IsOver task.now.pool task.now.universe }
+    requires marks { HasMarks (length task.now.universe.packages) marks.now }
+    requires pack { IsPlace task.now pack }
+    ensures { IfOk result (λ made. made.items ≡ feature_candidates (catalog_of task.now) task.now.flags marks.now pack) }
+{
+    let wanted = Wanted {
+        itself: true,
+        every_change: true,
+    };
+    candidates(alloc, task, prov, marks, &wanted, pack)
+}
+
+/// A package and those that may take its place with the changes that the flags allow, ascending.
+pub(crate) fn update_candidates(
+    alloc: Global,
+    task: &Task,
+    prov: &Providers,
+    marks: &Marks,
+    pack: PackNo,
+) -> Result<Vec<PackNo>, AllocError>
+    requires index { IsIndexOf prov.now (catalog_of task.now) }
+    requires over { IsOver task.now.pool task.now.universe }
+    requires marks { HasMarks (length task.now.universe.packages) marks.now }
+    requires pack { IsPlace task.now pack }
+    ensures { IfOk result (λ made. made.items ≡ update_candidates (catalog_of task.now) task.now.flags marks.now pack) }
+{
+    let wanted = Wanted {
+        itself: true,
+        every_change: false,
+    };
+    candidates(alloc, task, prov, marks, &wanted, pack)
+}

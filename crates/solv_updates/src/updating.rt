@@ -1,0 +1,197 @@
+//! The rules that keep installed packages, or what may take their place.
+ghost use Rattle.std.specs.Prelude.{◌≡◌, ◌&&◌, ◌∷◌, ◌++◌, [], length, is_ok};
+ghost use Rattle.solv_pool.specs.Belonging.{IsOver};
+ghost use Rattle.solv_pool.specs.Catalog.{catalog_of};
+ghost use Rattle.solv_pool.specs.HardRules.{is_kept, is_asked_exactly, has_update_rule, update_candidates, feature_candidates, update_rules, feature_rules};
+ghost use Rattle.solv_pool.specs.JobMarks.{marked};
+ghost use Rattle.solv_pool.specs.RuleMeaning.{update, feature};
+ghost use Rattle.solv_pool.specs.TaskBelonging.{IsClosed};
+ghost use Rattle.solv_pool.specs.Words.{when};
+ghost use Rattle.solv_prov.specs.Index.{IsIndexOf};
+ghost use Rattle.solv_jobs.specs.Putting.{HasPut};
+ghost use Rattle.solv_updates.specs.Exact.{AreAsked};
+ghost use Rattle.solv_jobs.specs.Marking.{HasMarks};
+ghost use Rattle.solv_updates.specs.Places.{IsPlace};
+
+use crate::comparing::package;
+use crate::exact_jobs::asked_names;
+use crate::replacing::{feature_candidates, update_candidates};
+use solv_jobs::{put_with_set, puts_follow_each_other};
+use solv_list::Items;
+use solv_pool::{Marks, PackNo, Rule, Rules, SetNo, Task};
+use solv_prov::Providers;
+use std::alloc::{AllocError, Global};
+
+/// Whether a package is installed, and neither erased nor allowed to go.
+fn is_kept(task: &Task, marks: &Marks, pack: PackNo) -> bool
+    requires marks { HasMarks (length task.now.universe.packages) marks.now }
+    requires pack { IsPlace task.now pack }
+    ensures { result ≡ is_kept (catalog_of task.now) task.now.flags marks.now pack }
+{
+    if !task.universe.installed(pack) || task.flags.allow_uninstall {
+        return false;
+    }
+    !marks.erased.held()[pack.0 as usize] && !marks.allow_uninstall.held()[pack.0 as usize]
+}
+
+/// Whether a package is multiversion.
+fn is_multiversion(task: &Task, marks: &Marks, pack: PackNo) -> bool
+    requires marks { HasMarks (length task.now.universe.packages) marks.now }
+    requires pack { IsPlace task.now pack }
+    ensures { result ≡ marked marks.now.multiversion pack }
+{
+    marks.multiversion.held()[pack.0 as usize]
+}
+
+/// Whether a job asks exactly for packages of a package's name.
+fn is_asked_exactly(task: &Task, asked: &[bool], pack: PackNo) -> bool
+    requires over { IsOver task.now.pool task.now.universe }
+    requires asked { AreAsked asked.now (catalog_of task.now) task.now.jobs }
+    requires pack { IsPlace task.now pack }
+    ensures { (marks : Marks) → result ≡ is_asked_exactly (catalog_of task.now) task.now.jobs marks pack }
+{
+    let name = package(task, pack).name;
+    asked[name.0 as usize]
+}
+
+/// Whether a package that is kept has an update rule: it is multiversion, or no job asks exactly for its name.
+fn has_update_rule(task: &Task, marks: &Marks, asked: &[bool], pack: PackNo) -> bool
+    requires over { IsOver task.now.pool task.now.universe }
+    requires marks { HasMarks (length task.now.universe.packages) marks.now }
+    requires asked { AreAsked asked.now (catalog_of task.now) task.now.jobs }
+    requires pack { IsPlace task.now pack }
+    ensures { result ≡ has_update_rule (catalog_of task.now) task.now.jobs marks.now pack }
+{
+    is_multiversion(task, marks, pack) || !is_asked_exactly(task, asked, pack)
+}
+
+/// The update rule of a package, if it has one.
+fn add_update(
+    alloc: Global,
+    task: &Task,
+    prov: &Providers,
+    marks: &Marks,
+    asked: &[bool],
+    pack: PackNo,
+    rules: &mut Rules,
+) -> Result<(), AllocError>
+    requires index { IsIndexOf prov.now (catalog_of task.now) }
+    requires over { IsOver task.now.pool task.now.universe }
+    requires marks { HasMarks (length task.now.universe.packages) marks.now }
+    requires asked { AreAsked asked.now (catalog_of task.now) task.now.jobs }
+    requires pack { IsPlace task.now pack }
+    ensures { HasPut (is_ok result) (when (is_kept (catalog_of task.now) task.now.flags marks.now pack && has_update_rule (catalog_of task.now) task.now.jobs marks.now pack) (update pack (update_candidates (catalog_of task.now) task.now.flags marks.now pack) ∷ [])) rules.old rules.new }
+{
+    if !is_kept(task, marks, pack) {
+        return Ok(());
+    }
+    if !has_update_rule(task, marks, asked, pack) {
+        return Ok(());
+    }
+    let rule = Rule::Update(pack, SetNo(rules.sets.len()));
+    match update_candidates(alloc, task, prov, marks, pack) {
+        Ok(packs) => put_with_set(rules, rule, Items::wrap(packs)),
+        Err(_) => Err(AllocError),
+    }
+}
+
+/// The feature rule of a package, if it has one.
+fn add_feature(
+    alloc: Global,
+    task: &Task,
+    prov: &Providers,
+    marks: &Marks,
+    pack: PackNo,
+    rules: &mut Rules,
+) -> Result<(), AllocError>
+    requires index { IsIndexOf prov.now (catalog_of task.now) }
+    requires over { IsOver task.now.pool task.now.universe }
+    requires marks { HasMarks (length task.now.universe.packages) marks.now }
+    requires pack { IsPlace task.now pack }
+    ensures { HasPut (is_ok result) (when (is_kept (catalog_of task.now) task.now.flags marks.now pack) (feature pack (feature_candidates (catalog_of task.now) task.now.flags marks.now pack) ∷ [])) rules.old rules.new }
+{
+    if !is_kept(task, marks, pack) {
+        return Ok(());
+    }
+    let rule = Rule::Feature(pack, SetNo(rules.sets.len()));
+    match feature_candidates(alloc, task, prov, marks, pack) {
+        Ok(packs) => put_with_set(rules, rule, Items::wrap(packs)),
+        Err(_) => Err(AllocError),
+    }
+}
+
+/// The update rules of all packages.
+fn add_updates(
+    alloc: Global,
+    task: &Task,
+    prov: &Providers,
+    marks: &Marks,
+    asked: &[bool],
+    rules: &mut Rules,
+) -> Result<(), AllocError>
+    requires index { IsIndexOf prov.now (catalog_of task.now) }
+    requires over { IsOver task.now.pool task.now.universe }
+    requires marks { HasMarks (length task.now.universe.packages) marks.now }
+    requires asked { AreAsked asked.now (catalog_of task.now) task.now.jobs }
+    ensures { HasPut (is_ok result) (update_rules (catalog_of task.now) task.now.flags marks.now task.now.jobs) rules.old rules.new }
+{
+    puts_follow_each_other();
+    for number in 0..task.universe.count() {
+        match add_update(alloc, task, prov, marks, asked, PackNo(number + 1), rules) {
+            Ok(()) => {}
+            Err(_) => return Err(AllocError),
+        }
+    }
+    Ok(())
+}
+
+/// The feature rules of all packages.
+fn add_features(
+    alloc: Global,
+    task: &Task,
+    prov: &Providers,
+    marks: &Marks,
+    rules: &mut Rules,
+) -> Result<(), AllocError>
+    requires index { IsIndexOf prov.now (catalog_of task.now) }
+    requires over { IsOver task.now.pool task.now.universe }
+    requires marks { HasMarks (length task.now.universe.packages) marks.now }
+    ensures { HasPut (is_ok result) (feature_rules (catalog_of task.now) task.now.flags marks.now) rules.old rules.new }
+{
+    puts_follow_each_other();
+    for number in 0..task.universe.count() {
+        match add_feature(alloc, task, prov, marks, PackNo(number + 1), rules) {
+            Ok(()) => {}
+            Err(_) => return Err(AllocError),
+        }
+    }
+    Ok(())
+}
+
+/// Puts the update rules behind the others and then the feature rules, each in the order of the packages. After want of
+/// memory the first ones of them stand there.
+pub fn update_rules(
+    alloc: Global,
+    task: &Task,
+    prov: &Providers,
+    marks: &Marks,
+    rules: &mut Rules,
+) -> Result<(), AllocError>
+    requires index { IsIndexOf prov.now (catalog_of task.now) }
+    requires closed { IsClosed task.now }
+    requires marks { HasMarks (length task.now.universe.packages) marks.now }
+    ensures { HasPut (is_ok result) (update_rules (catalog_of task.now) task.now.flags marks.now task.now.jobs ++ feature_rules (catalog_of task.now) task.now.flags marks.now) rules.old rules.new }
+{
+    puts_follow_each_other();
+    let Ok(asked) = asked_names(alloc, task, prov) else {
+        return Err(AllocError);
+    };
+    match add_updates(alloc, task, prov, marks, &asked, rules) {
+        Ok(()) => {}
+        Err(_) => return Err(AllocError),
+    }
+    match add_features(alloc, task, prov, marks, rules) {
+        Ok(()) => Ok(()),
+        Err(_) => Err(AllocError),
+    }
+}
