@@ -1,3 +1,4 @@
 pub mod Digits
 pub mod CommaCuts
 pub mod LastWord
+pub mod LateLines

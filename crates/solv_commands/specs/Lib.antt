@@ -5,3 +5,4 @@ pub mod Commands
 pub mod SolverFlags
 pub mod Borrowed
 pub mod Examples
+pub mod LateForms

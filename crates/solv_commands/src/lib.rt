@@ -6,8 +6,9 @@
 //! - [`set_flags`]: what the words of a `solverflags` line do to the flags.
 //! - [`read_priority`]: the number that a priority is.
 //! - [`Cause`]: why a line of a script is refused, here or by the layers above.
+//! - [`not_built_is_late`]: the law that only forms which come late are not built.
 //! - Examples on which the definitions are evaluated: [`repo_lines`], [`system_lines`], [`other_lines`], [`job_lines`],
-//!   [`job_flags`], [`selections`], [`solver_flags`], [`unknown_lines`], [`priorities_of_words`].
+//!   [`other_actions`], [`job_flags`], [`selections`], [`solver_flags`], [`unknown_lines`], [`priorities_of_words`].
 #![tactic(auto)]
 
 mod causes;
@@ -16,6 +17,7 @@ mod commas;
 mod flags_of_jobs;
 mod flags_of_solver;
 mod job_words;
+mod laws;
 mod other_words;
 mod priorities;
 mod rows;
@@ -24,10 +26,11 @@ mod words_of_lines;
 pub use causes::Cause;
 pub use commands::{Asked, Command, read_command};
 pub use flags_of_solver::set_flags;
+pub use laws::not_built_is_late;
 pub use priorities::read_priority;
 pub use rows::{
-    job_flags, job_lines, other_lines, priorities_of_words, repo_lines, selections, solver_flags,
-    system_lines, unknown_lines,
+    job_flags, job_lines, other_actions, other_lines, priorities_of_words, repo_lines, selections,
+    solver_flags, system_lines, unknown_lines,
 };
 pub use words_of_lines::{append_joined, line_words};
 

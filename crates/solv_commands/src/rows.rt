@@ -1,7 +1,7 @@
 //! Examples on which the definitions are evaluated.
 ghost use Rattle.std.specs.Prelude.{◌≡◌, ◌∷◌, [], codes, pos, negsuc, true, false, Some, None, Ok, Err};
 ghost use Rattle.solv_base.specs.declared.comparison.Cmp.{Cmp};
-ghost use Rattle.solv_pool.specs.declared.jobs.Action.TheVariants.{Install, Erase, Update, Noop, Favor};
+ghost use Rattle.solv_pool.specs.declared.jobs.Action.TheVariants.{Install, Erase, Update, Lock, Verify, Multiversion, AllowUninstall, Noop, Favor, Disfavor};
 ghost use Rattle.solv_pool.specs.declared.tasks.Flags.{Flags};
 ghost use Rattle.solv_commands.specs.Commas.{between_commas};
 ghost use Rattle.solv_commands.specs.Commands.{repo, system, solverflags, namespace, disable, evrcmp, job, pkg, by_name, by_provides, one_of, all, nothing};
@@ -53,6 +53,17 @@ pub fn job_lines()
     ensures unknown { said (codes "job weakendeps name A [x]") ≡ Err UnknownJob }
     ensures not_built { said (codes "job distupgrade all packages [x]") ≡ Err NotBuilt }
     ensures not_built_either { said (codes "job userinstalled name A") ≡ Err NotBuilt }
+{}
+
+/// The other actions, and that `noop` may have a selection and no flag.
+pub fn other_actions()
+    ensures lock { said (codes "job lock name A") ≡ Ok (job Lock (by_name (codes "A" ∷ [])) false (codes "lock name A")) }
+    ensures verify { said (codes "job verify all packages") ≡ Ok (job Verify all false (codes "verify all packages")) }
+    ensures multiversion { said (codes "job multiversion provides a") ≡ Ok (job Multiversion (by_provides (codes "a" ∷ [])) false (codes "multiversion provides a")) }
+    ensures allowuninstall { said (codes "job allowuninstall pkg A-1.noarch@s") ≡ Ok (job AllowUninstall (pkg (codes "A-1.noarch@s")) false (codes "allowuninstall pkg A-1.noarch@s")) }
+    ensures disfavor { said (codes "job disfavor oneof A B") ≡ Ok (job Disfavor (one_of (codes "A" ∷ codes "B" ∷ [])) false (codes "disfavor oneof A B")) }
+    ensures flag_of_lock { said (codes "job lock name A [forcebest]") ≡ Err FlagNotHere }
+    ensures flag_of_noop { said (codes "job noop [forcebest]") ≡ Err FlagNotHere }
 {}
 
 /// The flags of jobs, and that they come before the selection.

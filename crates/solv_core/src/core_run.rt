@@ -1,11 +1,11 @@
 //! A core, and its runs.
-ghost use Rattle.std.specs.Prelude.{◌≡◌, ◌^◌, ◌≤◌, ◌+◌, ◌==◌, ◌++◌, ◌∷◌, [], ℤ, true, List, length, take, nat_lt, IfOk, OnOk, OnErr};
+ghost use Rattle.std.specs.Prelude.{◌≡◌, ◌⊎◌, ◌^◌, ◌≤◌, ◌+◌, ◌==◌, ◌++◌, ◌∷◌, [], ℤ, true, List, length, take, drop, nat_lt, IfOk, OnOk, OnErr};
 ghost use Rattle.std.specs.List.{list_all};
 ghost use Rattle.solv_derive.specs.Range.{are_over};
 ghost use Rattle.solv_trail.specs.Propagated.{in_use};
-ghost use Rattle.solv_core.specs.Ledgers.{IsGoodLedger};
+ghost use Rattle.solv_core.specs.Ledgers.{are_of_run, IsGoodLedger};
 ghost use Rattle.solv_core.specs.Settling.{HasLearnt};
-ghost use Rattle.solv_core.specs.Running.{is_spent_verdict, IsRefutation, IsFound};
+ghost use Rattle.solv_core.specs.Running.{is_spent_verdict, is_log_over, IsRefutation, IsFound};
 ghost use Rattle.solv_core.specs.declared.ledger.Entry.{Entry};
 
 use crate::events::events_of;
@@ -68,7 +68,7 @@ fn begin(alloc: Global, ledger: &mut Ledger, enabled: &[bool]) -> Result<(), All
     ensures budget { ledger.new.budget ≡ ledger.old.budget }
     ensures entries { ledger.new.entries ≡ ledger.old.entries }
     ensures added { OnOk result (ledger.new.runs ≡ ledger.old.runs ++ (record { enabled = enabled.now; kept = [] }) ∷ []) }
-    ensures refused { OnErr result (ledger.new.runs ≡ ledger.old.runs) }
+    ensures refused { OnErr result (ledger.new ≡ ledger.old) }
 {
     let enabled_rules = Flags::from_slice(alloc, enabled)?;
     ledger.runs.push(Run {
@@ -106,6 +106,7 @@ fn run_over<G: Guide>(
     ensures learnt { (new : List Entry) × ((learnt : List (List ℤ)) × HasLearnt book.now.rules (in_use owners.now enabled.now) (λ facts. G.asks guide.now facts enabled.now) (length ledger.old.entries) known.old.count run ledger.old.entries ledger.new.entries learnt new) }
     ensures spent { IfOk result (λ v. is_spent_verdict v ≡ (length ledger.new.entries == ledger.new.budget + 1)) }
     ensures refutation { IfOk result (IsRefutation book.now.rules owners.now enabled.now) }
+    ensures log_over { IfOk result (λ v. is_log_over known.old.count v ≡ true) }
     ensures found { IfOk result (IsFound known.old.count book.now.rules owners.now enabled.now (λ facts. G.asks guide.now facts enabled.now)) }
 {
     let first = ledger.entries.len();
@@ -165,7 +166,8 @@ impl Core {
     /// Looks for a set that meets the clauses of enabled owners: choices as the guide asks, what follows from them, and
     /// what is learnt where they clash. The ledger gets this run, and what it learnt.
     ///
-    /// After want of memory the core may be run again, and the ledger holds what was learnt before.
+    /// After want of memory the core may be run again. The ledger is as before, or has this run, and what it learnt until
+    /// then.
     pub fn run<G: Guide>(
         &mut self,
         enabled: &[bool],
@@ -181,11 +183,14 @@ impl Core {
         ensures budget { ledger.new.budget ≡ ledger.old.budget }
         ensures few { length ledger.new.entries ≤ ledger.new.budget + 1 }
         ensures run { OnOk result (ledger.new.runs ≡ ledger.old.runs ++ (record { enabled = enabled.now; kept = [] }) ∷ []) }
+        ensures runs { OnErr result ((ledger.new ≡ ledger.old) ⊎ (ledger.new.runs ≡ ledger.old.runs ++ (record { enabled = enabled.now; kept = [] }) ∷ [])) }
         ensures earlier_runs { take (length ledger.old.runs) ledger.new.runs ≡ ledger.old.runs }
         ensures earlier_entries { take (length ledger.old.entries) ledger.new.entries ≡ ledger.old.entries }
+        ensures own_entries { are_of_run (length ledger.old.runs) (drop (length ledger.old.entries) ledger.new.entries) ≡ true }
         ensures good { IsGoodLedger self.old.clauses self.old.owners self.old.packages (G.asks guide.now) ledger.old → IsGoodLedger self.old.clauses self.old.owners self.old.packages (G.asks guide.now) ledger.new }
         ensures spent { IfOk result (λ v. is_spent_verdict v ≡ (length ledger.new.entries == ledger.new.budget + 1)) }
         ensures refutation { IfOk result (IsRefutation self.old.clauses self.old.owners enabled.now) }
+        ensures log_over { IfOk result (λ v. is_log_over self.old.packages v ≡ true) }
         ensures found { IfOk result (IsFound self.old.packages self.old.clauses self.old.owners enabled.now (λ facts. G.asks guide.now facts enabled.now)) }
     {
         let alloc = *self.owners.allocator();

@@ -1,8 +1,9 @@
 -- Names in ASCII are texts.
-use Rattle.std.proofs.Common.{◌≡◌, ℕ, zero, suc, ◌<◌, true, List, [], ◌∷◌, refl, arith}
+use Rattle.std.proofs.Common.{◌≡◌, ℕ, zero, suc, ◌<◌, true, false, List, [], ◌∷◌, refl, arith}
 use Rattle.std.specs.Prelude.{nat_lt}
 use Rattle.std.specs.List.{list_all}
-use Rattle.std.specs.Str.{IsAscii, is_utf8}
+use lib.Utf8.{encode}
+use Rattle.std.specs.Str.{IsAscii, chars, is_utf8}
 use Rattle.std.proofs.lemmas.Bool.{ltb-true}
 use Rattle.std.proofs.lemmas.Str.{IsUtf8-from_ascii, is_utf8-from_IsUtf8}
 use Rattle.solv_pool.proofs.Belongings.{both_left, both_right}
@@ -14,3 +15,8 @@ ascii (b ∷ bs) h (suc i) = ascii bs (both_right (nat_lt b 128) (list_all (λ c
 
 pub ascii_utf8 : (bs : List ℕ) → list_all (λ b. nat_lt b 128) bs ≡ true → is_utf8 bs ≡ true
 ascii_utf8 bs h = is_utf8-from_IsUtf8 bs (IsUtf8-from_ascii bs (ascii bs h))
+
+-- a name with a byte that no text has
+pub no_utf8 : is_utf8 (97 ∷ 255 ∷ []) ≡ false
+unfolding is_utf8 chars encode
+no_utf8 = refl

@@ -66,11 +66,12 @@ module _ (script : List ℕ) (s : State) (n : ℕ) (file : List ℕ) (contents :
   bad_name_ended fault h other refused = rw (bad_name script s n file h other) (quiet_ended contents asked faults (Err (record { file = script; line = n; cause = BadFileName })) fault refused)
 
 -- the reading of a piece ended for want of memory before a name was asked for
-pub want_same : (piece : Piece) (files : FilesRun) → files.asked_after ≡ option_map (λ names. names) files.asked_before → IsWant piece files
-want_same piece files h = record {
+pub want_same : (piece : Piece) (files : FilesRun) → files.asked_after ≡ option_map (λ names. names) files.asked_before → files.faults_after ≡ files.faults_before → IsWant piece files
+want_same piece files h quiet = record {
   names = [];
   asked = h ∙ asked_same files.asked_before ∙ asked_none files.asked_before;
   due = if_all files.contents (λ held. record { behind = piece.due (bytes_in held); is = refl });
+  no_fault = quiet;
 }
 
 -- a file that was fetched
@@ -179,4 +180,4 @@ module _ (script bytes : List ℕ) (t : State) (begun : counted no_line (length 
     no_fault = h.no_fault;
   }
   script_ended (ReadFault name) h = record { before = h.before; asked = h.asked; due = if_some files.contents (λ held d. rw begun d) h.due; rose = h.rose }
-  script_ended Memory h = record { names = h.names; asked = h.asked; due = if_some files.contents (λ held d. rw begun d) h.due }
+  script_ended Memory h = record { names = h.names; asked = h.asked; due = if_some files.contents (λ held d. rw begun d) h.due; no_fault = h.no_fault }

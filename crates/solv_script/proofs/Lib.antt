@@ -15,3 +15,5 @@ pub mod TagRefusals
 pub mod FileFolders
 pub mod FileRows
 pub mod AsciiNames
+pub mod RowForms
+pub mod LateRows

@@ -67,6 +67,7 @@ module _ (contents : Contents) (asked : Asked) (faults : ℕ) where
     names = [];
     asked = asked_none asked;
     due = if_all contents (λ held. record { behind = piece.due (bytes_in held); is = refl });
+    no_fault = refl;
   }
 
   pub quiet_ended : (given : Result State Bad) (fault : ScriptFault) → IsRefusal fault given → HasEnded (row_piece (done given)) (quiet contents asked faults) fault
@@ -105,6 +106,7 @@ module _ (files : FilesRun) (name : List ℕ) (next : List ℕ → Result State 
     names = name ∷ [];
     asked = asked;
     due = if_all files.contents (λ held. record { behind = []; is = refl });
+    no_fault = quiet;
   }
 
   -- a line whose file could not be read
@@ -214,6 +216,7 @@ module _ (script : List ℕ) (all : Piece) (files : FilesRun) (asked : Asked) (f
     names = so_far.names ++ h.names;
     asked = asked_more files.asked_before files.asked_after asked so_far.names h.names so_far.asked h.asked;
     due = if_both files.contents (λ held g d. front_there held h.names g d) h.due so_far.due;
+    no_fault = h.no_fault ∙ so_far.no_fault;
   }
 
 -- all lines were read

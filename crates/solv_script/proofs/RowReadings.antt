@@ -1,6 +1,6 @@
 -- What a reader does at a line is what the line gives.
 use Rattle.std.proofs.Common.{◌≡◌, ℕ, zero, suc, ◌<◌, ◌≤◌, ◌-◌, ◌+◌, Bool, true, false, List, [], ◌∷◌, ◌++◌, map, length, Option, Some, None, Result, Ok, Err, refl, sym, ap, ◌∙◌, arith}
-use Rattle.std.specs.Prelude.{ℤ, codes, not, is_some, slice_set, nat_le, nat_lt, IsOkAnd}
+use Rattle.std.specs.Prelude.{ℤ, codes, not, is_some, slice_set, nat_le, nat_lt, IsOkAnd, IfOk}
 use Rattle.std.proofs.lemmas.Bool.Decides.{nat_tests}
 use Rattle.std.specs.List.{list_all}
 use Rattle.std.specs.Str.{bytes_eq}
@@ -27,6 +27,7 @@ use Rattle.solv_commands.specs.Commands.{Asked}
 use Rattle.solv_commands.specs.SolverFlags.{with_words}
 use Rattle.solv_commands.specs.declared.causes.Cause.{Cause}
 use Rattle.solv_commands.specs.declared.causes.Cause.TheVariants.{UnknownFlag, DuplicateRepo, DuplicateSystem, BadArch, BadDisttype, UnknownRepo, UnknownPackage, ScriptTooLong}
+use Rattle.solv_tags.specs.EntryForms.{is_written_formed}
 use Rattle.solv_tags.specs.RepositoryReading.{IsTaken}
 use Rattle.solv_tags.specs.Testtags.{Repository, testtags}
 use Rattle.solv_tags.specs.declared.tag_fault.TagFault.{TagFault}
@@ -35,11 +36,13 @@ use Rattle.solv_script.specs.Halts.{IsHalt, halt_of_text}
 use Rattle.solv_script.specs.Readings.{IsReader, HasRead, state_of, written_check}
 use Rattle.solv_script.specs.Rows.{and_then, or_text_cause, with_repo, arch_named, installed_row, system_row, namespace_row, package_numbers, disable_row, evrcmp_row, flags_row, chosen, job_row}
 use Rattle.solv_script.specs.States.{State, package_number}
+use Rattle.solv_script.specs.WrittenForms.{HasWrittenForms}
 use Rattle.solv_script.specs.declared.scripts.EvrCheck.{EvrCheck}
 use Rattle.solv_script.specs.declared.whole.halts.Halt.{Halt}
 use Rattle.solv_script.specs.declared.whole.halts.Halt.TheVariants as halt
 use Rattle.solv_script.specs.declared.whole.reader.Reader.{Reader}
 use Rattle.solv_script.proofs.Finding.{number_is, place_is}
+use Rattle.solv_script.proofs.RowForms.{AreFormed, given_passes, repo_forms, namespace_forms, job_forms, repository_forms, packages_forms}
 use Rattle.solv_script.proofs.TaskGrowth.{written_line, stays, closed_grown, closed_repo, closed_system, closed_disabled, closed_flags, closed_namespace, closed_job, closed_packages}
 
 -- a text or a dependency that is refused halts its line
@@ -74,6 +77,10 @@ not_false false h = absurd (cc)
 less_one : (k : ℕ) → suc k - 1 ≡ k
 less_one k = omega arith
 
+-- the forms of what a line gives
+given_forms : {E : Type 0} (given : Result State E) (s : State) → given ≡ Ok s → IfOk given AreFormed → HasWrittenForms s.task
+given_forms given s is h = given_passes AreFormed given s is h
+
 module _ (r : Reader) (reader : IsReader r) where
   -- a repository of this name stands before
   pub repo_twice : (name : List ℕ) (priority : ℤ) → is_some (repo_found r.task.pool r.task.universe name) ≡ true → with_repo (state_of r) name priority ≡ Err DuplicateRepo
@@ -95,19 +102,23 @@ module _ (r : Reader) (reader : IsReader r) where
   repo_read name priority id pool free grows entered text within =
       let one : Repo = record { name = id; priority = priority } in
       let same = stays r.task reader.closed pool grows in
+      let new : Reader = record r { task = record r.task { pool = pool; universe = record r.task.universe { repos = r.task.universe.repos ++ one ∷ [] } } } in
+      let is : with_repo (state_of r) name priority ≡ Ok (state_of new)
+      = rw (
+        ap is_some (place_is r.task name) ∙ free,
+        entered,
+        map-append (written_repo pool) r.task.universe.repos (one ∷ []),
+        ap (λ (t : WrittenTask). t.repos) same,
+        ap (λ (t : WrittenTask). t.packages) same,
+        ap (λ (t : WrittenTask). t.namespaces) same,
+        ap (λ (t : WrittenTask). t.jobs) same,
+        text,
+      ) refl in
       record {
-        is = rw (
-          ap is_some (place_is r.task name) ∙ free,
-          entered,
-          map-append (written_repo pool) r.task.universe.repos (one ∷ []),
-          ap (λ (t : WrittenTask). t.repos) same,
-          ap (λ (t : WrittenTask). t.packages) same,
-          ap (λ (t : WrittenTask). t.namespaces) same,
-          ap (λ (t : WrittenTask). t.jobs) same,
-          text,
-        ) refl;
+        is = is;
         reader = record {
           closed = closed_repo (record r.task { pool = pool }) (closed_grown r.task reader.closed pool grows) one within;
+          forms = given_forms (with_repo (state_of r) name priority) (state_of new) is (repo_forms (state_of r) reader.forms name priority);
           system = reader.system;
           bytes = reader.bytes;
         };
@@ -145,7 +156,7 @@ module _ (r : Reader) (reader : IsReader r) where
   unfolding state_of
   system_read name type arch word installed none named rpm set = record {
     is = rw (sym reader.system ∙ none, named, rpm) set;
-    reader = record { closed = closed_system r.task reader.closed (Some arch) installed; system = refl; bytes = reader.bytes };
+    reader = record { closed = closed_system r.task reader.closed (Some arch) installed; forms = record { packages = reader.forms.packages; jobs = reader.forms.jobs }; system = refl; bytes = reader.bytes };
   }
 
   -- a flag is unknown
@@ -156,7 +167,7 @@ module _ (r : Reader) (reader : IsReader r) where
   -- flags are set and cleared
   pub flags_read : (words : List (List ℕ)) (flags : Flags) → with_words words r.task.flags ≡ Some flags → HasRead (record r { task = record r.task { flags = flags } }) (flags_row (state_of r) words)
   unfolding state_of
-  flags_read words flags h = record { is = rw h refl; reader = record { closed = closed_flags r.task reader.closed flags; system = reader.system; bytes = reader.bytes } }
+  flags_read words flags h = record { is = rw h refl; reader = record { closed = closed_flags r.task reader.closed flags; forms = record { packages = reader.forms.packages; jobs = reader.forms.jobs }; system = reader.system; bytes = reader.bytes } }
 
   -- one more comparison
   pub check_read : (check : EvrCheck) (left : List ℕ) (op : Cmp) (right : List ℕ) → written_check check ≡ record { left = left; op = op; right = right }
@@ -164,7 +175,7 @@ module _ (r : Reader) (reader : IsReader r) where
   unfolding state_of
   check_read check left op right h = record {
     is = rw (map-append written_check r.checks (check ∷ []), h) refl;
-    reader = record { closed = reader.closed; system = reader.system; bytes = reader.bytes };
+    reader = record { closed = reader.closed; forms = reader.forms; system = reader.system; bytes = reader.bytes };
   }
 
   -- no package is disabled
@@ -183,7 +194,7 @@ module _ (r : Reader) (reader : IsReader r) where
   disable_read word zero some h = absurd (omega arith)
   disable_read word (suc k) some h = record {
     is = rw h (rw (less_one k) refl);
-    reader = record { closed = closed_disabled r.task reader.closed (slice_set r.task.universe.disabled (suc k - 1) true); system = reader.system; bytes = reader.bytes };
+    reader = record { closed = closed_disabled r.task reader.closed (slice_set r.task.universe.disabled (suc k - 1) true); forms = record { packages = reader.forms.packages; jobs = reader.forms.jobs }; system = reader.system; bytes = reader.bytes };
   }
 
   -- the packages of a namespace line are refused, or its name
@@ -204,19 +215,23 @@ module _ (r : Reader) (reader : IsReader r) where
   unfolding state_of
   namespace_read name words packs id pool there within_packs grows entered text within =
       let same = stays r.task reader.closed pool grows in
+      let new : Reader = record r { task = record r.task { pool = pool; namespaces = r.task.namespaces ++ (id, packs) ∷ [] } } in
+      let is : namespace_row (state_of r) name words ≡ Ok (state_of new)
+      = rw (
+        there,
+        entered,
+        map-append (written_line pool) r.task.namespaces ((id, packs) ∷ []),
+        ap (λ (t : WrittenTask). t.repos) same,
+        ap (λ (t : WrittenTask). t.packages) same,
+        ap (λ (t : WrittenTask). t.namespaces) same,
+        ap (λ (t : WrittenTask). t.jobs) same,
+        text,
+      ) refl in
       record {
-        is = rw (
-          there,
-          entered,
-          map-append (written_line pool) r.task.namespaces ((id, packs) ∷ []),
-          ap (λ (t : WrittenTask). t.repos) same,
-          ap (λ (t : WrittenTask). t.packages) same,
-          ap (λ (t : WrittenTask). t.namespaces) same,
-          ap (λ (t : WrittenTask). t.jobs) same,
-          text,
-        ) refl;
+        is = is;
         reader = record {
           closed = closed_namespace (record r.task { pool = pool }) (closed_grown r.task reader.closed pool grows) id packs within within_packs;
+          forms = given_forms (namespace_row (state_of r) name words) (state_of new) is (namespace_forms (state_of r) reader.forms name words);
           system = reader.system;
           bytes = reader.bytes;
         };
@@ -236,20 +251,24 @@ module _ (r : Reader) (reader : IsReader r) where
   unfolding state_of
   job_read action asked forcebest text job pool choice grows fits action_is best_is text_is =
       let same = stays r.task reader.closed pool grows in
+      let new : Reader = record r { task = record r.task { pool = pool; jobs = r.task.jobs ++ job ∷ [] } } in
+      let is : job_row (state_of r) action asked forcebest text ≡ Ok (state_of new)
+      = rw (
+        choice,
+        map-append (written_job pool) r.task.jobs (job ∷ []),
+        ap (λ (t : WrittenTask). t.repos) same,
+        ap (λ (t : WrittenTask). t.packages) same,
+        ap (λ (t : WrittenTask). t.namespaces) same,
+        ap (λ (t : WrittenTask). t.jobs) same,
+        action_is,
+        best_is,
+        text_is,
+      ) refl in
       record {
-        is = rw (
-          choice,
-          map-append (written_job pool) r.task.jobs (job ∷ []),
-          ap (λ (t : WrittenTask). t.repos) same,
-          ap (λ (t : WrittenTask). t.packages) same,
-          ap (λ (t : WrittenTask). t.namespaces) same,
-          ap (λ (t : WrittenTask). t.jobs) same,
-          action_is,
-          best_is,
-          text_is,
-        ) refl;
+        is = is;
         reader = record {
           closed = closed_job (record r.task { pool = pool }) (closed_grown r.task reader.closed pool grows) job fits;
+          forms = given_forms (job_row (state_of r) action asked forcebest text) (state_of new) is (job_forms (state_of r) reader.forms action asked forcebest text);
           system = reader.system;
           bytes = reader.bytes;
         };
@@ -257,26 +276,30 @@ module _ (r : Reader) (reader : IsReader r) where
 
   -- the packages of a repository's lines
   repository_given_read : (file : List ℕ) (pool : Held) (universe : Contents) (given : Result Repository TagFault) → Grows r.task.pool pool → IsOver pool universe
-      → IsOkAnd given (λ read. IsTaken read pool r.task.universe universe)
+      → IsOkAnd given (λ read. IsTaken read pool r.task.universe universe) → IfOk given (λ read. list_all is_written_formed read.packages ≡ true)
       → HasRead (record r { task = record r.task { pool = pool; universe = universe } }) (repository_given (state_of r) file given)
   unfolding state_of
-  repository_given_read file pool universe (Err fault) grows over taken = absurd taken
-  repository_given_read file pool universe (Ok read) grows over taken =
+  repository_given_read file pool universe (Err fault) grows over taken formed = absurd taken
+  repository_given_read file pool universe (Ok read) grows over taken formed =
       let same = stays r.task reader.closed pool grows in
       let more = taken.packages in
+      let new : Reader = record r { task = record r.task { pool = pool; universe = universe } } in
+      let is : repository_given (state_of r) file (Ok read) ≡ Ok (state_of new)
+      = rw (
+        more.universe,
+        ← taken.held,
+        map-append (written_package pool) r.task.universe.packages more.added,
+        more.texts,
+        ap (λ (t : WrittenTask). t.repos) same,
+        ap (λ (t : WrittenTask). t.packages) same,
+        ap (λ (t : WrittenTask). t.namespaces) same,
+        ap (λ (t : WrittenTask). t.jobs) same,
+        map-same more.added read.packages more.texts,
+      ) refl in
       record {
-        is = rw (
-          more.universe,
-          ← taken.held,
-          map-append (written_package pool) r.task.universe.packages more.added,
-          more.texts,
-          ap (λ (t : WrittenTask). t.repos) same,
-          ap (λ (t : WrittenTask). t.packages) same,
-          ap (λ (t : WrittenTask). t.namespaces) same,
-          ap (λ (t : WrittenTask). t.jobs) same,
-          map-same more.added read.packages more.texts,
-        ) refl;
+        is = is;
         reader = record {
+          forms = given_forms (repository_given (state_of r) file (Ok read)) (state_of new) is (repository_forms (state_of r) reader.forms file (Ok read) formed);
           closed = closed_packages (record r.task { pool = pool }) (closed_grown r.task reader.closed pool grows) universe more.added over (ap (λ (u : Contents). u.packages) more.universe);
           system = rw more.universe reader.system;
           bytes = reader.bytes;
@@ -299,7 +322,8 @@ module _ (r : Reader) (reader : IsReader r) where
       → IsOkAnd (testtags r.task.pool (length r.task.universe.packages) repo lines) (λ read. IsTaken read pool r.task.universe universe)
       → HasRead (record r { task = record r.task { pool = pool; universe = universe } }) (with_lines (state_of r) file lines)
   repository_read file lines repo pool universe last grows over taken =
-      rw (lines_there file lines repo last) (repository_given_read file pool universe (testtags r.task.pool (length r.task.universe.packages) repo lines) grows over taken)
+      rw (lines_there file lines repo last) (repository_given_read file pool universe (testtags r.task.pool (length r.task.universe.packages) repo lines) grows over taken
+      (packages_forms r.task.pool (length r.task.universe.packages) repo lines))
 
 -- the bytes of one more file
 pub sizes_over : (r : Reader) (size : ℕ) → size ≤ 67108864 → 268435456 < r.bytes + size → counted (state_of r) size ≡ Err ScriptTooLong
@@ -314,4 +338,4 @@ unfolding state_of
 size_counted r reader size fits under =
     let one : nat_lt most_file size ≡ false = grind (arith, nat_tests) in
     let all : nat_lt most_script (r.bytes + size) ≡ false = grind (arith, nat_tests) in
-    record { is = rw (one, all) refl; reader = record { closed = reader.closed; system = reader.system; bytes = under } }
+    record { is = rw (one, all) refl; reader = record { closed = reader.closed; forms = reader.forms; system = reader.system; bytes = under } }

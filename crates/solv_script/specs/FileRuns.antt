@@ -68,11 +68,12 @@ pub record IsReadFault (piece : Piece) (files : FilesRun) (name : List ℕ) : Ty
   pub due : IfSome files.contents (λ held. IsFront (before ++ name ∷ []) (piece.due (bytes_in held)))
   pub rose : Rose files.faults_before files.faults_after
 
--- the reading of a piece ended for want of memory
+-- the reading of a piece ended for want of memory: no fault was counted
 pub record IsWant (piece : Piece) (files : FilesRun) : Type 0 where
   pub names : List (List ℕ)
   pub asked : AskedBesides files names
   pub due : IfSome files.contents (λ held. IsFront names (piece.due (bytes_in held)))
+  pub no_fault : files.faults_after ≡ files.faults_before
 
 -- how the reading of a piece ended without what it gives
 abbrev pub HasEnded : Piece → FilesRun → ScriptFault → Type 0

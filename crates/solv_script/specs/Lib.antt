@@ -16,3 +16,5 @@ pub mod Halts
 pub mod FileRuns
 pub mod Readings
 pub mod ScriptExamples
+pub mod WrittenForms
+pub mod LateLines

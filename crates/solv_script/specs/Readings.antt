@@ -7,6 +7,7 @@ use Rattle.solv_script.specs.Grammar.{most_script}
 use Rattle.solv_script.specs.Reads.{WrittenCheck}
 use Rattle.solv_script.specs.ScriptLines.{ScriptLine, inline_lines}
 use Rattle.solv_script.specs.States.{State}
+use Rattle.solv_script.specs.WrittenForms.{HasWrittenForms}
 use Rattle.solv_script.specs.declared.scripts.EvrCheck.{EvrCheck}
 use Rattle.solv_script.specs.declared.whole.reader.Reader.{Reader}
 
@@ -21,6 +22,7 @@ state_of r = record { bytes = r.bytes; held = r.task.pool; task = written_task r
 -- what holds of a reader between two lines
 pub record IsReader (r : Reader) : Type 0 where
   pub closed : IsClosed r.task
+  pub forms : HasWrittenForms (written_task r.task)
   pub system : r.has_system ≡ is_some r.task.universe.arch
   pub bytes : r.bytes ≤ most_script
 

@@ -9,7 +9,7 @@ use Rattle.solv_script.specs.States.{State}
 abbrev pub no_files : List ℕ → List ℕ
 no_files name = []
 
--- two files, in the folder `d` and in the one above it
+-- two files, one in the folder `d` and one at the root
 abbrev pub two_files : List ℕ → List ℕ
 two_files name =
     if bytes_eq name (codes "d/a.repo") then codes "=Pkg: A 1 1 noarch\n"

@@ -3,8 +3,8 @@ ghost use Rattle.std.specs.Prelude.{◌≡◌, ◌∷◌, ◌++◌, [], ◌-◌,
 ghost use Rattle.solv_base.specs.Dependency.{one, plain};
 ghost use Rattle.solv_base.specs.Pool.{Held};
 ghost use Rattle.solv_pool.specs.Written as written;
-ghost use Rattle.solv_pool.specs.declared.universes.Arch.TheVariants.{X86_64, I686};
-ghost use Rattle.solv_commands.specs.declared.causes.Cause.TheVariants.{BadWords, BadNumber, BadRepoType, DuplicateRepo, DuplicateSystem, BadArch, BadDisttype, UnknownRepo, UnknownFlag, BadNamespace, UnknownPackage, BadOperator, UnknownJob, UnknownJobFlag, FlagNotHere, UnknownSelection, SystemInJob, UnknownLine, Compressed, FileTooLong, ScriptTooLong, MissingOperand, OperatorNotHere, BadPackageLine, TagBeforePackage, UnclosedBlock, NotBuilt};
+ghost use Rattle.solv_pool.specs.declared.universes.Arch.TheVariants.{X86_64, I686, Aarch64};
+ghost use Rattle.solv_commands.specs.declared.causes.Cause.TheVariants.{BadWords, BadNumber, BadRepoType, DuplicateRepo, DuplicateSystem, BadArch, BadDisttype, UnknownRepo, UnknownFlag, BadNamespace, UnknownPackage, BadOperator, UnknownJob, UnknownJobFlag, FlagNotHere, UnknownSelection, SystemInJob, UnknownLine, Compressed, BadFileName, FileTooLong, ScriptTooLong, MissingOperand, OperatorNotHere, BadPackageLine, TagBeforePackage, UnclosedBlock, NotBuilt};
 ghost use Rattle.solv_script.specs.Reads.{first_flags};
 ghost use Rattle.solv_script.specs.Grammar.{counted};
 ghost use Rattle.solv_script.specs.States.{no_line};
@@ -49,6 +49,7 @@ pub fn systems()
     ensures installed { map_given (λ s. s.task.installed) (given (codes "repo a 0 empty\nrepo b 0 empty\nsystem x86_64 rpm b")) ≡ Some (Some 1) }
     ensures none { map_given (λ s. s.task.installed) (given (codes "system i686 rpm")) ≡ Some None }
     ensures arch_set { map_given (λ s. s.task.arch) (given (codes "system i686 rpm")) ≡ Some (Some I686) }
+    ensures other_arch_set { map_given (λ s. s.task.arch) (given (codes "system aarch64 rpm")) ≡ Some (Some Aarch64) }
     ensures no_system { map_given (λ s. s.task.arch) (given []) ≡ Some None }
 {}
 
@@ -113,6 +114,19 @@ pub fn sizes_of_files()
     ensures together { map_counted (counted (record no_line { bytes = 268435456 - 67108864 }) 67108864) ≡ Ok 268435456 }
     ensures too_long_together { map_counted (counted (record no_line { bytes = 268435456 }) 1) ≡ Err ScriptTooLong }
     ensures file_first { map_counted (counted (record no_line { bytes = 268435456 }) 67108865) ≡ Err FileTooLong }
+{}
+
+/// Names of files that are not fetched: each ending of a compressed file, and a name that is not UTF-8.
+pub fn names_of_files()
+    ensures gz { refused (codes "repo a 0 testtags a.repo.gz") ≡ at 1 Compressed }
+    ensures bz2 { refused (codes "repo a 0 testtags a.bz2") ≡ at 1 Compressed }
+    ensures xz { refused (codes "repo a 0 testtags a.xz") ≡ at 1 Compressed }
+    ensures zst { refused (codes "repo a 0 testtags a.zst") ≡ at 1 Compressed }
+    ensures lzma { refused (codes "repo a 0 testtags a.lzma") ≡ at 1 Compressed }
+    ensures not_at_the_end { due_in_folder (codes "repo a 0 testtags a.gz.repo") ≡ codes "d/a.gz.repo" ∷ [] }
+    ensures no_text { refused (codes "repo a 0 testtags a" ++ 255 ∷ []) ≡ at 1 BadFileName }
+    ensures compressed_first { refused (codes "repo a 0 testtags " ++ (255 ∷ codes ".xz")) ≡ at 1 Compressed }
+    ensures no_text_not_due { due_in_folder (codes "repo a 0 testtags a" ++ 255 ∷ []) ≡ [] }
 {}
 
 /// Files: which are due, and by which names; a bad line of a file has the file's name and its own number.

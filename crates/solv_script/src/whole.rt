@@ -7,6 +7,7 @@
 //! - `packages`, `choices`: what packages and dependencies of a line select. `halts`, `refusals`: why no more is read.
 ghost use Rattle.std.specs.Prelude.{◌≡◌, IfOk, IfErr};
 ghost use Rattle.solv_pool.specs.TaskBelonging.{IsClosed};
+ghost use Rattle.solv_pool.specs.TaskForms.{HasForms};
 ghost use Rattle.solv_script.specs.FileRuns.{script_piece, IsRead, HasEnded};
 
 mod blocks;
@@ -31,10 +32,12 @@ use crate::whole::refusals::halted;
 use solv_io::Files;
 use std::alloc::Global;
 
-/// Reads a script and the files that it names. `name` is the name of the script's own file, which a refusal at its lines
-/// carries, and in whose folder the other files are.
+/// Reads a script with these bytes, and fetches the files that it names. `name` is the script's own name: its folder, what
+/// stands up to its last `/`, is put before each file's name that does not begin with `/`. A refusal at a line of the script,
+/// inline lines included, carries this name, and one at a line of another file the name by which that file was fetched.
 ///
-/// The first bad line is refused, and nothing is asked for behind it. A file that cannot be read ends the reading.
+/// The first bad line is refused, and nothing is asked for behind it. A file that cannot be read ends the reading, and so does
+/// want of memory, which may come at any line.
 pub fn read_script<F: Files>(
     alloc: Global,
     name: &str,
@@ -45,6 +48,7 @@ pub fn read_script<F: Files>(
         (record { contents = F.contents files.old; asked_before = F.asked files.old; asked_after = F.asked files.new; faults_before = F.faults files.old; faults_after = F.faults files.new })
         script) }
     ensures closed { IfOk result (λ script. IsClosed script.task) }
+    ensures forms { IfOk result (λ script. HasForms script.task) }
     ensures ended { IfErr result (λ fault. HasEnded (script_piece name.now bytes.now)
         (record { contents = F.contents files.old; asked_before = F.asked files.old; asked_after = F.asked files.new; faults_before = F.faults files.old; faults_after = F.faults files.new })
         fault) }

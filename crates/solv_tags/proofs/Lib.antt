@@ -2,3 +2,6 @@ pub mod SameDependency
 pub mod Staying
 pub mod HandLines
 pub mod ReaderLines
+pub mod EntriesFormed
+pub mod FormsById
+pub mod OwnCauses

@@ -4,3 +4,4 @@ pub mod Testtags
 pub mod TagReading
 pub mod TesttagsExamples
 pub mod RepositoryReading
+pub mod EntryForms

@@ -4,7 +4,8 @@
 //! - [`TagReader`]: the same line by line, for lines that stand in another file.
 //! - [`TagFault`]: the first bad line, with its [`TagCause`].
 //! - [`read_dep`], [`dep_text`], [`Place`], [`DepFault`]: the dependency text that the entries are written in.
-//! - [`same_is_equal`]: the entries that stand once are those that are equal.
+//! - Laws: [`same_is_equal`], the entries that stand once are those that are equal; [`entries_have_forms`], each dependency
+//!   has a form that may stand at its place.
 //! - Examples on which the definition is evaluated: [`package_lines`], [`lists_of_a_package`], [`entries_of_packages`],
 //!   [`equal_entries`], [`vendors_and_paths`], [`blocks`], [`lines_passed_over`], [`tags_before_a_package`],
 //!   [`dependencies_that_are_bad`], [`unclosed_blocks`], [`inline_lines`], [`too_many_packages`],
@@ -22,7 +23,7 @@ mod tag_reader;
 mod testtags;
 mod testtags_rows;
 
-pub use laws::same_is_equal;
+pub use laws::{entries_have_forms, same_is_equal};
 pub use solv_deps::{DepFault, Place, dep_text, read_dep};
 pub use tag_fault::{TagCause, TagFault};
 pub use tag_reader::TagReader;

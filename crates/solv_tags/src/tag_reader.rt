@@ -308,10 +308,11 @@ impl TagReader {
         }
     }
 
-    /// The end behind the line of this number. After a refusal the reader is of no more use, as after one of a line.
-    pub fn end(&mut self, universe: &mut Universe, last: u64) -> Result<(), TagFault>
-        ensures ok { OnOk result ((pool : Held) → IsReading self.old pool universe.old → IsEnded self.old pool universe.old universe.new (end_read last (tagged_of self.old pool universe.old))) }
-        ensures refused { IfErr result (λ fault. (pool : Held) → IsTagRefusal fault (end_read last (tagged_of self.old pool universe.old))) }
+    /// The end behind the line of this number, with which the reader goes. After a refusal the universe may hold packages of
+    /// this repository, as after one of a line.
+    pub fn end(self, universe: &mut Universe, last: u64) -> Result<(), TagFault>
+        ensures ok { OnOk result ((pool : Held) → IsReading self pool universe.old → IsEnded self pool universe.old universe.new (end_read last (tagged_of self pool universe.old))) }
+        ensures refused { IfErr result (λ fault. (pool : Held) → IsTagRefusal fault (end_read last (tagged_of self pool universe.old))) }
         ensures form { IfErr result (λ fault. HasOneForm fault.cause) }
         ensures more { HasMore universe.old universe.new }
     {
@@ -321,8 +322,7 @@ impl TagReader {
                 cause: TagCause::UnclosedBlock,
             });
         }
-        let finished = std::mem::replace(&mut self.hand, None);
-        match put_behind(universe, finished) {
+        match put_behind(universe, self.hand) {
             Ok(()) => Ok(()),
             Err(cause) => Err(TagFault { line: last, cause }),
         }

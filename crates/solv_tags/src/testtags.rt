@@ -1,7 +1,10 @@
 //! Testtags files.
-ghost use Rattle.std.specs.Prelude.{◌≡◌, ◌<◌, ◌≤◌, length, Some, None, IsOkAnd, IfOk, IfErr, OnOk, OnErr};
+ghost use Rattle.std.specs.Prelude.{◌≡◌, ◌<◌, ◌≤◌, true, drop, length, Some, None, IsOkAnd, IfOk, IfErr, OnOk, OnErr};
 ghost use Rattle.solv_base.specs.Pool.{Held, Grows};
+ghost use Rattle.std.specs.List.{list_all};
 ghost use Rattle.solv_pool.specs.Belonging.{IsOver};
+ghost use Rattle.solv_pool.specs.Catalog.{alone};
+ghost use Rattle.solv_pool.specs.TaskForms.{is_formed};
 ghost use Rattle.solv_io.specs.Lines.{numbered_lines};
 ghost use Rattle.solv_tags.specs.RepositoryReading.{IsTaken, IsTagRefusal, HasOneForm};
 ghost use Rattle.solv_tags.specs.TagReading.{IsReading, HasMore, IsReadTo, tagged_of};
@@ -45,30 +48,31 @@ fn read_lines(
 
 /// Reads all lines and the end.
 fn read_all(
-    reader: &mut TagReader,
+    mut reader: TagReader,
     pool: &mut Pool,
     universe: &mut Universe,
     bytes: &[u8],
 ) -> Result<(), TagFault>
-    requires reading { IsReading reader.old pool.old universe.old }
-    requires before { reader.old.before ≡ length universe.old.packages }
-    requires hand { reader.old.hand ≡ None }
-    requires block { reader.old.block ≡ None }
-    ensures read { OnOk result (IsOkAnd (testtags_file pool.old (length universe.old.packages) reader.old.repo bytes.now) (λ r. IsTaken r pool.new universe.old universe.new)) }
+    requires reading { IsReading reader pool.old universe.old }
+    requires before { reader.before ≡ length universe.old.packages }
+    requires hand { reader.hand ≡ None }
+    requires block { reader.block ≡ None }
+    ensures read { OnOk result (IsOkAnd (testtags_file pool.old (length universe.old.packages) reader.repo bytes.now) (λ r. IsTaken r pool.new universe.old universe.new)) }
     ensures over { OnOk result (IsOver pool.new universe.new) }
-    ensures refused { IfErr result (λ fault. IsTagRefusal fault (testtags_file pool.old (length universe.old.packages) reader.old.repo bytes.now)) }
+    ensures refused { IfErr result (λ fault. IsTagRefusal fault (testtags_file pool.old (length universe.old.packages) reader.repo bytes.now)) }
     ensures form { IfErr result (λ fault. HasOneForm fault.cause) }
     ensures more { HasMore universe.old universe.new }
     ensures grows { Grows pool.old pool.new }
 {
-    match read_lines(reader, pool, universe, bytes) {
+    match read_lines(&mut reader, pool, universe, bytes) {
         Ok(last) => reader.end(universe, last),
         Err(fault) => Err(fault),
     }
 }
 
 /// Reads a testtags file, the packages of a repository, into a universe: its packages stand behind the others, or the first
-/// bad line is refused and the universe is as before. After a refusal the pool may hold more than before.
+/// bad line is refused and the universe is as before. Each dependency of the packages that are added has a form that may
+/// stand at its place. After a refusal the pool may hold more than before.
 pub fn read_testtags(
     pool: &mut Pool,
     universe: &mut Universe,
@@ -79,6 +83,7 @@ pub fn read_testtags(
     requires repo { repo < length universe.old.repos }
     ensures read { OnOk result (IsOkAnd (testtags_file pool.old (length universe.old.packages) repo bytes.now) (λ r. IsTaken r pool.new universe.old universe.new)) }
     ensures over { OnOk result (IsOver pool.new universe.new) }
+    ensures forms { OnOk result (list_all (is_formed (alone pool.new universe.new)) (drop (length universe.old.packages) universe.new.packages) ≡ true) }
     ensures refused { IfErr result (λ fault. IsTagRefusal fault (testtags_file pool.old (length universe.old.packages) repo bytes.now)) }
     ensures form { IfErr result (λ fault. HasOneForm fault.cause) }
     ensures unchanged { OnErr result (universe.new ≡ universe.old) }
@@ -86,8 +91,8 @@ pub fn read_testtags(
 {
     universe.marks_each();
     let before = universe.count();
-    let mut reader = TagReader::new(pool.alloc(), repo, before);
-    match read_all(&mut reader, pool, universe, bytes) {
+    let reader = TagReader::new(pool.alloc(), repo, before);
+    match read_all(reader, pool, universe, bytes) {
         Ok(()) => Ok(()),
         Err(fault) => {
             universe.cut(before);

@@ -76,24 +76,24 @@ fn read_lines(
 
 /// Reads the lines of a block, and its end.
 fn read_all(
-    reader: &mut TagReader,
+    mut reader: TagReader,
     pool: &mut Pool,
     universe: &mut Universe,
     line: u64,
     behind: &[u8],
 ) -> Result<(), TagFault>
-    requires reading { IsReading reader.old pool.old universe.old }
-    requires before { reader.old.before ≡ length universe.old.packages }
-    requires hand { reader.old.hand ≡ None }
-    requires block { reader.old.block ≡ None }
+    requires reading { IsReading reader pool.old universe.old }
+    requires before { reader.before ≡ length universe.old.packages }
+    requires hand { reader.hand ≡ None }
+    requires block { reader.block ≡ None }
     requires fits { line + length behind.now < 2 ^ 64 }
-    ensures read { OnOk result (IsOkAnd (testtags pool.old (length universe.old.packages) reader.old.repo (inline_lines (line + 1) (lines_of behind.now))) (λ r. IsTaken r pool.new universe.old universe.new)) }
+    ensures read { OnOk result (IsOkAnd (testtags pool.old (length universe.old.packages) reader.repo (inline_lines (line + 1) (lines_of behind.now))) (λ r. IsTaken r pool.new universe.old universe.new)) }
     ensures over { OnOk result (IsOver pool.new universe.new) }
-    ensures refused { IfErr result (λ fault. IsTagRefusal fault (testtags pool.old (length universe.old.packages) reader.old.repo (inline_lines (line + 1) (lines_of behind.now)))) }
+    ensures refused { IfErr result (λ fault. IsTagRefusal fault (testtags pool.old (length universe.old.packages) reader.repo (inline_lines (line + 1) (lines_of behind.now)))) }
     ensures form { IfErr result (λ fault. HasOneForm fault.cause) }
     ensures grows { Grows pool.old pool.new }
 {
-    match read_lines(reader, pool, universe, line, behind) {
+    match read_lines(&mut reader, pool, universe, line, behind) {
         Ok(last) => reader.end(universe, last),
         Err(fault) => Err(fault),
     }
@@ -117,6 +117,6 @@ pub(crate) fn read_block(
     ensures grows { Grows pool.old pool.new }
 {
     universe.marks_each();
-    let mut reader = TagReader::new(pool.alloc(), repo, universe.count());
-    read_all(&mut reader, pool, universe, line, behind)
+    let reader = TagReader::new(pool.alloc(), repo, universe.count());
+    read_all(reader, pool, universe, line, behind)
 }

@@ -1,6 +1,7 @@
 //! The reader of scripts.
 ghost use Rattle.std.specs.Prelude.{◌≡◌, OnOk, IfErr};
 ghost use Rattle.solv_pool.specs.TaskBelonging.{IsClosed};
+ghost use Rattle.solv_pool.specs.TaskForms.{HasForms};
 ghost use Rattle.solv_script.specs.Grammar.{counted};
 ghost use Rattle.solv_script.specs.Halts.{IsHalt};
 ghost use Rattle.solv_script.specs.Readings.{IsReader, HasRead, state_of};
@@ -74,6 +75,7 @@ impl Reader {
         requires { IsReader self }
         ensures script { written_script result ≡ script_given (state_of self) }
         ensures closed { IsClosed result.task }
+        ensures forms { HasForms result.task }
     {
         Script {
             task: self.task,

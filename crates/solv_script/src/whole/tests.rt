@@ -196,6 +196,21 @@ fn files_are_fetched_at_their_line(rt: HostRuntime) -> Result<(), Fail> {
     Ok(())
 }
 
+#[test]
+fn files_that_are_not_held_cannot_be_read(rt: HostRuntime) -> Result<(), Fail> {
+    let mut files = mem_files(rt.alloc(), &[])?;
+    let line = b"repo available 0 testtags a.repo";
+    let got = said_of(rt.alloc(), line.as_slice(), &mut files)?;
+    assert_eq!(rt; got.as_str(), "cannot read d/a.repo");
+    assert_eq!(rt; (files.calls, files.faults), (1, 1));
+    let mut files = mem_files(rt.alloc(), &[])?;
+    let line = b"repo available 0 testtags a.repo.gz";
+    let got = said_of(rt.alloc(), line.as_slice(), &mut files)?;
+    assert_eq!(rt; got.as_str(), "d/case.t:1: Compressed");
+    assert_eq!(rt; (files.calls, files.asked.len()), (0, 0));
+    Ok(())
+}
+
 /// A script of all kinds of lines.
 const ALL_KINDS: &str =
     "repo a -1 testtags <inline>\n#>=Ver: 3.0\r\n#>=Pkg: A 1 - noarch\n#>+Req:\n#>b >= 1\n#>-Req:\nrepo b 2 testtags b.repo\n# comment\nrepo c 0 empty\nsystem i686 rpm a\nsolverflags !allownamechange,allowdowngrade noinfarchcheck\nnamespace namespace:x(y) @SYSTEM B-1-1.noarch@b\ndisable pkg B-1-1.noarch@b\nevrcmp 1.0~rc1 < 1.0\njob install pkg B-1-1.noarch@b [forcebest]\n \t\njob erase name A < 2\njob favor oneof A-1.noarch@a B-1-1.noarch@b\njob verify all packages\njob noop\n";

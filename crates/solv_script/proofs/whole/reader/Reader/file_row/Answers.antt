@@ -59,4 +59,4 @@ returns-in-Err-Memory-clause-ended g c =
     let files = c.args.files.now in
     want_same (row_piece (file_row c.args.script.now (state_of c.args.self.now) c.args.line c.args.file.now))
     (record { contents = g.F.Files.contents files; asked_before = g.F.Files.asked files; asked_after = g.F.Files.asked c.fetch.new.self; faults_before = g.F.Files.faults files; faults_after = g.F.Files.faults c.fetch.new.self })
-    (rw c.in-Err-Memory.field-0-is at c.in-Err-Memory.ensures.asked)
+    (rw c.in-Err-Memory.field-0-is at c.in-Err-Memory.ensures.asked) (rw c.in-Err-Memory.field-0-is at c.in-Err-Memory.ensures.faults)

@@ -1,0 +1,189 @@
+-- A line is not built only where it has a form that comes late.
+use Rattle.std.proofs.Common.{ℕ, ◌≡◌, ◌||◌, ◌&&◌, Bool, true, false, List, [], ◌∷◌, Option, Some, None, Result, Ok, Err, refl, ap, ◌∙◌}
+use Rattle.std.specs.Prelude.{codes, if◌then◌else◌}
+use Rattle.std.specs.List.{list_any}
+use Rattle.std.specs.Str.{bytes_eq}
+use Rattle.solv_deps.specs.Grammar.{comparison, is_namespace}
+use Rattle.solv_pool.specs.declared.jobs.Action.{Action}
+use Rattle.solv_pool.specs.declared.jobs.Action.TheVariants.{Install, Erase, Update, Lock, Verify, Multiversion, AllowUninstall, Favor, Disfavor, Noop}
+use Rattle.solv_commands.specs.Commas.{between_commas}
+use Rattle.solv_commands.specs.Commands.{Asked, and_then, or_cause, fits_type, file_of, repo_line, system_line, namespace_line, disable_line, evrcmp_line, action, in_brackets, flag_word, before_flags, flag_cause, flags_cause, forcebest, one_package, some_words, all_packages, selection, asked, fits_forcebest, has_job_words, job_line, by_name, by_provides, one_of}
+use Rattle.solv_commands.specs.LateForms.{is_late_word, is_late_action, flags_in, has_late_flag, is_late_job, is_late, NotBuiltIsLate}
+use Rattle.solv_commands.specs.Numbers.{priority}
+use Rattle.solv_commands.specs.declared.causes.Cause.{Cause}
+use Rattle.solv_commands.specs.declared.causes.Cause.TheVariants.{BadWords, BadNumber, BadRepoType, BadNamespace, BadOperator, UnknownJob, UnknownJobFlag, FlagNotHere, UnknownSelection, UnknownLine, NotBuilt}
+
+-- where this is not built, that holds
+abbrev LateOnly : {A : Type 0} → Type 0 → Result A Cause → Type 0
+LateOnly P given = given ≡ Err NotBuilt → P
+
+late_if : {A P : Type 0} (b : Bool) (x y : Result A Cause) → (b ≡ true → LateOnly P x) → (b ≡ false → LateOnly P y) → LateOnly P (if b then x else y)
+late_if true x y f g h = f refl h
+late_if false x y f g h = g refl h
+
+late_then : {A B P : Type 0} (r : Result A Cause) (next : A → Result B Cause) → LateOnly P r → ((x : A) → LateOnly P (next x)) → LateOnly P (and_then r next)
+late_then (Ok x) next f g h = g x h
+late_then (Err c) next f g h = f (let same : c ≡ NotBuilt = cc in ap Err same)
+
+late_ok : {A P : Type 0} (x : A) → LateOnly P (Ok x)
+late_ok x h = absurd (cc)
+
+late_option : {A P : Type 0} (c : Cause) (o : Option A) → (c ≡ NotBuilt → ⊥) → LateOnly P (or_cause c o)
+late_option c (Some x) n h = absurd (cc)
+late_option c None n h = absurd (n (cc))
+
+module _ {P : Type 0} where
+  file_built : (type : List ℕ) (words : List (List ℕ)) → LateOnly P (file_of type words)
+  file_built type words =
+      late_if (bytes_eq type (codes "empty")) _ _ (λ e h. absurd (cc)) (λ e. late_if (bytes_eq type (codes "testtags")) _ _ (λ e h. absurd (cc)) (λ e h. absurd (cc)))
+
+  repo_built : (words : List (List ℕ)) → LateOnly P (repo_line words)
+  repo_built (name ∷ number ∷ type ∷ words) =
+      late_if (fits_type type _) _ _
+      (λ e. late_then (or_cause BadNumber (priority number)) _ (late_option BadNumber (priority number) (λ k. cc)) (λ p. late_then (file_of type words) _ (file_built type words) (λ file h. absurd (cc))))
+      (λ e h. absurd (cc))
+  repo_built [] = λ h. absurd (cc)
+  repo_built (a ∷ []) = λ h. absurd (cc)
+  repo_built (a ∷ b ∷ []) = λ h. absurd (cc)
+
+  system_built : (words : List (List ℕ)) → LateOnly P (system_line words)
+  system_built [] = λ h. absurd (cc)
+  system_built (a ∷ []) = λ h. absurd (cc)
+  system_built (a ∷ b ∷ []) = λ h. absurd (cc)
+  system_built (a ∷ b ∷ c ∷ []) = λ h. absurd (cc)
+  system_built (a ∷ b ∷ c ∷ d ∷ words) = λ h. absurd (cc)
+
+  namespace_built : (words : List (List ℕ)) → LateOnly P (namespace_line words)
+  namespace_built [] = λ h. absurd (cc)
+  namespace_built (a ∷ []) = λ h. absurd (cc)
+  namespace_built (name ∷ b ∷ words) = late_if (is_namespace name) _ _ (λ e h. absurd (cc)) (λ e h. absurd (cc))
+
+  disable_built : (words : List (List ℕ)) → LateOnly P (disable_line words)
+  disable_built [] = λ h. absurd (cc)
+  disable_built (a ∷ []) = λ h. absurd (cc)
+  disable_built (kind ∷ b ∷ []) = late_if (bytes_eq kind (codes "pkg")) _ _ (λ e h. absurd (cc)) (λ e h. absurd (cc))
+  disable_built (a ∷ b ∷ c ∷ words) = λ h. absurd (cc)
+
+  evrcmp_built : (words : List (List ℕ)) → LateOnly P (evrcmp_line words)
+  evrcmp_built [] = λ h. absurd (cc)
+  evrcmp_built (a ∷ []) = λ h. absurd (cc)
+  evrcmp_built (a ∷ b ∷ []) = λ h. absurd (cc)
+  evrcmp_built (left ∷ sign ∷ right ∷ []) = late_then (or_cause BadOperator (comparison sign)) _ (late_option BadOperator (comparison sign) (λ k. cc)) (λ c h. absurd (cc))
+  evrcmp_built (a ∷ b ∷ c ∷ d ∷ words) = λ h. absurd (cc)
+
+  one_built : (words : List (List ℕ)) → LateOnly P (one_package words)
+  one_built [] = λ h. absurd (cc)
+  one_built (a ∷ []) = λ h. absurd (cc)
+  one_built (a ∷ b ∷ words) = λ h. absurd (cc)
+
+  some_built : (make : List (List ℕ) → Asked) (words : List (List ℕ)) → LateOnly P (some_words make words)
+  some_built make [] = λ h. absurd (cc)
+  some_built make (a ∷ words) = λ h. absurd (cc)
+
+  all_built : (words : List (List ℕ)) → LateOnly P (all_packages words)
+  all_built [] = λ h. absurd (cc)
+  all_built (word ∷ []) = late_if (bytes_eq word (codes "packages")) _ _ (λ e h. absurd (cc)) (λ e h. absurd (cc))
+  all_built (a ∷ b ∷ words) = λ h. absurd (cc)
+
+  selection_built : (kind : List ℕ) (words : List (List ℕ)) → LateOnly P (selection kind words)
+  selection_built kind words =
+      late_if (bytes_eq kind (codes "pkg")) _ _ (λ e. one_built words)
+      (λ e. late_if (bytes_eq kind (codes "name")) _ _ (λ e. some_built by_name words)
+      (λ e. late_if (bytes_eq kind (codes "provides")) _ _ (λ e. some_built by_provides words)
+      (λ e. late_if (bytes_eq kind (codes "oneof")) _ _ (λ e. some_built one_of words)
+      (λ e. late_if (bytes_eq kind (codes "all")) _ _ (λ e. all_built words) (λ e h. absurd (cc))))))
+
+  asked_built : (a : Action) (words : List (List ℕ)) → LateOnly P (asked a words)
+  asked_built a (kind ∷ words) = selection_built kind words
+  asked_built Noop [] = λ h. absurd (cc)
+  asked_built Install [] = λ h. absurd (cc)
+  asked_built Erase [] = λ h. absurd (cc)
+  asked_built Update [] = λ h. absurd (cc)
+  asked_built Lock [] = λ h. absurd (cc)
+  asked_built Verify [] = λ h. absurd (cc)
+  asked_built Multiversion [] = λ h. absurd (cc)
+  asked_built AllowUninstall [] = λ h. absurd (cc)
+  asked_built Favor [] = λ h. absurd (cc)
+  asked_built Disfavor [] = λ h. absurd (cc)
+
+or_first : (a b : Bool) → a ≡ true → (a || b) ≡ true
+or_first a b h = rw h refl
+
+or_second : (a b : Bool) → b ≡ true → (a || b) ≡ true
+or_second true b h = refl
+or_second false b h = h
+
+action_late : (word : List ℕ) → LateOnly (is_late_action word ≡ true) (action word)
+action_late word =
+    let is : List ℕ → Bool = bytes_eq word in
+    late_if (is (codes "install")) _ _ (λ e h. absurd (cc)) (λ e.
+    late_if (is (codes "erase")) _ _ (λ e h. absurd (cc)) (λ e.
+    late_if (is (codes "update")) _ _ (λ e h. absurd (cc)) (λ e.
+    late_if (is (codes "lock")) _ _ (λ e h. absurd (cc)) (λ e.
+    late_if (is (codes "verify")) _ _ (λ e h. absurd (cc)) (λ e.
+    late_if (is (codes "multiversion")) _ _ (λ e h. absurd (cc)) (λ e.
+    late_if (is (codes "allowuninstall")) _ _ (λ e h. absurd (cc)) (λ e.
+    late_if (is (codes "favor")) _ _ (λ e h. absurd (cc)) (λ e.
+    late_if (is (codes "disfavor")) _ _ (λ e h. absurd (cc)) (λ e.
+    late_if (is (codes "noop")) _ _ (λ e h. absurd (cc)) (λ e.
+    late_if (is (codes "distupgrade")) _ _ (λ e h. or_first (is (codes "distupgrade")) (is (codes "userinstalled")) e) (λ e.
+    late_if (is (codes "userinstalled")) _ _ (λ e h. or_second (is (codes "distupgrade")) (is (codes "userinstalled")) e) (λ e h. absurd (cc)))))))))))))
+
+flag_late : (flag : List ℕ) → flag_cause flag ≡ Some NotBuilt → bytes_eq flag (codes "cleandeps") ≡ true
+flag_late flag = by_name (bytes_eq flag (codes "forcebest")) (bytes_eq flag (codes "cleandeps"))
+  where
+    by_name : (b c : Bool) → (if b then None else (if c then Some NotBuilt else Some UnknownJobFlag)) ≡ Some NotBuilt → c ≡ true
+    by_name true c h = absurd (cc)
+    by_name false true h = refl
+    by_name false false h = absurd (cc)
+
+abbrev has_flag : List (List ℕ) → Bool
+has_flag flags = list_any (λ flag. bytes_eq flag (codes "cleandeps")) flags
+
+flags_late : (flags : List (List ℕ)) → flags_cause flags ≡ Some NotBuilt → has_flag flags ≡ true
+flags_late [] h = absurd (cc)
+flags_late (flag ∷ flags) h = by_cause (λ (k : flags_cause flags ≡ Some NotBuilt). flags_late flags k) (flag_cause flag) refl
+  where
+    by_cause : (flags_cause flags ≡ Some NotBuilt → has_flag flags ≡ true) → (o : Option Cause) → flag_cause flag ≡ o → has_flag (flag ∷ flags) ≡ true
+    by_cause behind (Some c) e =
+        let first : Some c ≡ Some NotBuilt = rw e at h in
+        or_first (bytes_eq flag (codes "cleandeps")) (has_flag flags) (flag_late flag (e ∙ first))
+    by_cause behind None e =
+        let later : flags_cause flags ≡ Some NotBuilt = rw e at h in
+        or_second (bytes_eq flag (codes "cleandeps")) (has_flag flags) (behind later)
+
+forced_late : (o : Option (List ℕ)) → LateOnly (has_flag (flags_in o) ≡ true) (forcebest o)
+forced_late None h = absurd (cc)
+forced_late (Some word) h = by_cause (flags_cause (between_commas (in_brackets word))) refl
+  where
+    by_cause : (o : Option Cause) → flags_cause (between_commas (in_brackets word)) ≡ o → has_flag (between_commas (in_brackets word)) ≡ true
+    by_cause None e = let given : Result Bool Cause = Ok true in let no : given ≡ Err NotBuilt = rw e at h in absurd (cc)
+    by_cause (Some c) e =
+        let given : Result Bool Cause = Err c in
+        let first : given ≡ Err NotBuilt = rw e at h in
+        let same : c ≡ NotBuilt = cc in
+        flags_late (between_commas (in_brackets word)) (e ∙ ap Some same)
+
+job_late : (words : List (List ℕ)) → LateOnly (is_late_job words ≡ true) (job_line words)
+job_late [] = λ h. absurd (cc)
+job_late (word ∷ words) =
+    late_if (has_job_words word words) _ _
+    (λ e. late_then (action word) _ (λ h. or_first (is_late_action word) (has_late_flag words) (action_late word h))
+    (λ a. late_then (forcebest (flag_word words)) _ (λ h. or_second (is_late_action word) (has_late_flag words) (forced_late (flag_word words) h))
+    (λ best. late_if (fits_forcebest a best) _ _ (λ e. late_then (asked a (before_flags words)) _ (asked_built a (before_flags words)) (λ s h. absurd (cc))) (λ e h. absurd (cc)))))
+    (λ e h. absurd (cc))
+
+pub command_late : NotBuiltIsLate
+command_late = λ first words.
+    let is : List ℕ → Bool = bytes_eq first in
+    let word = is_late_word first in
+    let job = is (codes "job") && is_late_job words in
+    late_if (is (codes "repo")) _ _ (λ e. repo_built words) (λ e.
+    late_if (is (codes "system")) _ _ (λ e. system_built words) (λ e.
+    late_if (is (codes "solverflags")) _ _ (λ e h. absurd (cc)) (λ e.
+    late_if (is (codes "namespace")) _ _ (λ e. namespace_built words) (λ e.
+    late_if (is (codes "disable")) _ _ (λ e. disable_built words) (λ e.
+    late_if (is (codes "evrcmp")) _ _ (λ e. evrcmp_built words) (λ e.
+    late_if (is (codes "job")) _ _ (λ e h. or_second word job (rw (e, job_late words h) refl)) (λ e.
+    late_if (is (codes "result")) _ _ (λ e h. or_first word job (or_first (is (codes "result")) (is (codes "nextjob")) e)) (λ e.
+    late_if (is (codes "nextjob")) _ _ (λ e h. or_first word job (or_second (is (codes "result")) (is (codes "nextjob")) e)) (λ e h. absurd (cc))))))))))
