@@ -1,0 +1,180 @@
+-- A book can be made of the rules that packages ask for.
+use Rattle.std.proofs.Common.{◌≡◌, ◌≤◌, ◌<◌, ◌+◌, ℕ, zero, suc, Bool, true, false, not, ◌&&◌, ◌||◌, List, [], ◌∷◌, ◌++◌, map, length, Option, Some, None, refl, sym, ap, ◌∙◌, arith, add-one}
+use Rattle.std.specs.Prelude.{filter, flat_map, slice_get, nat_lt, ◌==◌, if◌then◌else◌}
+use Rattle.std.specs.List.{list_all, range_with_len}
+use Rattle.std.specs.Option.{option_map_or}
+use Rattle.std.proofs.lemmas.Bool.Decides.{nat_tests}
+use Rattle.solv_base.specs.Dependency.{plain}
+use Rattle.solv_pool.specs.Words.{is_among, when}
+use Rattle.solv_pool.specs.Catalog.{Catalog, catalog_of, dependency, members, package_at, packages}
+use Rattle.solv_pool.specs.Counting.{is_fully_counted}
+use Rattle.solv_pool.specs.HardRules.{not_installable_rules, rules_asked_by, rules_of_package, package_rules}
+use Rattle.solv_pool.specs.Holding.{package_meets}
+use Rattle.solv_pool.specs.Installable.{is_installable}
+use Rattle.solv_pool.specs.Providing.{covers, is_named}
+use Rattle.solv_pool.specs.RuleMeaning.{HardRule, not_installable, req, con, obs, same}
+use Rattle.solv_pool.specs.declared.packages.Package.{Package}
+use Rattle.solv_pool.specs.declared.packages.Need.{Need}
+use Rattle.solv_pool.specs.declared.job_marks.Marks.{Marks}
+use Rattle.solv_pool.specs.declared.tasks.Task.{Task}
+use Rattle.solv_prov.specs.Index.{Index}
+use Rattle.solv_rules.specs.Making.{IsReady, IsSound, is_single, requirement_holds, requirements_of, is_counted_other, against, conflicts_of, obsoletions_of, is_barred, namesakes_of}
+use Rattle.solv_rules.specs.Books.{is_bookable, is_held_single, is_no_rich_conflict, PackageRulesAreBookable}
+use Rattle.solv_rules.proofs.Packages.{sound, asked_is}
+
+left : (a b : Bool) → (a && b) ≡ true → a ≡ true
+left true b h = refl
+left false b h = h
+
+right : (a b : Bool) → (a && b) ≡ true → b ≡ true
+right true b h = h
+right false b h = cc
+
+or_right : (a b : Bool) → b ≡ true → (a || b) ≡ true
+or_right true b h = refl
+or_right false b h = h
+
+all_join : {X : Type 0} (f : X → Bool) (xs ys : List X) → list_all f xs ≡ true → list_all f ys ≡ true → list_all f (xs ++ ys) ≡ true
+all_join f [] ys h k = k
+all_join f (x ∷ xs) ys h k = rw (left (f x) (list_all f xs) h) (all_join f xs ys (right (f x) (list_all f xs) h) k)
+
+all_filter : {X : Type 0} (f g : X → Bool) (xs : List X) → list_all f xs ≡ true → list_all f (filter g xs) ≡ true
+all_filter f g [] h = refl
+all_filter f g (x ∷ xs) h =
+    elim (g x) as (λ b. list_all f (if b then x ∷ filter g xs else filter g xs) ≡ true) [
+      | true ↦ rw (left (f x) (list_all f xs) h) (all_filter f g xs (right (f x) (list_all f xs) h))
+      | false ↦ all_filter f g xs (right (f x) (list_all f xs) h)
+    ]
+
+all_mapped : {X Y : Type 0} (f : Y → Bool) (g : X → Bool) (rule : X → Y) → ((x : X) → g x ≡ true → f (rule x) ≡ true) → (xs : List X) → list_all g xs ≡ true → list_all f (map rule xs) ≡ true
+all_mapped f g rule each [] h = refl
+all_mapped f g rule each (x ∷ xs) h = rw (each x (left (g x) (list_all g xs) h)) (all_mapped f g rule each xs (right (g x) (list_all g xs) h))
+
+all_both : {X : Type 0} (f g : X → Bool) (xs : List X) → list_all f xs ≡ true → list_all g xs ≡ true → list_all (λ x. f x && g x) xs ≡ true
+all_both f g [] h k = refl
+all_both f g (x ∷ xs) h k = rw (left (f x) (list_all f xs) h, left (g x) (list_all g xs) k) (all_both f g xs (right (f x) (list_all f xs) h) (right (g x) (list_all g xs) k))
+
+all_flat : {X Y : Type 0} (f : Y → Bool) (rules : X → List Y) → ((x : X) → list_all f (rules x) ≡ true) → (xs : List X) → list_all f (flat_map rules xs) ≡ true
+all_flat f rules each [] = refl
+all_flat f rules each (x ∷ xs) = all_join f (rules x) (flat_map rules xs) (each x) (all_flat f rules each xs)
+
+-- numbers of a range
+not_equal : (a b : ℕ) → a < b → (a == b) ≡ false
+not_equal a b h = grind (arith, nat_tests, h)
+
+equal_itself : (a : ℕ) → (a == a) ≡ true
+equal_itself a = grind (arith, nat_tests)
+
+among_in : (start count p : ℕ) → start ≤ p → p < start + count → is_among (range_with_len start count) p ≡ true
+among_in start zero p h k = absurd (omega (arith, h, k))
+among_in start (suc count) p h k =
+    (elim (start == p) as (λ b. (start == p) ≡ b → (b || is_among (range_with_len (start + 1) count) p) ≡ true) [
+      | true ↦ λ e. refl
+      | false ↦ λ e.
+          let above : start + 1 ≤ p = grind (arith, nat_tests, e, h) in
+          among_in (start + 1) count p above (omega (arith, k))
+    ]) refl
+
+all_among : (start count from n : ℕ) → start ≤ from → from + n ≤ start + count → list_all (is_among (range_with_len start count)) (range_with_len from n) ≡ true
+all_among start count from zero h k = refl
+all_among start count from (suc n) h k =
+    rw (among_in start count from h (omega (arith, k))) (all_among start count (from + 1) n (omega (arith, h)) (omega (arith, k)))
+
+module _ (catalog : Catalog) where
+  abbrev fine : HardRule → Bool
+  fine r = is_bookable catalog r && is_no_rich_conflict r
+
+  packages_among : list_all (is_among (packages catalog)) (packages catalog) ≡ true
+  packages_among = all_among 1 (length catalog.universe.packages) 1 (length catalog.universe.packages) (omega arith) (omega arith)
+
+  wider : (qs : List ℕ) → list_all (is_among (packages catalog)) qs ≡ true → list_all (is_among (members catalog)) qs ≡ true
+  wider [] h = refl
+  wider (q ∷ qs) h =
+      rw (or_right (0 == q) (is_among (packages catalog) q) (left (is_among (packages catalog) q) (list_all (is_among (packages catalog)) qs) h))
+      (wider qs (right (is_among (packages catalog) q) (list_all (is_among (packages catalog)) qs) h))
+
+  members_among : list_all (is_among (members catalog)) (members catalog) ≡ true
+  members_among = rw (equal_itself 0) (wider (packages catalog) packages_among)
+
+  module _ (p : ℕ) (here : is_among (packages catalog) p ≡ true) where
+    out_fine : list_all fine (not_installable_rules catalog p) ≡ true
+    out_fine =
+        elim (not (is_installable catalog p)) as (λ b. list_all fine (when b (not_installable p ∷ [])) ≡ true) [
+          | true ↦ rw here refl
+          | false ↦ refl
+        ]
+
+    needs_fine : (fully : Bool) (needs : List Need) → list_all (λ need. nat_lt need.dep (length catalog.pool.nodes)) needs ≡ true → list_all (λ need. is_single catalog need.dep) needs ≡ true → list_all fine (requirements_of catalog fully p needs) ≡ true
+    needs_fine fully needs h k =
+        all_mapped fine (λ (need : Need). is_held_single catalog need.dep) (λ (need : Need). req p need.dep) (λ need e. rw (here, e) refl) (filter (requirement_holds catalog fully) needs)
+        (all_filter (λ (need : Need). is_held_single catalog need.dep) (requirement_holds catalog fully) needs
+        (all_both (λ (need : Need). nat_lt need.dep (length catalog.pool.nodes)) (λ (need : Need). is_single catalog need.dep) needs h k))
+
+    conflicts_fine : (fully : Bool) (ds : List ℕ) → list_all fine (conflicts_of catalog fully p ds) ≡ true
+    conflicts_fine fully ds =
+        all_flat fine (λ d. against catalog fully p (con p d) (filter (package_meets catalog (dependency catalog d)) (members catalog)))
+        (λ d.
+        all_mapped fine (is_among (members catalog)) (con p d) (λ q e. rw (here, e) refl) (filter (is_counted_other catalog fully p) (filter (package_meets catalog (dependency catalog d)) (members catalog)))
+        (all_filter (is_among (members catalog)) (is_counted_other catalog fully p) (filter (package_meets catalog (dependency catalog d)) (members catalog))
+        (all_filter (is_among (members catalog)) (package_meets catalog (dependency catalog d)) (members catalog) members_among))) ds
+
+    obsoletions_fine : (fully : Bool) (ds : List ℕ) → list_all fine (obsoletions_of catalog fully p ds) ≡ true
+    obsoletions_fine fully ds =
+        all_flat fine (λ d. against catalog fully p (obs p d) (filter (covers catalog d) (packages catalog)))
+        (λ d.
+        all_mapped fine (is_among (packages catalog)) (obs p d) (λ q e. rw (here, e) refl) (filter (is_counted_other catalog fully p) (filter (covers catalog d) (packages catalog)))
+        (all_filter (is_among (packages catalog)) (is_counted_other catalog fully p) (filter (covers catalog d) (packages catalog))
+        (all_filter (is_among (packages catalog)) (covers catalog d) (packages catalog) packages_among))) ds
+
+    namesakes_fine : (marks : Marks) (n : ℕ) → list_all fine (namesakes_of catalog marks p (filter (is_named catalog (plain n)) (packages catalog))) ≡ true
+    namesakes_fine marks n =
+        all_mapped fine (is_among (packages catalog)) (same p) (λ q e. rw (here, e) refl) (filter (is_barred catalog marks p) (filter (is_named catalog (plain n)) (packages catalog)))
+        (all_filter (is_among (packages catalog)) (is_barred catalog marks p) (filter (is_named catalog (plain n)) (packages catalog))
+        (all_filter (is_among (packages catalog)) (is_named catalog (plain n)) (packages catalog) packages_among))
+
+    asked_fine : (marks : Marks) (a : Package) → package_at catalog p ≡ Some a → IsSound catalog a → list_all fine (rules_asked_by catalog marks p a) ≡ true
+    asked_fine marks a at s =
+        rw (asked_is catalog marks p a at s)
+        (all_join fine (not_installable_rules catalog p) _ out_fine
+        (all_join fine (requirements_of catalog (is_fully_counted catalog marks p) p a.requires_) _ (needs_fine (is_fully_counted catalog marks p) a.requires_ s.needs s.single_needs)
+        (all_join fine (conflicts_of catalog (is_fully_counted catalog marks p) p a.conflicts) _ (conflicts_fine (is_fully_counted catalog marks p) a.conflicts)
+        (all_join fine (obsoletions_of catalog (is_fully_counted catalog marks p) p a.obsoletes) _ (obsoletions_fine (is_fully_counted catalog marks p) a.obsoletes) (namesakes_fine marks a.name)))))
+
+package_fine : (task : Task) (index : Index) (marks : Marks) → IsReady task index marks → (p : ℕ) → is_among (packages (catalog_of task)) p ≡ true → list_all (fine (catalog_of task)) (rules_of_package (catalog_of task) marks p) ≡ true
+package_fine task index marks ready zero here = refl
+package_fine task index marks ready (suc k) here =
+    (elim (slice_get task.universe.packages k) as (λ o. slice_get task.universe.packages k ≡ o → list_all (fine (catalog_of task)) (rules_of_package (catalog_of task) marks (suc k)) ≡ true) [
+      | Some a ↦ λ at. by a at
+      | None ↦ λ at. none at
+    ]) refl
+  where
+    by : (a : Package) → slice_get task.universe.packages k ≡ Some a → list_all (fine (catalog_of task)) (rules_of_package (catalog_of task) marks (suc k)) ≡ true
+    by a at =
+        let is : rules_of_package (catalog_of task) marks (suc k) ≡ rules_asked_by (catalog_of task) marks (suc k) a = whole at in
+        ap (λ t. list_all (fine (catalog_of task)) t) is ∙ asked_fine (catalog_of task) (suc k) here marks a at (sound task index marks k a ready at)
+      where
+        whole : slice_get task.universe.packages k ≡ Some a → rules_of_package (catalog_of task) marks (suc k) ≡ rules_asked_by (catalog_of task) marks (suc k) a
+        whole e = ap (λ o. option_map_or (rules_asked_by (catalog_of task) marks (suc k)) o []) e
+
+    none : slice_get task.universe.packages k ≡ None → list_all (fine (catalog_of task)) (rules_of_package (catalog_of task) marks (suc k)) ≡ true
+    none at = ap (λ o. list_all (fine (catalog_of task)) (option_map_or (rules_asked_by (catalog_of task) marks (suc k)) o [])) at
+
+all_fine : (task : Task) (index : Index) (marks : Marks) → IsReady task index marks → (ps : List ℕ) → list_all (is_among (packages (catalog_of task))) ps ≡ true → list_all (fine (catalog_of task)) (flat_map (rules_of_package (catalog_of task) marks) ps) ≡ true
+all_fine task index marks ready [] h = refl
+all_fine task index marks ready (p ∷ ps) h =
+    all_join (fine (catalog_of task)) (rules_of_package (catalog_of task) marks p) (flat_map (rules_of_package (catalog_of task) marks) ps)
+    (package_fine task index marks ready p (left (is_among (packages (catalog_of task)) p) (list_all (is_among (packages (catalog_of task))) ps) h))
+    (all_fine task index marks ready ps (right (is_among (packages (catalog_of task)) p) (list_all (is_among (packages (catalog_of task))) ps) h))
+
+all_first : {X : Type 0} (f g : X → Bool) (xs : List X) → list_all (λ x. f x && g x) xs ≡ true → list_all f xs ≡ true
+all_first f g [] h = refl
+all_first f g (x ∷ xs) h = rw (left (f x) (g x) (left (f x && g x) (list_all (λ y. f y && g y) xs) h)) (all_first f g xs (right (f x && g x) (list_all (λ y. f y && g y) xs) h))
+
+all_second : {X : Type 0} (f g : X → Bool) (xs : List X) → list_all (λ x. f x && g x) xs ≡ true → list_all g xs ≡ true
+all_second f g [] h = refl
+all_second f g (x ∷ xs) h = rw (right (f x) (g x) (left (f x && g x) (list_all (λ y. f y && g y) xs) h)) (all_second f g xs (right (f x && g x) (list_all (λ y. f y && g y) xs) h))
+
+pub package_rules_are_bookable : PackageRulesAreBookable
+package_rules_are_bookable task index marks ready =
+    let all = all_fine task index marks ready (packages (catalog_of task)) (packages_among (catalog_of task)) in
+    (all_first (is_bookable (catalog_of task)) is_no_rich_conflict (package_rules (catalog_of task) marks) all, all_second (is_bookable (catalog_of task)) is_no_rich_conflict (package_rules (catalog_of task) marks) all)

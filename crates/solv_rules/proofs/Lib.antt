@@ -1,0 +1,11 @@
+pub mod Meeting
+pub mod Putting
+pub mod Packages
+pub mod Listing
+pub mod Taking
+pub mod Few
+pub mod RuleWords
+pub mod Appended
+pub mod FormWords
+pub mod Bookkeeping
+pub mod Bookable

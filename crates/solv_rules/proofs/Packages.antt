@@ -1,0 +1,172 @@
+-- What a package asks for, over the lists that the index has.
+use Rattle.std.proofs.Common.{◌≡◌, ◌≤◌, ◌<◌, ◌+◌, ◌-◌, ℕ, zero, suc, Bool, true, false, not, ◌&&◌, ◌||◌, List, [], ◌∷◌, ◌++◌, map, length, Option, Some, None, refl, sym, ap, ◌∙◌, arith, add-one, append_assoc}
+use Rattle.std.specs.Prelude.{filter, flat_map, slice_get, nat_lt, ◌==◌, if◌then◌else◌}
+use Rattle.std.specs.List.{list_all, range_with_len}
+use Rattle.std.proofs.lemmas.Bool.{ltb-true}
+use Rattle.std.proofs.lemmas.Bool.Decides.{nat_tests}
+use Rattle.std.proofs.lemmas.List.{append-nil}
+use Rattle.solv_base.specs.Dependency.{plain, operators, package_wise}
+use Rattle.solv_pool.specs.Words.{passes}
+use Rattle.solv_pool.specs.Belonging.{IsOver, fits, names_of, relations_of}
+use Rattle.solv_pool.specs.Contents.{Contents}
+use Rattle.solv_pool.specs.Catalog.{Catalog, catalog_of, dependency, is_installed, members, package_at, packages, same_name}
+use Rattle.solv_pool.specs.Counting.{is_fully_counted, pair_counts, rich_conflict_counts}
+use Rattle.solv_pool.specs.HardRules.{not_installable_rules, requirement_rules, package_wise_conflicts, is_conflicting, conflicting, conflict_rules, counted_rich_conflicts, rich_conflict_rules, is_obsoleted, obsoleted, obsoletion_rules, is_later_namesake, same_name_rules, rules_asked_by, rules_of_package}
+use Rattle.solv_pool.specs.Holding.{package_meets}
+use Rattle.solv_pool.specs.JobMarks.{marked}
+use Rattle.solv_pool.specs.Providing.{covers, is_named}
+use Rattle.solv_pool.specs.RuleMeaning.{HardRule, con, rich_con, obs, same}
+use Rattle.solv_pool.specs.declared.packages.Package.{Package}
+use Rattle.solv_pool.specs.declared.packages.Need.{Need}
+use Rattle.solv_pool.specs.declared.job_marks.Marks.{Marks}
+use Rattle.solv_pool.specs.declared.tasks.Task.{Task}
+use Rattle.solv_prov.specs.Index.{Index}
+use Rattle.solv_rules.specs.Making.{IsReady, IsSound, asks_singly, is_single, requirements_of, is_counted_other, against, conflicts_of, obsoletions_of, is_barred, namesakes_of}
+
+left : (a b : Bool) → (a && b) ≡ true → a ≡ true
+left true b h = refl
+left false b h = h
+
+right : (a b : Bool) → (a && b) ≡ true → b ≡ true
+right true b h = h
+right false b h = cc
+
+all_at : {X : Type 0} (p : X → Bool) (xs : List X) (k : ℕ) (x : X) → list_all p xs ≡ true → slice_get xs k ≡ Some x → p x ≡ true
+all_at p [] k x h at = cc
+all_at p (y ∷ xs) zero x h at = let same : y ≡ x = cc in rw (← same) (left (p y) (list_all p xs) h)
+all_at p (y ∷ xs) (suc k) x h at = all_at p xs k x (right (p y) (list_all p xs) h) at
+
+all_left : {X : Type 0} (p : X → Bool) (xs ys : List X) → list_all p (xs ++ ys) ≡ true → list_all p xs ≡ true
+all_left p [] ys h = refl
+all_left p (x ∷ xs) ys h = rw (left (p x) (list_all p (xs ++ ys)) h) (all_left p xs ys (right (p x) (list_all p (xs ++ ys)) h))
+
+all_right : {X : Type 0} (p : X → Bool) (xs ys : List X) → list_all p (xs ++ ys) ≡ true → list_all p ys ≡ true
+all_right p [] ys h = h
+all_right p (x ∷ xs) ys h = all_right p xs ys (right (p x) (list_all p (xs ++ ys)) h)
+
+all_of_map : (p : ℕ → Bool) (needs : List Need) → list_all p (map (λ need. need.dep) needs) ≡ true → list_all (λ need. p need.dep) needs ≡ true
+all_of_map p [] h = refl
+all_of_map p (need ∷ needs) h = rw (left (p need.dep) (list_all p (map (λ (n : Need). n.dep) needs)) h) (all_of_map p needs (right (p need.dep) (list_all p (map (λ (n : Need). n.dep) needs)) h))
+
+-- a package of a task that is ready
+module _ (task : Task) (index : Index) (marks : Marks) (k : ℕ) (a : Package) (ready : IsReady task index marks) (at : slice_get task.universe.packages k ≡ Some a) where
+  abbrev below : ℕ → Bool
+  below d = nat_lt d (length task.pool.nodes)
+
+  abbrev named : ℕ → Bool
+  named n = nat_lt n (length task.pool.names)
+
+  fit : fits (length task.pool.names) (length task.pool.nodes) (length task.universe.repos) a ≡ true
+  fit = all_at (fits (length task.pool.names) (length task.pool.nodes) (length task.universe.repos)) task.universe.packages k a ready.over.packages at
+
+  singly : asks_singly (catalog_of task) a ≡ true
+  singly = all_at (asks_singly (catalog_of task)) task.universe.packages k a ready.singly at
+
+  behind : list_all below (map (λ (n : Need). n.dep) a.requires_ ++ (a.conflicts ++ (a.obsoletes ++ (a.recommends ++ (a.suggests ++ (a.supplements ++ a.enhances)))))) ≡ true
+  behind = all_right below a.provides _ (left (list_all below (relations_of a)) _ (right (list_all named (names_of a)) _ fit))
+
+  pub sound : IsSound (catalog_of task) a
+  sound = record {
+    name = ltb-true a.name (length task.pool.names) (left (named a.name) _ (left (list_all named (names_of a)) _ fit));
+    needs = all_of_map below a.requires_ (all_left below (map (λ (n : Need). n.dep) a.requires_) _ behind);
+    single_needs = left (list_all (λ (need : Need). is_single (catalog_of task) need.dep) a.requires_) _ singly;
+    conflicts = all_left below a.conflicts _ (all_right below (map (λ (n : Need). n.dep) a.requires_) _ behind);
+    single_conflicts = right (list_all (λ (need : Need). is_single (catalog_of task) need.dep) a.requires_) _ singly;
+    obsoletes = all_left below a.obsoletes _ (all_right below a.conflicts _ (all_right below (map (λ (n : Need). n.dep) a.requires_) _ behind));
+  }
+
+-- a test after another one
+filter_twice : (f g h : ℕ → Bool) → ((q : ℕ) → h q ≡ (g q && f q)) → (qs : List ℕ) → filter h qs ≡ filter f (filter g qs)
+filter_twice f g h same_ [] = refl
+filter_twice f g h same_ (q ∷ qs) =
+    rw (same_ q) (elim (g q) as (λ b. (if b && f q then q ∷ filter h qs else filter h qs) ≡ filter f (if b then q ∷ filter g qs else filter g qs)) [
+      | true ↦ rw (filter_twice f g h same_ qs) refl
+      | false ↦ filter_twice f g h same_ qs
+    ])
+
+first_second : (a b c : Bool) → (a && (b && c)) ≡ (b && (a && c))
+first_second true true c = refl
+first_second true false c = refl
+first_second false true c = refl
+first_second false false c = refl
+
+in_a_row : {X : Type 0} (a b c d e : List X) → a ++ b ++ c ++ [] ++ d ++ e ≡ a ++ (b ++ (c ++ (d ++ e)))
+in_a_row a b c d e =
+    ap (λ t. t ++ d ++ e) (append-nil (a ++ b ++ c)) ∙ append_assoc (a ++ b ++ c) d e ∙ append_assoc (a ++ b) c (d ++ e) ∙ append_assoc a b (c ++ (d ++ e))
+
+module _ (catalog : Catalog) (marks : Marks) (p : ℕ) where
+  conflicting_is : (d : ℕ) → conflicting catalog marks p d ≡ filter (is_counted_other catalog (is_fully_counted catalog marks p) p) (filter (package_meets catalog (dependency catalog d)) (members catalog))
+  conflicting_is d =
+      filter_twice (is_counted_other catalog (is_fully_counted catalog marks p) p) (package_meets catalog (dependency catalog d)) (is_conflicting catalog marks p d)
+      (λ q. first_second (not (q == p)) (package_meets catalog (dependency catalog d) q) (pair_counts catalog marks p q)) (members catalog)
+
+  obsoleted_is : (d : ℕ) → obsoleted catalog marks p d ≡ filter (is_counted_other catalog (is_fully_counted catalog marks p) p) (filter (covers catalog d) (packages catalog))
+  obsoleted_is d =
+      filter_twice (is_counted_other catalog (is_fully_counted catalog marks p) p) (covers catalog d) (is_obsoleted catalog marks p d)
+      (λ q. first_second (not (q == p)) (covers catalog d q) (pair_counts catalog marks p q)) (packages catalog)
+
+  conflict_rules_are : (ds : List ℕ) → list_all (is_single catalog) ds ≡ true
+      → flat_map (λ d. map (con p d) (conflicting catalog marks p d)) (filter (λ d. package_wise (dependency catalog d)) ds) ≡ conflicts_of catalog (is_fully_counted catalog marks p) p ds
+  conflict_rules_are [] h = refl
+  conflict_rules_are (d ∷ ds) h =
+      rw (left (package_wise (dependency catalog d)) _ (left (is_single catalog d) (list_all (is_single catalog) ds) h))
+      (ap (λ qs. map (con p d) qs ++ flat_map (λ e. map (con p e) (conflicting catalog marks p e)) (filter (λ e. package_wise (dependency catalog e)) ds)) (conflicting_is d)
+      ∙ ap (λ rest. against catalog (is_fully_counted catalog marks p) p (con p d) (filter (package_meets catalog (dependency catalog d)) (members catalog)) ++ rest) (conflict_rules_are ds (right (is_single catalog d) (list_all (is_single catalog) ds) h)))
+
+  no_rich_conflicts : (ds : List ℕ) → list_all (is_single catalog) ds ≡ true → filter (λ d. not (package_wise (dependency catalog d)) && rich_conflict_counts catalog marks p d) ds ≡ []
+  no_rich_conflicts [] h = refl
+  no_rich_conflicts (d ∷ ds) h =
+      rw (left (package_wise (dependency catalog d)) _ (left (is_single catalog d) (list_all (is_single catalog) ds) h))
+      (no_rich_conflicts ds (right (is_single catalog d) (list_all (is_single catalog) ds) h))
+
+  obsoletion_rules_are : (ds : List ℕ) → flat_map (λ d. map (obs p d) (obsoleted catalog marks p d)) ds ≡ obsoletions_of catalog (is_fully_counted catalog marks p) p ds
+  obsoletion_rules_are [] = refl
+  obsoletion_rules_are (d ∷ ds) =
+      ap (λ qs. map (obs p d) qs ++ flat_map (λ e. map (obs p e) (obsoleted catalog marks p e)) ds) (obsoleted_is d)
+      ∙ ap (λ rest. against catalog (is_fully_counted catalog marks p) p (obs p d) (filter (covers catalog d) (packages catalog)) ++ rest) (obsoletion_rules_are ds)
+
+  module _ (a : Package) (at : package_at catalog p ≡ Some a) where
+    swapped_names : (o : Option Package) → passes o (λ b. a.name == b.name) ≡ passes o (λ b. b.name == a.name)
+    swapped_names None = refl
+    swapped_names (Some b) = grind (arith, nat_tests)
+
+    of_its_name : (q : ℕ) → same_name catalog p q ≡ is_named catalog (plain a.name) q
+    of_its_name q = ap (λ o. passes o (λ b. passes (package_at catalog q) (λ c. b.name == c.name))) at ∙ swapped_names (package_at catalog q)
+
+    barred : (later named many both : Bool) → (later && (named && (not (named && many) && not both))) ≡ (named && (later && not (many || both)))
+    barred true true true both = refl
+    barred true true false both = refl
+    barred true false many both = refl
+    barred false true many both = refl
+    barred false false many both = refl
+
+    namesakes_are : same_name_rules catalog marks p ≡ namesakes_of catalog marks p (filter (is_named catalog (plain a.name)) (packages catalog))
+    namesakes_are =
+        ap (λ qs. map (same p) qs)
+        (filter_twice (is_barred catalog marks p) (is_named catalog (plain a.name)) (is_later_namesake catalog marks p)
+        (λ q.
+        barred (nat_lt p q) (same_name catalog p q) (marked marks.multiversion p && marked marks.multiversion q) (is_installed catalog p && is_installed catalog q)
+        ∙ ap (λ b. b && is_barred catalog marks p q) (of_its_name q)) (packages catalog))
+
+    -- all that it asks for, in order
+    pub asked_is : IsSound catalog a
+        → rules_asked_by catalog marks p a
+        ≡ not_installable_rules catalog p
+        ++ (requirements_of catalog (is_fully_counted catalog marks p) p a.requires_
+        ++ (conflicts_of catalog (is_fully_counted catalog marks p) p a.conflicts
+        ++ (obsoletions_of catalog (is_fully_counted catalog marks p) p a.obsoletes
+        ++ namesakes_of catalog marks p (filter (is_named catalog (plain a.name)) (packages catalog)))))
+    asked_is s =
+        ap (λ t. not_installable_rules catalog p ++ requirement_rules catalog marks p a ++ t ++ rich_conflict_rules catalog marks p a ++ obsoletion_rules catalog marks p a ++ same_name_rules catalog marks p) (conflict_rules_are a.conflicts s.single_conflicts)
+        ∙ ap (λ t. not_installable_rules catalog p ++ requirement_rules catalog marks p a ++ conflicts_of catalog (is_fully_counted catalog marks p) p a.conflicts ++ map (rich_con p) t ++ obsoletion_rules catalog marks p a ++ same_name_rules catalog marks p) (no_rich_conflicts a.conflicts s.single_conflicts)
+        ∙ ap (λ t. not_installable_rules catalog p ++ requirement_rules catalog marks p a ++ conflicts_of catalog (is_fully_counted catalog marks p) p a.conflicts ++ [] ++ t ++ same_name_rules catalog marks p) (obsoletion_rules_are a.obsoletes)
+        ∙ ap (λ t. not_installable_rules catalog p ++ requirement_rules catalog marks p a ++ conflicts_of catalog (is_fully_counted catalog marks p) p a.conflicts ++ [] ++ obsoletions_of catalog (is_fully_counted catalog marks p) p a.obsoletes ++ t) namesakes_are
+        ∙ in_a_row (not_installable_rules catalog p) (requirement_rules catalog marks p a) (conflicts_of catalog (is_fully_counted catalog marks p) p a.conflicts) (obsoletions_of catalog (is_fully_counted catalog marks p) p a.obsoletes) (namesakes_of catalog marks p (filter (is_named catalog (plain a.name)) (packages catalog)))
+
+-- the package after so many
+pub next_package : (catalog : Catalog) (marks : Marks) (before count : ℕ) → before < count
+    → flat_map (rules_of_package catalog marks) (range_with_len (before + 1) (count - before))
+    ≡ rules_of_package catalog marks (before + 1) ++ flat_map (rules_of_package catalog marks) (range_with_len (before + 1 + 1) (count - (before + 1)))
+next_package catalog marks before count lt =
+    let more : count - before ≡ suc (count - (before + 1)) = omega (arith, lt) in
+    rw (more, add-one) refl

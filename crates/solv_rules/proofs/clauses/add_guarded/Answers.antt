@@ -1,0 +1,21 @@
+use Rattle.std.proofs.Common.{ℕ, ℤ, pos, ◌≡◌, ◌≤◌, ◌<◌, ◌+◌, ◌∷◌, ◌++◌, ◌∙◌, [], List, Bool, true, false, not, Some, None, map, drop, length, refl, sym, ap, arith, rules}
+use Rattle.std.specs.Prelude.{filter, nat_le}
+use Rattle.std.specs.List.{list_all, list_any}
+use Rattle.std.specs.Ordering.{int_eq}
+use Rattle.std.proofs.lemmas.List.{drop_more, drop_all}
+use Rattle.solv_pool.specs.Catalog.{catalog_of}
+use Rattle.solv_pool.specs.Clauses.{is_in, is_out, number_of, kept, in_numbers, guarded}
+use Rattle.solv_prov.specs.Lists.{pieces, AreEnds}
+use Rattle.solv_rules.specs.Drafting.{IsDraft, Takes, are_few, is_number, literal_by, literals_by}
+use Rattle.solv_rules.proofs.Listing.{all_here, all_behind}
+use Rattle.solv_rules.proofs.RuleWords.{some_in, guarded_one, guarded_first, few_one, few_left, few_right}
+use Rattle.solv_rules.proofs.Taking.{IsLeft, all_left, turn, broken, done}
+use Rattle.solv_rules.proofs.clauses.add_guarded.Goals as goal
+
+pub add_clause-requires-clause-few : goal.add_clause-requires-clause-few
+add_clause-requires-clause-few c =
+    let none : list_any (int_eq (number_of (is_in c.args.pack))) c.args.piece.now ≡ false =
+    ap (λ l. list_any (int_eq l) c.args.piece.now) (sym c.is_in.ensures) ∙ sym c.is_among.ensures ∙ c.if-is_among.false in
+    let made : c.deref.result.now ≡ number_of (is_out c.args.pack) ∷ filter (λ l. not (int_eq (number_of (is_out c.args.pack)) l)) c.args.piece.now = search rules in
+    let one = guarded_one c.args.pack c.args.piece.now none in
+    rw made (few_one (number_of (is_out c.args.pack) ∷ filter (λ l. not (int_eq (number_of (is_out c.args.pack)) l)) c.args.piece.now) (rw one at c.requires.few))

@@ -1,0 +1,83 @@
+use Rattle.std.proofs.Common.{◌≡◌, ◌∙◌, ◌&&◌, Bool, true, false, Some, None, List, [], ◌∷◌, map, ap, sym, refl, length, rules}
+use Rattle.std.specs.Prelude.{nat_le}
+use Rattle.std.specs.List.{list_all}
+use Rattle.solv_pool.specs.Words.{is_among}
+use Rattle.solv_pool.specs.Catalog.{catalog_of, dependency, members, packages}
+use Rattle.solv_pool.specs.Clauses.{dependency_clauses, guarded, is_in, is_out, in_numbers, kept, rule_clauses}
+use Rattle.solv_pool.specs.RuleMeaning.{rule_with, set_at}
+use Rattle.solv_rules.specs.Books.{is_held_single, is_bookable, rises}
+use Rattle.solv_rules.specs.Drafting.{Takes, TakesRule, are_few, form_fits, form_numbers, is_number, literal_by, literals_by}
+use Rattle.solv_rules.specs.Drafting.{form_of as form_by}
+use Rattle.solv_rules.specs.declared.forms.Form.TheVariants.{Out, Requirement, Conflict, Pair, OneOf, Each}
+use Rattle.solv_rules.proofs.Appended.{rule_takes}
+use Rattle.solv_rules.proofs.Few.{few_of}
+use Rattle.solv_rules.proofs.RuleWords.{each_by}
+use Rattle.solv_rules.proofs.FormWords.{first_true, second_true, some_pack, pack_number, pack_numbers, packs_held, member_low, single_is, fits_by, numbers_by, fault_by_form}
+use Rattle.solv_rules.proofs.making_book.add_form.Goals as goal
+
+pub is_out-requires : goal.is_out-requires
+is_out-requires c = pack_number (catalog_of c.args.task.now) c.marks_each.ensures.packages_fit c.in-Out.pack (rw c.in-Out.is at c.requires.fits)
+
+pub add_requirement-requires-clause-single : goal.add_requirement-requires-clause-single
+add_requirement-requires-clause-single c = single_is (catalog_of c.args.task.now) c.in-Requirement.dep (second_true (is_among (packages (catalog_of c.args.task.now)) c.in-Requirement.pack) (is_held_single (catalog_of c.args.task.now) c.in-Requirement.dep) (rw c.in-Requirement.is at c.requires.fits))
+
+pub add_requirement-requires-clause-number : goal.add_requirement-requires-clause-number
+add_requirement-requires-clause-number c = pack_number (catalog_of c.args.task.now) c.marks_each.ensures.packages_fit c.in-Requirement.pack (first_true _ (is_held_single (catalog_of c.args.task.now) c.in-Requirement.dep) (rw c.in-Requirement.is at c.requires.fits))
+
+pub add_requirement-requires-clause-few : goal.add_requirement-requires-clause-few
+add_requirement-requires-clause-few c =
+    let packed : is_among (packages (catalog_of c.args.task.now)) c.in-Requirement.pack ≡ true = first_true _ (is_held_single (catalog_of c.args.task.now) c.in-Requirement.dep) (rw c.in-Requirement.is at c.requires.fits) in
+    let numbers : form_numbers (catalog_of c.args.task.now) c.args.sets.now (Requirement c.in-Requirement.pack c.in-Requirement.dep) ≡ guarded c.in-Requirement.pack (dependency_clauses (catalog_of c.args.task.now) None true (dependency (catalog_of c.args.task.now) c.in-Requirement.dep)) =
+    (c.rules_guard_dependencies.ensures (catalog_of c.args.task.now) c.in-Requirement.pack c.in-Requirement.dep (some_pack (catalog_of c.args.task.now) c.marks_each.ensures.packages_fit c.in-Requirement.pack packed)).requirement in
+    rw numbers at (rw c.in-Requirement.is at c.requires.few)
+
+pub returns-in-Requirement : goal.returns-in-Requirement
+returns-in-Requirement c =
+    let packed : is_among (packages (catalog_of c.args.task.now)) c.in-Requirement.pack ≡ true = first_true _ (is_held_single (catalog_of c.args.task.now) c.in-Requirement.dep) (rw c.in-Requirement.is at c.requires.fits) in
+    let numbers : form_numbers (catalog_of c.args.task.now) c.args.sets.now (Requirement c.in-Requirement.pack c.in-Requirement.dep) ≡ guarded c.in-Requirement.pack (dependency_clauses (catalog_of c.args.task.now) None true (dependency (catalog_of c.args.task.now) c.in-Requirement.dep)) =
+    (c.rules_guard_dependencies.ensures (catalog_of c.args.task.now) c.in-Requirement.pack c.in-Requirement.dep (some_pack (catalog_of c.args.task.now) c.marks_each.ensures.packages_fit c.in-Requirement.pack packed)).requirement in
+    rw (c.in-Requirement.is, numbers) c.add_requirement.ensures
+
+pub add_conflict-requires-clause-single : goal.add_conflict-requires-clause-single
+add_conflict-requires-clause-single c = single_is (catalog_of c.args.task.now) c.in-Conflict.dep (second_true (is_among (packages (catalog_of c.args.task.now)) c.in-Conflict.pack) (is_held_single (catalog_of c.args.task.now) c.in-Conflict.dep) (rw c.in-Conflict.is at c.requires.fits))
+
+pub add_conflict-requires-clause-number : goal.add_conflict-requires-clause-number
+add_conflict-requires-clause-number c = pack_number (catalog_of c.args.task.now) c.marks_each.ensures.packages_fit c.in-Conflict.pack (first_true _ (is_held_single (catalog_of c.args.task.now) c.in-Conflict.dep) (rw c.in-Conflict.is at c.requires.fits))
+
+pub add_conflict-requires-clause-few : goal.add_conflict-requires-clause-few
+add_conflict-requires-clause-few c =
+    let packed : is_among (packages (catalog_of c.args.task.now)) c.in-Conflict.pack ≡ true = first_true _ (is_held_single (catalog_of c.args.task.now) c.in-Conflict.dep) (rw c.in-Conflict.is at c.requires.fits) in
+    let numbers : form_numbers (catalog_of c.args.task.now) c.args.sets.now (Conflict c.in-Conflict.pack c.in-Conflict.dep) ≡ guarded c.in-Conflict.pack (dependency_clauses (catalog_of c.args.task.now) (Some c.in-Conflict.pack) false (dependency (catalog_of c.args.task.now) c.in-Conflict.dep)) =
+    (c.rules_guard_dependencies.ensures (catalog_of c.args.task.now) c.in-Conflict.pack c.in-Conflict.dep (some_pack (catalog_of c.args.task.now) c.marks_each.ensures.packages_fit c.in-Conflict.pack packed)).conflict in
+    rw numbers at (rw c.in-Conflict.is at c.requires.few)
+
+pub returns-in-Conflict : goal.returns-in-Conflict
+returns-in-Conflict c =
+    let packed : is_among (packages (catalog_of c.args.task.now)) c.in-Conflict.pack ≡ true = first_true _ (is_held_single (catalog_of c.args.task.now) c.in-Conflict.dep) (rw c.in-Conflict.is at c.requires.fits) in
+    let numbers : form_numbers (catalog_of c.args.task.now) c.args.sets.now (Conflict c.in-Conflict.pack c.in-Conflict.dep) ≡ guarded c.in-Conflict.pack (dependency_clauses (catalog_of c.args.task.now) (Some c.in-Conflict.pack) false (dependency (catalog_of c.args.task.now) c.in-Conflict.dep)) =
+    (c.rules_guard_dependencies.ensures (catalog_of c.args.task.now) c.in-Conflict.pack c.in-Conflict.dep (some_pack (catalog_of c.args.task.now) c.marks_each.ensures.packages_fit c.in-Conflict.pack packed)).conflict in
+    rw (c.in-Conflict.is, numbers) c.add_conflict.ensures
+
+pub add_pair-requires-clause-number : goal.add_pair-requires-clause-number
+add_pair-requires-clause-number c = pack_number (catalog_of c.args.task.now) c.marks_each.ensures.packages_fit c.in-Pair.pack (first_true _ (is_among (members (catalog_of c.args.task.now)) c.in-Pair.other) (rw c.in-Pair.is at c.requires.fits))
+
+pub add_pair-requires-clause-other : goal.add_pair-requires-clause-other
+add_pair-requires-clause-other c = member_low (catalog_of c.args.task.now) c.marks_each.ensures.packages_fit c.in-Pair.other (second_true (is_among (packages (catalog_of c.args.task.now)) c.in-Pair.pack) (is_among (members (catalog_of c.args.task.now)) c.in-Pair.other) (rw c.in-Pair.is at c.requires.fits))
+
+pub add_some-requires-clause-numbers : goal.add_some-requires-clause-numbers
+add_some-requires-clause-numbers c =
+    rw c.set_of.ensures
+    (pack_numbers (catalog_of c.args.task.now) c.marks_each.ensures.packages_fit (set_at c.args.sets.now c.in-OneOf.set) (first_true _ (rises 1 (set_at c.args.sets.now c.in-OneOf.set)) (rw c.in-OneOf.is at c.requires.fits)))
+
+pub add_each-requires-clause-numbers : goal.add_each-requires-clause-numbers
+add_each-requires-clause-numbers c = rw c.set_of-in-Each.ensures (pack_numbers (catalog_of c.args.task.now) c.marks_each.ensures.packages_fit (set_at c.args.sets.now c.in-Each.set) (rw c.in-Each.is at c.requires.fits))
+
+pub add_each-requires-clause-held : goal.add_each-requires-clause-held
+add_each-requires-clause-held c = rw c.set_of-in-Each.ensures (packs_held (catalog_of c.args.task.now) c.marks_each.ensures.packages_fit (set_at c.args.sets.now c.in-Each.set) (rw c.in-Each.is at c.requires.fits))
+
+pub returns-in-Each : goal.returns-in-Each
+returns-in-Each c =
+    let numbers : list_all is_number (set_at c.args.sets.now c.in-Each.set) ≡ true = pack_numbers (catalog_of c.args.task.now) c.marks_each.ensures.packages_fit (set_at c.args.sets.now c.in-Each.set) (rw c.in-Each.is at c.requires.fits) in
+    let took : Takes (literals_by (catalog_of c.args.task.now) c.in-Each.stays (set_at c.args.sets.now c.in-Each.set)) c.args.owner c.add_each.result c.args.draft.now c.add_each.new.draft = rw c.set_of-in-Each.ensures at c.add_each.ensures in
+    rw (c.in-Each.is, each_by (catalog_of c.args.task.now) c.in-Each.stays (set_at c.args.sets.now c.in-Each.set) numbers)
+    (rule_takes None (literals_by (catalog_of c.args.task.now) c.in-Each.stays (set_at c.args.sets.now c.in-Each.set)) c.args.owner c.add_each.result c.args.draft.now c.add_each.new.draft refl took)

@@ -1,0 +1,139 @@
+-- The clauses of rules in one list, beside them the rule of each, and why there may be none.
+use Rattle.std.specs.Prelude.{ℕ, suc, ℤ, ◌≡◌, ◌⊎◌, ◌+◌, Bool, true, false, ◌&&◌, nat_lt, nat_le, List, [], ◌∷◌, ◌++◌, length, map, flat_map, replicate, slice_get, slice_range, Option, Some, None, if◌then◌else◌}
+use Rattle.std.specs.List.{list_all}
+use Rattle.solv_pool.specs.Catalog.{Catalog, catalog_of, dependency}
+use Rattle.solv_pool.specs.Clauses.{clause_count, rule_clauses, words, words_of_all, all_true}
+use Rattle.solv_pool.specs.Laws.{IsWellPlaced, names_packages}
+use Rattle.solv_pool.specs.RuleMeaning.{HardRule, req, rich_con, update, feature, install, erase, lock, best_job, best_update, meets_rule, rule_with}
+use Rattle.solv_pool.specs.declared.hard_rules.Rules.{Rules}
+use Rattle.solv_pool.specs.HardRules.{package_rules}
+use Rattle.solv_pool.specs.declared.job_marks.Marks.{Marks}
+use Rattle.solv_pool.specs.declared.tasks.Task.{Task}
+use Rattle.solv_prov.specs.Index.{Index, IsIndexOf}
+use Rattle.solv_rich.specs.Counts.{most_clauses, saturated}
+use Rattle.solv_rich.specs.declared.fault.RichFault.{RichFault}
+use Rattle.solv_rich.specs.declared.fault.RichFault.TheVariants.{TooRich as RichTooRich, Memory as RichMemory}
+use Rattle.solv_rules.specs.Making.{IsReady, is_single}
+use Rattle.solv_rules.specs.declared.fault.BookFault.{BookFault}
+use Rattle.solv_rules.specs.declared.fault.BookFault.TheVariants.{TooRich, TooManyWords, Memory}
+
+-- the most words of a book: a clause takes one for each literal, and four
+abbrev pub most_words : ℕ
+most_words = 134217728
+
+-- rules with the sets that they carry
+abbrev pub read_rules : Rules → List HardRule
+read_rules rules = map (rule_with rules.sets) rules.list
+
+-- the fault, where a dependency of a rule of p gives too many clauses
+abbrev pub rich_by : ℕ → ℕ → ℕ → Option BookFault
+rich_by p d count = if nat_lt most_clauses count then Some (TooRich p d (saturated count)) else None
+
+-- the fault of a dependency of a package
+abbrev pub fault_by : ℕ → ℕ → RichFault → BookFault
+fault_by p d (RichTooRich count) = TooRich p d count
+fault_by p d RichMemory = Memory
+
+-- the fault at the first clause behind which there are too many words, where so many stand before these clauses
+abbrev pub overrun : ℕ → List (List ℤ) → Option BookFault
+overrun before [] = None
+overrun before (c ∷ cs) = if nat_lt most_words (before + words c) then Some (TooManyWords (before + words c)) else overrun (before + words c) cs
+
+-- a fault, or else another
+abbrev pub or_else : Option BookFault → Option BookFault → Option BookFault
+or_else (Some fault) other = Some fault
+or_else None other = other
+
+module _ (catalog : Catalog) where
+  -- the fault of a requirement, or of a conflict that is not package-wise, whose dependency gives too many clauses
+  abbrev pub rich_fault : HardRule → Option BookFault
+  rich_fault (req p d) = rich_by p d (clause_count catalog None true (dependency catalog d))
+  rich_fault (rich_con p d) = rich_by p d (clause_count catalog (Some p) false (dependency catalog d))
+  rich_fault _ = None
+
+  -- the fault of a rule behind so many words
+  abbrev pub rule_fault : ℕ → HardRule → Option BookFault
+  rule_fault before r = or_else (rich_fault r) (overrun before (rule_clauses catalog r))
+
+  -- the first fault of rules behind so many words
+  abbrev pub first_fault : ℕ → List HardRule → Option BookFault
+  first_fault before [] = None
+  first_fault before (r ∷ rs) = or_else (rule_fault before r) (first_fault (before + words_of_all (rule_clauses catalog r)) rs)
+
+  -- the number of each rule, as often as it has clauses; the first of them has this number
+  abbrev pub owners_from : ℕ → List HardRule → List ℕ
+  owners_from k [] = []
+  owners_from k (r ∷ rs) = replicate (length (rule_clauses catalog r)) k ++ owners_from (suc k) rs
+
+  -- for each rule where its clauses begin, behind so many others, and how many they are
+  abbrev pub spans_from : ℕ → List HardRule → List (ℕ × ℕ)
+  spans_from before [] = []
+  spans_from before (r ∷ rs) = (before, length (rule_clauses catalog r)) ∷ spans_from (before + length (rule_clauses catalog r)) rs
+
+-- a book: rules, the clauses of all of them, the rule of each clause, and the first clause of each rule with their number
+pub record Written : Type 0 where
+  pub rules : Rules
+  pub clauses : List (List ℤ)
+  pub owners : List ℕ
+  pub spans : List (ℕ × ℕ)
+
+-- it has the clauses of each rule, rule by rule in order
+pub record IsBook (catalog : Catalog) (book : Written) : Type 0 where
+  pub clauses : book.clauses ≡ flat_map (rule_clauses catalog) (read_rules book.rules)
+  pub owners : book.owners ≡ owners_from catalog 0 (read_rules book.rules)
+  pub spans : book.spans ≡ spans_from catalog 0 (read_rules book.rules)
+
+-- the fault is want of memory, or the one that is due
+abbrev pub IsDue : Option BookFault → BookFault → Type 0
+IsDue due fault = (fault ≡ Memory) ⊎ (due ≡ Some fault)
+
+-- each is greater than the one before it, the first being no less than this number
+abbrev pub rises : ℕ → List ℕ → Bool
+rises n [] = true
+rises n (q ∷ qs) = nat_le n q && rises (suc q) qs
+
+module _ (catalog : Catalog) where
+  -- the relation is there, and single packages meet it
+  abbrev pub is_held_single : ℕ → Bool
+  is_held_single d = nat_lt d (length catalog.pool.nodes) && is_single catalog d
+
+  -- a rule of which clauses can be made today: it names packages, single packages meet its dependency, and the set that it carries rises
+  abbrev pub has_form : HardRule → Bool
+  has_form (req p d) = is_held_single d
+  has_form (rich_con p d) = is_held_single d
+  has_form (update p xs) = rises 1 xs
+  has_form (feature p xs) = rises 1 xs
+  has_form (install j xs) = rises 1 xs
+  has_form (erase j xs) = rises 1 xs
+  has_form (lock j xs) = rises 1 xs
+  has_form (best_job j xs) = rises 1 xs
+  has_form (best_update j p xs) = rises 1 xs
+  has_form _ = true
+
+  abbrev pub is_bookable : HardRule → Bool
+  is_bookable r = names_packages catalog r && has_form r
+
+-- the index is of the task, and clauses can be made of each rule
+pub record AreBookable (task : Task) (index : Index) (rules : Rules) : Type 0 where
+  pub of_task : IsIndexOf index (catalog_of task)
+  pub each : list_all (is_bookable (catalog_of task)) (read_rules rules) ≡ true
+
+-- the clauses of a rule stand where its span says, and a set that holds the system makes them true exactly where it meets the rule
+pub record SaysTheRule (catalog : Catalog) (book : Written) (r : HardRule) (span : ℕ × ℕ) : Type 0 where
+  pub clauses : slice_range book.clauses span.0 (span.0 + span.1) ≡ rule_clauses catalog r
+  pub meaning : (set : ℕ → Bool) → set 0 ≡ true → IsWellPlaced catalog r → all_true set (slice_range book.clauses span.0 (span.0 + span.1)) ≡ meets_rule catalog r set
+
+-- so it is with each rule of each book
+abbrev pub BookSaysTheRules : Type 0
+BookSaysTheRules = (catalog : Catalog) (book : Written) → IsBook catalog book
+    → (k : ℕ) (r : HardRule) (span : ℕ × ℕ) → slice_get (read_rules book.rules) k ≡ Some r → slice_get book.spans k ≡ Some span → SaysTheRule catalog book r span
+
+-- no conflict that is not package-wise
+abbrev pub is_no_rich_conflict : HardRule → Bool
+is_no_rich_conflict (rich_con p d) = false
+is_no_rich_conflict _ = true
+
+-- a book can be made of what packages ask for, and no conflict among it is rich
+abbrev pub PackageRulesAreBookable : Type 0
+PackageRulesAreBookable = (task : Task) (index : Index) (marks : Marks) → IsReady task index marks
+    → (list_all (is_bookable (catalog_of task)) (package_rules (catalog_of task) marks) ≡ true) × (list_all is_no_rich_conflict (package_rules (catalog_of task) marks) ≡ true)

@@ -1,0 +1,89 @@
+-- Rules that are put behind others, and what a task has to be for it.
+use Rattle.std.specs.Prelude.{ℕ, ◌≡◌, ◌<◌, ◌+◌, Bool, true, not, ◌&&◌, ◌||◌, ◌==◌, nat_lt, List, [], ◌++◌, length, map, filter, flat_map, Result, OnOk}
+use Rattle.std.specs.List.{list_all}
+use Rattle.solv_base.specs.Dependency.{operators, package_wise}
+use Rattle.solv_pool.specs.Belonging.{IsOver}
+use Rattle.solv_pool.specs.Catalog.{Catalog, catalog_of, dependency, installed_set, is_installed, members, packages}
+use Rattle.solv_pool.specs.Holding.{holds, package_meets}
+use Rattle.solv_pool.specs.JobMarks.{marked}
+use Rattle.solv_pool.specs.Providing.{covers}
+use Rattle.solv_pool.specs.RuleMeaning.{HardRule, req, con, obs, same, rule_with}
+use Rattle.solv_pool.specs.declared.hard_rules.Rule.{Rule}
+use Rattle.solv_pool.specs.declared.job_marks.Marks.{Marks}
+use Rattle.solv_pool.specs.declared.packages.Package.{Package}
+use Rattle.solv_pool.specs.declared.packages.Need.{Need}
+use Rattle.solv_pool.specs.declared.tasks.Task.{Task}
+use Rattle.solv_prov.specs.Index.{Index, IsIndexOf}
+
+-- the first ones of these rules stand behind the others, whatever sets the others carry: all of them where the call did not fail
+pub record Puts {T E : Type 0} (made : List HardRule) (result : Result T E) (old new : List Rule) : Type 0 where
+  pub rest : List HardRule
+  pub is : (sets : List (List ℕ)) → map (rule_with sets) new ++ rest ≡ map (rule_with sets) old ++ made
+  pub all : OnOk result (rest ≡ [])
+
+-- the relation is simple, versioned or a namespace
+abbrev pub is_single : Catalog → ℕ → Bool
+is_single catalog d = package_wise (dependency catalog d) && operators (dependency catalog d) == 0
+
+-- so are all requirements and conflicts of a package
+abbrev pub asks_singly : Catalog → Package → Bool
+asks_singly catalog a = list_all (λ need. is_single catalog need.dep) a.requires_ && list_all (is_single catalog) a.conflicts
+
+-- an entry for each package and for the system
+pub record HasMarks (count : ℕ) (marks : Marks) : Type 0 where
+  pub verify : length marks.verify ≡ count + 1
+  pub multiversion : length marks.multiversion ≡ count + 1
+
+-- the ids of the task are of its pool, the index is of it, the marks have an entry for each package, and packages ask for what single packages meet
+pub record IsReady (task : Task) (index : Index) (marks : Marks) : Type 0 where
+  pub over : IsOver task.pool task.universe
+  pub of_task : IsIndexOf index (catalog_of task)
+  pub marks_each : HasMarks (length task.universe.packages) marks
+  pub singly : list_all (asks_singly (catalog_of task)) task.universe.packages ≡ true
+
+-- a requirement counts: whatever the package asks for does, or it holds among the installed packages
+abbrev pub requirement_holds : Catalog → Bool → Need → Bool
+requirement_holds catalog fully need = fully || holds catalog (dependency catalog need.dep) (installed_set catalog)
+
+-- the words of the rules of one package, where it is known whether whatever it asks for counts
+module _ (catalog : Catalog) (fully : Bool) (p : ℕ) where
+  -- its requirements that count
+  abbrev pub requirements_of : List Need → List HardRule
+  requirements_of needs = map (λ need. req p need.dep) (filter (requirement_holds catalog fully) needs)
+
+  -- q is another package, and what p asks for counts against it
+  abbrev pub is_counted_other : ℕ → Bool
+  is_counted_other q = not (q == p) && (fully || not (is_installed catalog q))
+
+  -- its rules against such ones of these packages
+  abbrev pub against : (ℕ → HardRule) → List ℕ → List HardRule
+  against rule qs = map rule (filter is_counted_other qs)
+
+  -- its conflicts that count, against each package that meets them
+  abbrev pub conflicts_of : List ℕ → List HardRule
+  conflicts_of ds = flat_map (λ d. against (con p d) (filter (package_meets catalog (dependency catalog d)) (members catalog))) ds
+
+  -- its obsoletions that count, against each package that they cover
+  abbrev pub obsoletions_of : List ℕ → List HardRule
+  obsoletions_of ds = flat_map (λ d. against (obs p d) (filter (covers catalog d) (packages catalog))) ds
+
+-- two packages of one name may be in together: both are multiversion, or both installed
+abbrev pub is_excused : Catalog → Marks → ℕ → ℕ → Bool
+is_excused catalog marks p q = (marked marks.multiversion p && marked marks.multiversion q) || (is_installed catalog p && is_installed catalog q)
+
+-- q is a later one of two packages of one name that may not be in together
+abbrev pub is_barred : Catalog → Marks → ℕ → ℕ → Bool
+is_barred catalog marks p q = nat_lt p q && not (is_excused catalog marks p q)
+
+-- the rules of p against such ones of these packages
+abbrev pub namesakes_of : Catalog → Marks → ℕ → List ℕ → List HardRule
+namesakes_of catalog marks p qs = map (same p) (filter (is_barred catalog marks p) qs)
+
+-- the names and relations of a package are there, and it asks for what single packages meet
+pub record IsSound (catalog : Catalog) (a : Package) : Type 0 where
+  pub name : a.name < length catalog.pool.names
+  pub needs : list_all (λ need. nat_lt need.dep (length catalog.pool.nodes)) a.requires_ ≡ true
+  pub single_needs : list_all (λ need. is_single catalog need.dep) a.requires_ ≡ true
+  pub conflicts : list_all (λ d. nat_lt d (length catalog.pool.nodes)) a.conflicts ≡ true
+  pub single_conflicts : list_all (is_single catalog) a.conflicts ≡ true
+  pub obsoletes : list_all (λ d. nat_lt d (length catalog.pool.nodes)) a.obsoletes ≡ true

@@ -1,0 +1,4 @@
+mod books;
+mod fixture;
+mod ready;
+mod rules;
