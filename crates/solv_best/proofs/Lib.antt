@@ -1,0 +1,5 @@
+mod Places
+mod Turns
+mod Tops
+mod Puts
+mod Rounds
