@@ -1,0 +1,7 @@
+mod Sorting
+mod Orders
+mod Places
+mod Obsoletion
+mod Namesakes
+mod Differing
+mod Reading

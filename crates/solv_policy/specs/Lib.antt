@@ -1,0 +1,4 @@
+pub mod Policy
+pub mod Candidates
+pub mod Differences
+pub mod Gathering
