@@ -1,18 +1,17 @@
 -- Clauses that lie one behind another, and the faults of dependencies.
-use Rattle.std.proofs.Common.{◌≡◌, ◌≤◌, ◌<◌, ◌+◌, ◌-◌, ◌↔◌, inl, inr, ℕ, ℤ, Bool, true, false, List, [], ◌∷◌, ◌++◌, length, Option, Some, None, refl, sym, ap, ◌∙◌, arith, append_assoc, length-append, rules}
-use Rattle.std.specs.Prelude.{Result, Ok, Err, OnOk, IfErr, flat_map, slice_range, take, drop, nat_lt, min, if◌then◌else◌}
+use Rattle.std.proofs.Common.{◌≡◌, ◌≤◌, ◌<◌, ◌+◌, ◌-◌, ◌↔◌, inl, inr, ℕ, ℤ, true, false, List, [], ◌∷◌, ◌++◌, length, Option, Some, None, refl, sym, ap, ◌∙◌, arith, append_assoc, length-append, rules}
+use Rattle.std.specs.Prelude.{Result, Ok, Err, OnOk, flat_map, slice_range, take, drop, nat_lt, if◌then◌else◌}
 use Rattle.std.proofs.lemmas.Bool.Decides.{nat_tests}
-use Rattle.std.proofs.lemmas.List.{append-nil}
 use Rattle.solv_pool.specs.Clauses.{words_of_all}
 use Rattle.solv_prov.specs.Lists.{pieces, AreEnds}
 use Rattle.solv_rich.specs.Counts.{HasAppended, ends_behind, most_clauses, saturated}
 use Rattle.solv_rich.specs.declared.fault.RichFault.{RichFault}
 use Rattle.solv_rich.specs.declared.fault.RichFault.TheVariants.{TooRich as RichTooRich, Memory as RichMemory}
 use Rattle.solv_rules.specs.Books.{rich_by, fault_by, or_else, overrun, IsDue}
-use Rattle.solv_rules.specs.Drafting.{Takes, TakesRule, HasTaken}
+use Rattle.solv_rules.specs.Drafting.{Takes, TakesRule}
 use Rattle.solv_rules.specs.declared.drafts.Draft.{Draft}
 use Rattle.solv_rules.specs.declared.fault.BookFault.{BookFault}
-use Rattle.solv_rules.specs.declared.fault.BookFault.TheVariants.{TooRich, TooManyWords, Memory}
+use Rattle.solv_rules.specs.declared.fault.BookFault.TheVariants.{TooRich}
 
 pub ends_within : (from upto : ℕ) (ends : List ℕ) → AreEnds from ends upto → from ≤ upto
 ends_within from upto [] h = omega (arith, h)

@@ -1,5 +1,5 @@
 -- A book can be made of the rules that packages ask for.
-use Rattle.std.proofs.Common.{◌≡◌, ◌≤◌, ◌<◌, ◌+◌, ℕ, zero, suc, Bool, true, false, not, ◌&&◌, ◌||◌, List, [], ◌∷◌, ◌++◌, map, length, Option, Some, None, refl, sym, ap, ◌∙◌, arith, add-one}
+use Rattle.std.proofs.Common.{◌≡◌, ◌≤◌, ◌<◌, ◌+◌, ℕ, zero, suc, Bool, true, false, not, ◌&&◌, ◌||◌, List, [], ◌∷◌, ◌++◌, map, length, Some, None, refl, ap, ◌∙◌, arith}
 use Rattle.std.specs.Prelude.{filter, flat_map, slice_get, nat_lt, ◌==◌, if◌then◌else◌}
 use Rattle.std.specs.List.{list_all, range_with_len}
 use Rattle.std.specs.Option.{option_map_or}
@@ -65,7 +65,7 @@ not_equal a b h = grind (arith, nat_tests, h)
 equal_itself : (a : ℕ) → (a == a) ≡ true
 equal_itself a = grind (arith, nat_tests)
 
-among_in : (start count p : ℕ) → start ≤ p → p < start + count → is_among (range_with_len start count) p ≡ true
+pub among_in : (start count p : ℕ) → start ≤ p → p < start + count → is_among (range_with_len start count) p ≡ true
 among_in start zero p h k = absurd (omega (arith, h, k))
 among_in start (suc count) p h k =
     (elim (start == p) as (λ b. (start == p) ≡ b → (b || is_among (range_with_len (start + 1) count) p) ≡ true) [

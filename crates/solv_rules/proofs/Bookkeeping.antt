@@ -1,13 +1,13 @@
 -- Rules put into a book one after another.
-use Rattle.std.proofs.Common.{◌≡◌, ◌+◌, ◌-◌, ◌⊎◌, inl, inr, ℕ, zero, suc, ℤ, Bool, true, false, List, [], ◌∷◌, ◌++◌, length, map, replicate, Option, Some, None, refl, sym, ap, ◌∙◌, append_assoc, length-append, arith}
+use Rattle.std.proofs.Common.{◌≡◌, ◌+◌, ◌-◌, inl, inr, ℕ, zero, suc, ℤ, List, [], ◌∷◌, ◌++◌, length, map, replicate, Option, Some, None, refl, sym, ap, ◌∙◌, append_assoc, length-append, arith}
 use Rattle.std.specs.Prelude.{Result, Ok, Err, OnOk, IfErr, flat_map, slice_get, slice_range, take, drop}
 use Rattle.std.proofs.lemmas.List.{append-nil, length-map}
 use Rattle.solv_pool.specs.Catalog.{Catalog}
 use Rattle.solv_pool.specs.Clauses.{rule_clauses, words_of_all, all_true}
-use Rattle.solv_pool.specs.Laws.{ClausesSayTheRule, IsWellPlaced}
-use Rattle.solv_pool.specs.RuleMeaning.{HardRule, meets_rule, rule_with}
+use Rattle.solv_pool.specs.Laws.{ClausesSayTheRule}
+use Rattle.solv_pool.specs.RuleMeaning.{HardRule, rule_with}
 use Rattle.solv_pool.specs.declared.hard_rules.Rule.{Rule}
-use Rattle.solv_rules.specs.Books.{or_else, rule_fault, first_fault, owners_from, spans_from, read_rules, Written, IsBook, IsDue, BookSaysTheRules}
+use Rattle.solv_rules.specs.Books.{or_else, rule_fault, first_fault, owners_from, spans_from, read_rules, IsDue, BookSaysTheRules}
 use Rattle.solv_rules.specs.Drafting.{IsDraft, IsEmptyDraft, HasRule, AddsRule, HasRules}
 use Rattle.solv_rules.specs.declared.drafts.Draft.{Draft}
 use Rattle.solv_rules.specs.declared.fault.BookFault.{BookFault}

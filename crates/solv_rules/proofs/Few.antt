@@ -1,12 +1,12 @@
 -- No clause of a rule that names packages is too long for a rule memory: each literal stands in it once.
-use Rattle.std.proofs.Common.{◌≡◌, ◌≢◌, ◌<◌, ◌≤◌, ◌+◌, ◌*◌, ℕ, zero, suc, ℤ, pos, negsuc, neg_ℤ, Bool, true, false, not, ◌&&◌, ◌||◌, List, [], ◌∷◌, length, map, refl, sym, ap, ◌∙◌, arith, add-one}
+use Rattle.std.proofs.Common.{◌≡◌, ◌≢◌, ◌<◌, ◌≤◌, ◌+◌, ◌*◌, ℕ, zero, suc, Bool, true, false, not, ◌&&◌, ◌||◌, List, [], ◌∷◌, length, map, refl, sym, ap, ◌∙◌, arith, add-one}
 use Rattle.std.specs.Prelude.{filter, nat_lt, nat_le, ◌==◌, if◌then◌else◌}
 use Rattle.std.specs.List.{list_all, list_any, range_with_len}
 use Rattle.std.proofs.lemmas.List.{length-map}
 use Rattle.std.proofs.lemmas.Bool.Decides.{nat_tests}
 use Rattle.solv_pool.specs.Words.{is_among}
 use Rattle.solv_pool.specs.Catalog.{Catalog, packages}
-use Rattle.solv_pool.specs.Clauses.{Literal, is_in, is_out, Clause, same_literal, contains_literal, is_always_true, firsts, shortened, kept, number_of, in_numbers, raw_clauses, rule_clauses}
+use Rattle.solv_pool.specs.Clauses.{Literal, is_in, is_out, Clause, same_literal, contains_literal, is_always_true, firsts, shortened, number_of, in_numbers, raw_clauses, rule_clauses}
 use Rattle.solv_pool.specs.Laws.{ClausesNamePackages, names_package, names_packages}
 use Rattle.solv_pool.specs.RuleMeaning.{HardRule}
 use Rattle.solv_rules.specs.Drafting.{are_few}

@@ -9,3 +9,4 @@ pub mod Appended
 pub mod FormWords
 pub mod Bookkeeping
 pub mod Bookable
+pub mod Rising

@@ -1,10 +1,10 @@
 -- What holds in the set of the installed packages, over the packages that meet it.
-use Rattle.std.proofs.Common.{◌≡◌, ℕ, zero, suc, ◌≤◌, ◌+◌, Bool, true, false, ◌&&◌, ◌||◌, List, [], ◌∷◌, length, drop, refl, sym, ap, ◌∙◌, arith, add-one}
+use Rattle.std.proofs.Common.{◌≡◌, ℕ, zero, suc, ◌≤◌, ◌+◌, Bool, true, false, ◌&&◌, ◌||◌, List, [], ◌∷◌, length, drop, refl, sym, ◌∙◌, arith, add-one}
 use Rattle.std.specs.Prelude.{filter, nat_le, ◌==◌, if◌then◌else◌}
 use Rattle.std.specs.List.{list_any, list_all, range_with_len}
 use Rattle.std.proofs.lemmas.Bool.Decides.{nat_tests}
 use Rattle.solv_base.specs.Dependency.{Dep, one, namespace, and, or, with, without, if_then, if_else, unless, unless_else, missing, operators, package_wise}
-use Rattle.solv_pool.specs.Catalog.{Catalog, members, packages, dependency, installed_set}
+use Rattle.solv_pool.specs.Catalog.{Catalog, members, packages, dependency}
 use Rattle.solv_pool.specs.Holding.{holds, member_meets, package_meets}
 use Rattle.solv_rules.specs.Making.{is_single}
 

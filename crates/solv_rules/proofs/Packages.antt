@@ -1,21 +1,20 @@
 -- What a package asks for, over the lists that the index has.
-use Rattle.std.proofs.Common.{◌≡◌, ◌≤◌, ◌<◌, ◌+◌, ◌-◌, ℕ, zero, suc, Bool, true, false, not, ◌&&◌, ◌||◌, List, [], ◌∷◌, ◌++◌, map, length, Option, Some, None, refl, sym, ap, ◌∙◌, arith, add-one, append_assoc}
+use Rattle.std.proofs.Common.{◌≡◌, ◌<◌, ◌+◌, ◌-◌, ℕ, zero, suc, Bool, true, false, not, ◌&&◌, ◌||◌, List, [], ◌∷◌, ◌++◌, map, length, Option, Some, None, refl, ap, ◌∙◌, arith, add-one, append_assoc}
 use Rattle.std.specs.Prelude.{filter, flat_map, slice_get, nat_lt, ◌==◌, if◌then◌else◌}
 use Rattle.std.specs.List.{list_all, range_with_len}
 use Rattle.std.proofs.lemmas.Bool.{ltb-true}
 use Rattle.std.proofs.lemmas.Bool.Decides.{nat_tests}
 use Rattle.std.proofs.lemmas.List.{append-nil}
-use Rattle.solv_base.specs.Dependency.{plain, operators, package_wise}
+use Rattle.solv_base.specs.Dependency.{plain, package_wise}
 use Rattle.solv_pool.specs.Words.{passes}
-use Rattle.solv_pool.specs.Belonging.{IsOver, fits, names_of, relations_of}
-use Rattle.solv_pool.specs.Contents.{Contents}
+use Rattle.solv_pool.specs.Belonging.{fits, names_of, relations_of}
 use Rattle.solv_pool.specs.Catalog.{Catalog, catalog_of, dependency, is_installed, members, package_at, packages, same_name}
 use Rattle.solv_pool.specs.Counting.{is_fully_counted, pair_counts, rich_conflict_counts}
-use Rattle.solv_pool.specs.HardRules.{not_installable_rules, requirement_rules, package_wise_conflicts, is_conflicting, conflicting, conflict_rules, counted_rich_conflicts, rich_conflict_rules, is_obsoleted, obsoleted, obsoletion_rules, is_later_namesake, same_name_rules, rules_asked_by, rules_of_package}
+use Rattle.solv_pool.specs.HardRules.{not_installable_rules, requirement_rules, is_conflicting, conflicting, rich_conflict_rules, is_obsoleted, obsoleted, obsoletion_rules, is_later_namesake, same_name_rules, rules_asked_by, rules_of_package}
 use Rattle.solv_pool.specs.Holding.{package_meets}
 use Rattle.solv_pool.specs.JobMarks.{marked}
 use Rattle.solv_pool.specs.Providing.{covers, is_named}
-use Rattle.solv_pool.specs.RuleMeaning.{HardRule, con, rich_con, obs, same}
+use Rattle.solv_pool.specs.RuleMeaning.{con, rich_con, obs, same}
 use Rattle.solv_pool.specs.declared.packages.Package.{Package}
 use Rattle.solv_pool.specs.declared.packages.Need.{Need}
 use Rattle.solv_pool.specs.declared.job_marks.Marks.{Marks}

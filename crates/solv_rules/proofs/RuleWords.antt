@@ -1,13 +1,12 @@
 -- The clauses of each kind of rule, once what is left out is left out.
-use Rattle.std.proofs.Common.{◌≡◌, ◌≤◌, ◌<◌, ℕ, zero, suc, ◌+◌, ℤ, pos, negsuc, Bool, true, false, not, ◌&&◌, ◌||◌, List, [], ◌∷◌, ◌++◌, length, map, refl, sym, ap, ◌∙◌, arith, nat_lt}
+use Rattle.std.proofs.Common.{◌≡◌, ◌≤◌, ◌<◌, ℕ, zero, suc, ℤ, pos, negsuc, Bool, true, false, not, ◌&&◌, ◌||◌, List, [], ◌∷◌, ◌++◌, length, map, refl, ap, ◌∙◌, arith}
 use Rattle.std.specs.Prelude.{filter, nat_le, ◌==◌, if◌then◌else◌}
 use Rattle.std.specs.List.{list_all, list_any}
 use Rattle.std.specs.Ordering.{int_eq}
 use Rattle.solv_pack.specs.Packing.{most_literals}
 use Rattle.std.proofs.lemmas.Bool.Decides.{nat_tests}
-use Rattle.solv_pool.specs.Words.{is_among}
 use Rattle.solv_pool.specs.Catalog.{Catalog, is_installed}
-use Rattle.solv_pool.specs.Clauses.{Literal, is_in, is_out, Clause, same_literal, negation, contains_literal, is_always_true, firsts, shortened, kept, number_of, in_numbers, guarded}
+use Rattle.solv_pool.specs.Clauses.{Literal, is_in, is_out, Clause, same_literal, negation, contains_literal, firsts, kept, number_of, in_numbers, guarded}
 use Rattle.solv_rules.specs.Books.{rises}
 use Rattle.solv_rules.specs.Drafting.{are_few, is_number, literal_by, literals_by}
 

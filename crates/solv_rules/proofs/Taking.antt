@@ -1,8 +1,9 @@
 -- Clauses that are put behind others, one list after another.
-use Rattle.std.proofs.Common.{◌≡◌, ◌+◌, ◌≤◌, ◌⊎◌, inl, inr, ℕ, zero, suc, ℤ, Bool, true, false, List, [], ◌∷◌, ◌++◌, length, map, replicate, Option, Some, None, refl, sym, ap, ◌∙◌, append_assoc, arith, rules}
+use Rattle.std.proofs.Common.{◌≡◌, ◌+◌, ◌*◌, ◌≤◌, inl, inr, ℕ, ℤ, true, false, List, [], ◌∷◌, ◌++◌, length, replicate, Option, Some, None, refl, sym, ap, ◌∙◌, append_assoc, arith, rules}
 use Rattle.std.specs.Prelude.{Result, Ok, Err, OnOk, IfErr, nat_lt, if◌then◌else◌}
 use Rattle.std.proofs.lemmas.List.{append-nil}
 use Rattle.std.proofs.lemmas.List.Sums.{sum_by-append, sum_by-cons}
+use Rattle.solv_pack.specs.Packing.{most_rules}
 use Rattle.solv_pool.specs.Clauses.{words, words_of_all}
 use Rattle.solv_rules.specs.Books.{most_words, overrun, IsDue}
 use Rattle.solv_rules.specs.Drafting.{IsDraft, HasTaken, Takes}
@@ -17,6 +18,14 @@ words_append xs ys = sum_by-append words xs ys
 pub replicate_append : (m n k : ℕ) (xs ys : List (List ℤ)) → replicate (length (xs ++ ys)) k ≡ replicate (length xs) k ++ replicate (length ys) k
 replicate_append m n k [] ys = refl
 replicate_append m n k (x ∷ xs) ys = ap (λ t. k ∷ t) (replicate_append m n k xs ys)
+
+-- each clause takes four words at least, so there are never as many as a rule memory holds
+four_each : (cs : List (List ℤ)) → length cs * 4 ≤ words_of_all cs
+four_each [] = omega arith
+four_each (c ∷ cs) = rw (sum_by-cons words c cs) (omega (arith, four_each cs))
+
+pub never_full : {draft_words : ℕ} (cs : List (List ℤ)) → length cs ≡ most_rules → draft_words ≡ words_of_all cs → draft_words ≤ most_words → ⊥
+never_full cs full exact within = omega (arith, four_each cs, full, exact, within)
 
 -- where the first ones fit, the fault is that of the others behind them
 pub overrun_behind : (n : ℕ) (xs ys : List (List ℤ)) → overrun n xs ≡ None → overrun n (xs ++ ys) ≡ overrun (n + words_of_all xs) ys

@@ -15,10 +15,12 @@ use Rattle.solv_pool.specs.declared.packages.Need.{Need}
 use Rattle.solv_pool.specs.declared.tasks.Task.{Task}
 use Rattle.solv_prov.specs.Index.{Index, IsIndexOf}
 
--- the first ones of these rules stand behind the others, whatever sets the others carry: all of them where the call did not fail
+-- the first ones of these rules, whatever sets the others carry, stand behind the old ones: all of them where the call did not fail
 pub record Puts {T E : Type 0} (made : List HardRule) (result : Result T E) (old new : List Rule) : Type 0 where
+  pub more : List Rule
   pub rest : List HardRule
-  pub is : (sets : List (List ℕ)) → map (rule_with sets) new ++ rest ≡ map (rule_with sets) old ++ made
+  pub behind : new ≡ old ++ more
+  pub read : (sets : List (List ℕ)) → map (rule_with sets) more ++ rest ≡ made
   pub all : OnOk result (rest ≡ [])
 
 -- the relation is simple, versioned or a namespace

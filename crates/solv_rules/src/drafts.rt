@@ -4,7 +4,7 @@ ghost use Rattle.solv_pack.specs.Packing.{most_literals};
 ghost use Rattle.solv_rules.specs.Drafting.{IsDraft, Takes};
 
 use crate::fault::BookFault;
-use solv_pack::{Lit, RuleMem};
+use solv_pack::{Lit, PackFault, RuleMem};
 use std::alloc::Global;
 
 /// The most words.
@@ -44,8 +44,12 @@ pub(crate) fn add_clause(draft: &mut Draft, owner: usize, clause: &[Lit]) -> Res
     if words > MOST_WORDS {
         return Err(BookFault::TooManyWords { words });
     }
-    if draft.memory.push(clause).is_err() {
-        return Err(BookFault::Memory);
+    match draft.memory.push(clause) {
+        Ok(_number) => {}
+        Err(fault) => match fault {
+            PackFault::Memory => return Err(BookFault::Memory),
+            PackFault::Full => unreachable!(),
+        },
     }
     if draft.owners.push(owner).is_err() {
         return Err(BookFault::Memory);

@@ -1,9 +1,10 @@
 //! Rules of one package put behind others, kind by kind.
-ghost use Rattle.std.specs.Prelude.{◌≡◌, ◌≤◌, ◌<◌, ◌∷◌, [], length, nat_le, nat_lt, true};
+ghost use Rattle.std.specs.Prelude.{◌≡◌, ◌≤◌, ◌<◌, ◌∷◌, [], filter, length, nat_le, nat_lt, true};
 ghost use Rattle.std.specs.List.{list_all};
 ghost use Rattle.solv_pool.specs.Belonging.{IsOver};
-ghost use Rattle.solv_pool.specs.Catalog.{catalog_of};
+ghost use Rattle.solv_pool.specs.Catalog.{catalog_of, packages};
 ghost use Rattle.solv_pool.specs.HardRules.{not_installable_rules};
+ghost use Rattle.solv_pool.specs.Providing.{covers};
 ghost use Rattle.solv_pool.specs.RuleMeaning.{con, obs};
 ghost use Rattle.solv_prov.specs.Index.{IsIndexOf};
 ghost use Rattle.solv_rules.specs.Making.{HasMarks, Puts, is_single, requirements_of, against, conflicts_of, obsoletions_of, namesakes_of};
@@ -127,6 +128,15 @@ pub(crate) fn add_conflicts(
     Ok(())
 }
 
+/// The packages that an obsoletion covers.
+fn covered<'a>(task: &Task, prov: &'a Providers, dep: DepId) -> &'a [PackNo]
+    requires index { IsIndexOf prov.now (catalog_of task.now) }
+    requires held { dep < length task.now.pool.nodes }
+    ensures { result.now ≡ filter (covers (catalog_of task.now) dep) (packages (catalog_of task.now)) }
+{
+    prov.named(dep)
+}
+
 /// The rule of an obsoletion against one package, if it counts.
 fn add_obsoletion_against(
     task: &Task,
@@ -177,7 +187,7 @@ pub(crate) fn add_obsoletions(
     ensures { Puts (obsoletions_of (catalog_of task.now) fully pack obsoletes.now) result list.old list.new }
 {
     for dep in obsoletes {
-        add_obsoletion(task, fully, pack, *dep, prov.named(*dep), list)?;
+        add_obsoletion(task, fully, pack, *dep, covered(task, prov, *dep), list)?;
     }
     Ok(())
 }

@@ -2,3 +2,4 @@ mod books;
 mod fixture;
 mod ready;
 mod rules;
+mod sets;

@@ -31,7 +31,7 @@ fn book_of(alloc: Global, task: &Task) -> Result<Book, Fail>
 }
 
 /// Whether this is the clause at a place.
-fn is_clause(book: &Book, place: usize, numbers: &[i32]) -> bool {
+pub(super) fn is_clause(book: &Book, place: usize, numbers: &[i32]) -> bool {
     let memory = book.memory();
     if place >= memory.len() {
         return false;
@@ -45,13 +45,25 @@ fn is_clause(book: &Book, place: usize, numbers: &[i32]) -> bool {
 }
 
 /// Whether these are the first clause of a rule, and their number.
-fn is_span(book: &Book, rule: usize, first: usize, count: usize) -> bool {
+pub(super) fn is_span(book: &Book, rule: usize, first: usize, count: usize) -> bool {
     rule < book.rules().list.len() && book.clauses_of(rule) == (first, count)
+}
+
+/// How many words the clauses take.
+pub(super) fn words(book: &Book) -> usize {
+    let memory = book.memory();
+    let mut words: usize = 0;
+    for rule in 0..memory.len() {
+        let lits = memory.lits(RuleNo(rule as u32));
+        words = words.saturating_add(lits.len() + 4);
+    }
+    words
 }
 
 /// A needs one of two others, and two of one name are not in together.
 fn is_of_libraries(book: &Book) -> bool {
     book.memory().len() == 2
+        && words(book) == 13
         && is_clause(book, 0, &[-1, 3, 4])
         && is_clause(book, 1, &[-2, -3])
         && book.owners() == [0, 1].as_slice()

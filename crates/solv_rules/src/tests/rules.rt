@@ -146,7 +146,7 @@ fn give_others(alloc: Global, task: &mut Task, x: DepId, b: DepId) -> Result<(),
 }
 
 /// Packages 1 and 2 are installed, and 3 to 6 are not; relation 0 is gone, 1 is x, and 2 is b.
-fn installed(alloc: Global) -> Result<Task, Fail>
+pub(super) fn installed(alloc: Global) -> Result<Task, Fail>
     ensures { IfOk result (λ task. IsOver task.pool task.universe) }
 {
     let mut task = empty(alloc)?;

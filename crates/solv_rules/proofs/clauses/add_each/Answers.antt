@@ -1,14 +1,10 @@
-use Rattle.std.proofs.Common.{ℕ, ℤ, pos, ◌≡◌, ◌≤◌, ◌<◌, ◌+◌, ◌∷◌, ◌++◌, ◌∙◌, [], List, Bool, true, false, not, Some, None, map, drop, length, refl, sym, ap, arith, rules}
-use Rattle.std.specs.Prelude.{filter, nat_le}
-use Rattle.std.specs.List.{list_all, list_any}
-use Rattle.std.specs.Ordering.{int_eq}
+use Rattle.std.proofs.Common.{◌≡◌, ◌+◌, ◌∷◌, ◌++◌, ◌∙◌, [], drop, length, sym, ap, arith}
+use Rattle.std.specs.Prelude.{nat_le}
 use Rattle.std.proofs.lemmas.List.{drop_more, drop_all}
 use Rattle.solv_pool.specs.Catalog.{catalog_of}
-use Rattle.solv_pool.specs.Clauses.{is_in, is_out, number_of, kept, in_numbers, guarded}
-use Rattle.solv_prov.specs.Lists.{pieces, AreEnds}
-use Rattle.solv_rules.specs.Drafting.{IsDraft, Takes, are_few, is_number, literal_by, literals_by}
-use Rattle.solv_rules.proofs.Listing.{all_here, all_behind}
-use Rattle.solv_rules.proofs.RuleWords.{some_in, guarded_one, guarded_first, few_one, few_left, few_right}
+use Rattle.solv_pool.specs.Clauses.{number_of}
+use Rattle.solv_rules.specs.Drafting.{Takes, is_number, literal_by, literals_by}
+use Rattle.solv_rules.proofs.Listing.{all_behind}
 use Rattle.solv_rules.proofs.Taking.{IsLeft, all_left, turn, broken, done}
 use Rattle.solv_rules.proofs.clauses.add_each.Goals as goal
 

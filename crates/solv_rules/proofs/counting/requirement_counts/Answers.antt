@@ -1,5 +1,5 @@
-use Rattle.std.proofs.Common.{◌≡◌, ◌∙◌, ap, true, length, nat_le}
-use Rattle.std.specs.List.{list_all, list_any}
+use Rattle.std.proofs.Common.{◌∙◌, ap}
+use Rattle.std.specs.List.{list_any}
 use Rattle.solv_pool.specs.Catalog.{catalog_of, dependency, installed_set}
 use Rattle.solv_pool.specs.Holding.{package_meets}
 use Rattle.solv_rules.proofs.Meeting.{holds_by, members_within, no_operator}

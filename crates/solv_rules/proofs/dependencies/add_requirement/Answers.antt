@@ -1,9 +1,8 @@
-use Rattle.std.proofs.Common.{◌≡◌, ◌∙◌, Some, None, true, false, ap, sym, length, rules}
+use Rattle.std.proofs.Common.{◌≡◌, None, true}
 use Rattle.solv_pool.specs.Catalog.{catalog_of, dependency}
 use Rattle.solv_pool.specs.Clauses.{clause_count, dependency_clauses, guarded, words_of_all}
-use Rattle.solv_prov.specs.Lists.{pieces, AreEnds}
-use Rattle.solv_rules.specs.Books.{rich_by, overrun, fault_by, IsDue, or_else}
-use Rattle.solv_rules.specs.Drafting.{Takes, are_few}
+use Rattle.solv_prov.specs.Lists.{pieces}
+use Rattle.solv_rules.specs.Books.{rich_by, overrun, fault_by}
 use Rattle.solv_rules.proofs.Appended.{appended_in_order, appended_pieces, rule_takes, not_rich, rich_due, rule_failed}
 use Rattle.solv_rules.proofs.dependencies.add_requirement.Goals as goal
 

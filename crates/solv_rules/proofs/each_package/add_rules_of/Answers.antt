@@ -1,31 +1,27 @@
-use Rattle.std.proofs.Common.{ℕ, List, [], ◌∷◌, ◌+◌, ◌-◌, ◌<◌, ◌≤◌, ◌≡◌, ◌++◌, ◌∙◌, Some, true, map, drop, length, nat_le, refl, sym, ap, arith, rules}
-use Rattle.std.specs.Prelude.{filter, flat_map}
-use Rattle.std.specs.List.{list_all, range_with_len}
+use Rattle.std.proofs.Common.{◌≡◌, ◌++◌, rules}
+use Rattle.std.specs.Prelude.{filter}
 use Rattle.solv_base.specs.Dependency.{plain}
 use Rattle.solv_pool.specs.Catalog.{catalog_of, packages}
-use Rattle.solv_pool.specs.Counting.{is_fully_counted}
-use Rattle.solv_pool.specs.HardRules.{not_installable_rules, rules_asked_by, rules_of_package, package_rules}
+use Rattle.solv_pool.specs.HardRules.{not_installable_rules, rules_asked_by}
 use Rattle.solv_pool.specs.Providing.{is_named}
-use Rattle.solv_pool.specs.RuleMeaning.{HardRule, rule_with}
-use Rattle.solv_pool.specs.declared.hard_rules.Rule.{Rule}
-use Rattle.solv_rules.specs.Making.{Puts, IsSound, requirements_of, conflicts_of, obsoletions_of, namesakes_of}
+use Rattle.solv_rules.specs.Making.{Puts, requirements_of, conflicts_of, obsoletions_of, namesakes_of}
 use Rattle.solv_rules.proofs.Meeting.{packages_within}
-use Rattle.solv_rules.proofs.Packages.{asked_is, sound, next_package}
-use Rattle.solv_rules.proofs.Putting.{IsLeft, puts_all, turn, broken, last}
+use Rattle.solv_rules.proofs.Packages.{asked_is}
+use Rattle.solv_rules.proofs.Putting.{IsLeft, turn, broken, last, left_first}
 use Rattle.solv_rules.proofs.each_package.add_rules_of.Goals as goal
 
 pub returns-in_err-add_not_installable : goal.returns-in_err-add_not_installable
 returns-in_err-add_not_installable c =
     let whole : (rules_asked_by (catalog_of c.args.task.now) c.args.marks.now c.args.pack c.args.held.now) ≡ not_installable_rules (catalog_of c.args.task.now) c.args.pack ++ (requirements_of (catalog_of c.args.task.now) c.is_fully_counted-fully.result c.args.pack c.args.held.now.requires_ ++ (conflicts_of (catalog_of c.args.task.now) c.is_fully_counted-fully.result c.args.pack c.args.held.now.conflicts ++ (obsoletions_of (catalog_of c.args.task.now) c.is_fully_counted-fully.result c.args.pack c.args.held.now.obsoletes ++ namesakes_of (catalog_of c.args.task.now) c.args.marks.now c.args.pack (filter (is_named (catalog_of c.args.task.now) (plain c.args.held.now.name)) (packages (catalog_of c.args.task.now)))))) =
     rw c.is_fully_counted-fully.ensures (asked_is (catalog_of c.args.task.now) c.args.marks.now c.args.pack c.args.held.now c.requires.record_of c.requires.sound) in
-    let left0 : IsLeft (not_installable_rules (catalog_of c.args.task.now) c.args.pack ++ (requirements_of (catalog_of c.args.task.now) c.is_fully_counted-fully.result c.args.pack c.args.held.now.requires_ ++ (conflicts_of (catalog_of c.args.task.now) c.is_fully_counted-fully.result c.args.pack c.args.held.now.conflicts ++ (obsoletions_of (catalog_of c.args.task.now) c.is_fully_counted-fully.result c.args.pack c.args.held.now.obsoletes ++ namesakes_of (catalog_of c.args.task.now) c.args.marks.now c.args.pack (filter (is_named (catalog_of c.args.task.now) (plain c.args.held.now.name)) (packages (catalog_of c.args.task.now))))))) c.args.list.now (rules_asked_by (catalog_of c.args.task.now) c.args.marks.now c.args.pack c.args.held.now) c.args.list.now = λ sets. ap (λ t. map (rule_with sets) c.args.list.now ++ t) (sym whole) in
+    let left0 : IsLeft (not_installable_rules (catalog_of c.args.task.now) c.args.pack ++ (requirements_of (catalog_of c.args.task.now) c.is_fully_counted-fully.result c.args.pack c.args.held.now.requires_ ++ (conflicts_of (catalog_of c.args.task.now) c.is_fully_counted-fully.result c.args.pack c.args.held.now.conflicts ++ (obsoletions_of (catalog_of c.args.task.now) c.is_fully_counted-fully.result c.args.pack c.args.held.now.obsoletes ++ namesakes_of (catalog_of c.args.task.now) c.args.marks.now c.args.pack (filter (is_named (catalog_of c.args.task.now) (plain c.args.held.now.name)) (packages (catalog_of c.args.task.now))))))) c.args.list.now (rules_asked_by (catalog_of c.args.task.now) c.args.marks.now c.args.pack c.args.held.now) c.args.list.now = left_first whole in
     broken (not_installable_rules (catalog_of c.args.task.now) c.args.pack) (requirements_of (catalog_of c.args.task.now) c.is_fully_counted-fully.result c.args.pack c.args.held.now.requires_ ++ (conflicts_of (catalog_of c.args.task.now) c.is_fully_counted-fully.result c.args.pack c.args.held.now.conflicts ++ (obsoletions_of (catalog_of c.args.task.now) c.is_fully_counted-fully.result c.args.pack c.args.held.now.obsoletes ++ namesakes_of (catalog_of c.args.task.now) c.args.marks.now c.args.pack (filter (is_named (catalog_of c.args.task.now) (plain c.args.held.now.name)) (packages (catalog_of c.args.task.now)))))) (rules_asked_by (catalog_of c.args.task.now) c.args.marks.now c.args.pack c.args.held.now) c.add_not_installable.result c.from_residual.result _ c.args.list.now c.args.list.now c.add_not_installable.new.list (search rules) c.add_not_installable.ensures left0
 
 pub returns-in_err-add_requirements : goal.returns-in_err-add_requirements
 returns-in_err-add_requirements c =
     let whole : (rules_asked_by (catalog_of c.args.task.now) c.args.marks.now c.args.pack c.args.held.now) ≡ not_installable_rules (catalog_of c.args.task.now) c.args.pack ++ (requirements_of (catalog_of c.args.task.now) c.is_fully_counted-fully.result c.args.pack c.args.held.now.requires_ ++ (conflicts_of (catalog_of c.args.task.now) c.is_fully_counted-fully.result c.args.pack c.args.held.now.conflicts ++ (obsoletions_of (catalog_of c.args.task.now) c.is_fully_counted-fully.result c.args.pack c.args.held.now.obsoletes ++ namesakes_of (catalog_of c.args.task.now) c.args.marks.now c.args.pack (filter (is_named (catalog_of c.args.task.now) (plain c.args.held.now.name)) (packages (catalog_of c.args.task.now)))))) =
     rw c.is_fully_counted-fully.ensures (asked_is (catalog_of c.args.task.now) c.args.marks.now c.args.pack c.args.held.now c.requires.record_of c.requires.sound) in
-    let left0 : IsLeft (not_installable_rules (catalog_of c.args.task.now) c.args.pack ++ (requirements_of (catalog_of c.args.task.now) c.is_fully_counted-fully.result c.args.pack c.args.held.now.requires_ ++ (conflicts_of (catalog_of c.args.task.now) c.is_fully_counted-fully.result c.args.pack c.args.held.now.conflicts ++ (obsoletions_of (catalog_of c.args.task.now) c.is_fully_counted-fully.result c.args.pack c.args.held.now.obsoletes ++ namesakes_of (catalog_of c.args.task.now) c.args.marks.now c.args.pack (filter (is_named (catalog_of c.args.task.now) (plain c.args.held.now.name)) (packages (catalog_of c.args.task.now))))))) c.args.list.now (rules_asked_by (catalog_of c.args.task.now) c.args.marks.now c.args.pack c.args.held.now) c.args.list.now = λ sets. ap (λ t. map (rule_with sets) c.args.list.now ++ t) (sym whole) in
+    let left0 : IsLeft (not_installable_rules (catalog_of c.args.task.now) c.args.pack ++ (requirements_of (catalog_of c.args.task.now) c.is_fully_counted-fully.result c.args.pack c.args.held.now.requires_ ++ (conflicts_of (catalog_of c.args.task.now) c.is_fully_counted-fully.result c.args.pack c.args.held.now.conflicts ++ (obsoletions_of (catalog_of c.args.task.now) c.is_fully_counted-fully.result c.args.pack c.args.held.now.obsoletes ++ namesakes_of (catalog_of c.args.task.now) c.args.marks.now c.args.pack (filter (is_named (catalog_of c.args.task.now) (plain c.args.held.now.name)) (packages (catalog_of c.args.task.now))))))) c.args.list.now (rules_asked_by (catalog_of c.args.task.now) c.args.marks.now c.args.pack c.args.held.now) c.args.list.now = left_first whole in
     let left1 : IsLeft (requirements_of (catalog_of c.args.task.now) c.is_fully_counted-fully.result c.args.pack c.args.held.now.requires_ ++ (conflicts_of (catalog_of c.args.task.now) c.is_fully_counted-fully.result c.args.pack c.args.held.now.conflicts ++ (obsoletions_of (catalog_of c.args.task.now) c.is_fully_counted-fully.result c.args.pack c.args.held.now.obsoletes ++ namesakes_of (catalog_of c.args.task.now) c.args.marks.now c.args.pack (filter (is_named (catalog_of c.args.task.now) (plain c.args.held.now.name)) (packages (catalog_of c.args.task.now)))))) c.add_not_installable.new.list (rules_asked_by (catalog_of c.args.task.now) c.args.marks.now c.args.pack c.args.held.now) c.args.list.now =
     turn (not_installable_rules (catalog_of c.args.task.now) c.args.pack) (requirements_of (catalog_of c.args.task.now) c.is_fully_counted-fully.result c.args.pack c.args.held.now.requires_ ++ (conflicts_of (catalog_of c.args.task.now) c.is_fully_counted-fully.result c.args.pack c.args.held.now.conflicts ++ (obsoletions_of (catalog_of c.args.task.now) c.is_fully_counted-fully.result c.args.pack c.args.held.now.obsoletes ++ namesakes_of (catalog_of c.args.task.now) c.args.marks.now c.args.pack (filter (is_named (catalog_of c.args.task.now) (plain c.args.held.now.name)) (packages (catalog_of c.args.task.now)))))) (rules_asked_by (catalog_of c.args.task.now) c.args.marks.now c.args.pack c.args.held.now) c.add_not_installable.result _ c.args.list.now c.args.list.now c.add_not_installable.new.list c.in_ok-add_not_installable.was c.add_not_installable.ensures left0 in
     broken (requirements_of (catalog_of c.args.task.now) c.is_fully_counted-fully.result c.args.pack c.args.held.now.requires_) (conflicts_of (catalog_of c.args.task.now) c.is_fully_counted-fully.result c.args.pack c.args.held.now.conflicts ++ (obsoletions_of (catalog_of c.args.task.now) c.is_fully_counted-fully.result c.args.pack c.args.held.now.obsoletes ++ namesakes_of (catalog_of c.args.task.now) c.args.marks.now c.args.pack (filter (is_named (catalog_of c.args.task.now) (plain c.args.held.now.name)) (packages (catalog_of c.args.task.now))))) (rules_asked_by (catalog_of c.args.task.now) c.args.marks.now c.args.pack c.args.held.now) c.add_requirements.result c.from_residual-in_err-add_requirements.result _ c.args.list.now c.add_not_installable.new.list c.add_requirements.new.list (search rules) (rw c.held.ensures at c.add_requirements.ensures) left1
@@ -34,7 +30,7 @@ pub returns-in_err-add_conflicts : goal.returns-in_err-add_conflicts
 returns-in_err-add_conflicts c =
     let whole : (rules_asked_by (catalog_of c.args.task.now) c.args.marks.now c.args.pack c.args.held.now) ≡ not_installable_rules (catalog_of c.args.task.now) c.args.pack ++ (requirements_of (catalog_of c.args.task.now) c.is_fully_counted-fully.result c.args.pack c.args.held.now.requires_ ++ (conflicts_of (catalog_of c.args.task.now) c.is_fully_counted-fully.result c.args.pack c.args.held.now.conflicts ++ (obsoletions_of (catalog_of c.args.task.now) c.is_fully_counted-fully.result c.args.pack c.args.held.now.obsoletes ++ namesakes_of (catalog_of c.args.task.now) c.args.marks.now c.args.pack (filter (is_named (catalog_of c.args.task.now) (plain c.args.held.now.name)) (packages (catalog_of c.args.task.now)))))) =
     rw c.is_fully_counted-fully.ensures (asked_is (catalog_of c.args.task.now) c.args.marks.now c.args.pack c.args.held.now c.requires.record_of c.requires.sound) in
-    let left0 : IsLeft (not_installable_rules (catalog_of c.args.task.now) c.args.pack ++ (requirements_of (catalog_of c.args.task.now) c.is_fully_counted-fully.result c.args.pack c.args.held.now.requires_ ++ (conflicts_of (catalog_of c.args.task.now) c.is_fully_counted-fully.result c.args.pack c.args.held.now.conflicts ++ (obsoletions_of (catalog_of c.args.task.now) c.is_fully_counted-fully.result c.args.pack c.args.held.now.obsoletes ++ namesakes_of (catalog_of c.args.task.now) c.args.marks.now c.args.pack (filter (is_named (catalog_of c.args.task.now) (plain c.args.held.now.name)) (packages (catalog_of c.args.task.now))))))) c.args.list.now (rules_asked_by (catalog_of c.args.task.now) c.args.marks.now c.args.pack c.args.held.now) c.args.list.now = λ sets. ap (λ t. map (rule_with sets) c.args.list.now ++ t) (sym whole) in
+    let left0 : IsLeft (not_installable_rules (catalog_of c.args.task.now) c.args.pack ++ (requirements_of (catalog_of c.args.task.now) c.is_fully_counted-fully.result c.args.pack c.args.held.now.requires_ ++ (conflicts_of (catalog_of c.args.task.now) c.is_fully_counted-fully.result c.args.pack c.args.held.now.conflicts ++ (obsoletions_of (catalog_of c.args.task.now) c.is_fully_counted-fully.result c.args.pack c.args.held.now.obsoletes ++ namesakes_of (catalog_of c.args.task.now) c.args.marks.now c.args.pack (filter (is_named (catalog_of c.args.task.now) (plain c.args.held.now.name)) (packages (catalog_of c.args.task.now))))))) c.args.list.now (rules_asked_by (catalog_of c.args.task.now) c.args.marks.now c.args.pack c.args.held.now) c.args.list.now = left_first whole in
     let left1 : IsLeft (requirements_of (catalog_of c.args.task.now) c.is_fully_counted-fully.result c.args.pack c.args.held.now.requires_ ++ (conflicts_of (catalog_of c.args.task.now) c.is_fully_counted-fully.result c.args.pack c.args.held.now.conflicts ++ (obsoletions_of (catalog_of c.args.task.now) c.is_fully_counted-fully.result c.args.pack c.args.held.now.obsoletes ++ namesakes_of (catalog_of c.args.task.now) c.args.marks.now c.args.pack (filter (is_named (catalog_of c.args.task.now) (plain c.args.held.now.name)) (packages (catalog_of c.args.task.now)))))) c.add_not_installable.new.list (rules_asked_by (catalog_of c.args.task.now) c.args.marks.now c.args.pack c.args.held.now) c.args.list.now =
     turn (not_installable_rules (catalog_of c.args.task.now) c.args.pack) (requirements_of (catalog_of c.args.task.now) c.is_fully_counted-fully.result c.args.pack c.args.held.now.requires_ ++ (conflicts_of (catalog_of c.args.task.now) c.is_fully_counted-fully.result c.args.pack c.args.held.now.conflicts ++ (obsoletions_of (catalog_of c.args.task.now) c.is_fully_counted-fully.result c.args.pack c.args.held.now.obsoletes ++ namesakes_of (catalog_of c.args.task.now) c.args.marks.now c.args.pack (filter (is_named (catalog_of c.args.task.now) (plain c.args.held.now.name)) (packages (catalog_of c.args.task.now)))))) (rules_asked_by (catalog_of c.args.task.now) c.args.marks.now c.args.pack c.args.held.now) c.add_not_installable.result _ c.args.list.now c.args.list.now c.add_not_installable.new.list c.in_ok-add_not_installable.was c.add_not_installable.ensures left0 in
     let left2 : IsLeft (conflicts_of (catalog_of c.args.task.now) c.is_fully_counted-fully.result c.args.pack c.args.held.now.conflicts ++ (obsoletions_of (catalog_of c.args.task.now) c.is_fully_counted-fully.result c.args.pack c.args.held.now.obsoletes ++ namesakes_of (catalog_of c.args.task.now) c.args.marks.now c.args.pack (filter (is_named (catalog_of c.args.task.now) (plain c.args.held.now.name)) (packages (catalog_of c.args.task.now))))) c.add_requirements.new.list (rules_asked_by (catalog_of c.args.task.now) c.args.marks.now c.args.pack c.args.held.now) c.args.list.now =
@@ -45,7 +41,7 @@ pub returns-in_err-add_obsoletions : goal.returns-in_err-add_obsoletions
 returns-in_err-add_obsoletions c =
     let whole : (rules_asked_by (catalog_of c.args.task.now) c.args.marks.now c.args.pack c.args.held.now) ≡ not_installable_rules (catalog_of c.args.task.now) c.args.pack ++ (requirements_of (catalog_of c.args.task.now) c.is_fully_counted-fully.result c.args.pack c.args.held.now.requires_ ++ (conflicts_of (catalog_of c.args.task.now) c.is_fully_counted-fully.result c.args.pack c.args.held.now.conflicts ++ (obsoletions_of (catalog_of c.args.task.now) c.is_fully_counted-fully.result c.args.pack c.args.held.now.obsoletes ++ namesakes_of (catalog_of c.args.task.now) c.args.marks.now c.args.pack (filter (is_named (catalog_of c.args.task.now) (plain c.args.held.now.name)) (packages (catalog_of c.args.task.now)))))) =
     rw c.is_fully_counted-fully.ensures (asked_is (catalog_of c.args.task.now) c.args.marks.now c.args.pack c.args.held.now c.requires.record_of c.requires.sound) in
-    let left0 : IsLeft (not_installable_rules (catalog_of c.args.task.now) c.args.pack ++ (requirements_of (catalog_of c.args.task.now) c.is_fully_counted-fully.result c.args.pack c.args.held.now.requires_ ++ (conflicts_of (catalog_of c.args.task.now) c.is_fully_counted-fully.result c.args.pack c.args.held.now.conflicts ++ (obsoletions_of (catalog_of c.args.task.now) c.is_fully_counted-fully.result c.args.pack c.args.held.now.obsoletes ++ namesakes_of (catalog_of c.args.task.now) c.args.marks.now c.args.pack (filter (is_named (catalog_of c.args.task.now) (plain c.args.held.now.name)) (packages (catalog_of c.args.task.now))))))) c.args.list.now (rules_asked_by (catalog_of c.args.task.now) c.args.marks.now c.args.pack c.args.held.now) c.args.list.now = λ sets. ap (λ t. map (rule_with sets) c.args.list.now ++ t) (sym whole) in
+    let left0 : IsLeft (not_installable_rules (catalog_of c.args.task.now) c.args.pack ++ (requirements_of (catalog_of c.args.task.now) c.is_fully_counted-fully.result c.args.pack c.args.held.now.requires_ ++ (conflicts_of (catalog_of c.args.task.now) c.is_fully_counted-fully.result c.args.pack c.args.held.now.conflicts ++ (obsoletions_of (catalog_of c.args.task.now) c.is_fully_counted-fully.result c.args.pack c.args.held.now.obsoletes ++ namesakes_of (catalog_of c.args.task.now) c.args.marks.now c.args.pack (filter (is_named (catalog_of c.args.task.now) (plain c.args.held.now.name)) (packages (catalog_of c.args.task.now))))))) c.args.list.now (rules_asked_by (catalog_of c.args.task.now) c.args.marks.now c.args.pack c.args.held.now) c.args.list.now = left_first whole in
     let left1 : IsLeft (requirements_of (catalog_of c.args.task.now) c.is_fully_counted-fully.result c.args.pack c.args.held.now.requires_ ++ (conflicts_of (catalog_of c.args.task.now) c.is_fully_counted-fully.result c.args.pack c.args.held.now.conflicts ++ (obsoletions_of (catalog_of c.args.task.now) c.is_fully_counted-fully.result c.args.pack c.args.held.now.obsoletes ++ namesakes_of (catalog_of c.args.task.now) c.args.marks.now c.args.pack (filter (is_named (catalog_of c.args.task.now) (plain c.args.held.now.name)) (packages (catalog_of c.args.task.now)))))) c.add_not_installable.new.list (rules_asked_by (catalog_of c.args.task.now) c.args.marks.now c.args.pack c.args.held.now) c.args.list.now =
     turn (not_installable_rules (catalog_of c.args.task.now) c.args.pack) (requirements_of (catalog_of c.args.task.now) c.is_fully_counted-fully.result c.args.pack c.args.held.now.requires_ ++ (conflicts_of (catalog_of c.args.task.now) c.is_fully_counted-fully.result c.args.pack c.args.held.now.conflicts ++ (obsoletions_of (catalog_of c.args.task.now) c.is_fully_counted-fully.result c.args.pack c.args.held.now.obsoletes ++ namesakes_of (catalog_of c.args.task.now) c.args.marks.now c.args.pack (filter (is_named (catalog_of c.args.task.now) (plain c.args.held.now.name)) (packages (catalog_of c.args.task.now)))))) (rules_asked_by (catalog_of c.args.task.now) c.args.marks.now c.args.pack c.args.held.now) c.add_not_installable.result _ c.args.list.now c.args.list.now c.add_not_installable.new.list c.in_ok-add_not_installable.was c.add_not_installable.ensures left0 in
     let left2 : IsLeft (conflicts_of (catalog_of c.args.task.now) c.is_fully_counted-fully.result c.args.pack c.args.held.now.conflicts ++ (obsoletions_of (catalog_of c.args.task.now) c.is_fully_counted-fully.result c.args.pack c.args.held.now.obsoletes ++ namesakes_of (catalog_of c.args.task.now) c.args.marks.now c.args.pack (filter (is_named (catalog_of c.args.task.now) (plain c.args.held.now.name)) (packages (catalog_of c.args.task.now))))) c.add_requirements.new.list (rules_asked_by (catalog_of c.args.task.now) c.args.marks.now c.args.pack c.args.held.now) c.args.list.now =
@@ -64,7 +60,7 @@ returns c =
     let list = c.of_name.ensures.exact (catalog_of c.args.task.now) c.requires.ready.of_task in
     let whole : (rules_asked_by (catalog_of c.args.task.now) c.args.marks.now c.args.pack c.args.held.now) ≡ not_installable_rules (catalog_of c.args.task.now) c.args.pack ++ (requirements_of (catalog_of c.args.task.now) c.is_fully_counted-fully.result c.args.pack c.args.held.now.requires_ ++ (conflicts_of (catalog_of c.args.task.now) c.is_fully_counted-fully.result c.args.pack c.args.held.now.conflicts ++ (obsoletions_of (catalog_of c.args.task.now) c.is_fully_counted-fully.result c.args.pack c.args.held.now.obsoletes ++ namesakes_of (catalog_of c.args.task.now) c.args.marks.now c.args.pack (filter (is_named (catalog_of c.args.task.now) (plain c.args.held.now.name)) (packages (catalog_of c.args.task.now)))))) =
     rw c.is_fully_counted-fully.ensures (asked_is (catalog_of c.args.task.now) c.args.marks.now c.args.pack c.args.held.now c.requires.record_of c.requires.sound) in
-    let left0 : IsLeft (not_installable_rules (catalog_of c.args.task.now) c.args.pack ++ (requirements_of (catalog_of c.args.task.now) c.is_fully_counted-fully.result c.args.pack c.args.held.now.requires_ ++ (conflicts_of (catalog_of c.args.task.now) c.is_fully_counted-fully.result c.args.pack c.args.held.now.conflicts ++ (obsoletions_of (catalog_of c.args.task.now) c.is_fully_counted-fully.result c.args.pack c.args.held.now.obsoletes ++ namesakes_of (catalog_of c.args.task.now) c.args.marks.now c.args.pack (filter (is_named (catalog_of c.args.task.now) (plain c.args.held.now.name)) (packages (catalog_of c.args.task.now))))))) c.args.list.now (rules_asked_by (catalog_of c.args.task.now) c.args.marks.now c.args.pack c.args.held.now) c.args.list.now = λ sets. ap (λ t. map (rule_with sets) c.args.list.now ++ t) (sym whole) in
+    let left0 : IsLeft (not_installable_rules (catalog_of c.args.task.now) c.args.pack ++ (requirements_of (catalog_of c.args.task.now) c.is_fully_counted-fully.result c.args.pack c.args.held.now.requires_ ++ (conflicts_of (catalog_of c.args.task.now) c.is_fully_counted-fully.result c.args.pack c.args.held.now.conflicts ++ (obsoletions_of (catalog_of c.args.task.now) c.is_fully_counted-fully.result c.args.pack c.args.held.now.obsoletes ++ namesakes_of (catalog_of c.args.task.now) c.args.marks.now c.args.pack (filter (is_named (catalog_of c.args.task.now) (plain c.args.held.now.name)) (packages (catalog_of c.args.task.now))))))) c.args.list.now (rules_asked_by (catalog_of c.args.task.now) c.args.marks.now c.args.pack c.args.held.now) c.args.list.now = left_first whole in
     let left1 : IsLeft (requirements_of (catalog_of c.args.task.now) c.is_fully_counted-fully.result c.args.pack c.args.held.now.requires_ ++ (conflicts_of (catalog_of c.args.task.now) c.is_fully_counted-fully.result c.args.pack c.args.held.now.conflicts ++ (obsoletions_of (catalog_of c.args.task.now) c.is_fully_counted-fully.result c.args.pack c.args.held.now.obsoletes ++ namesakes_of (catalog_of c.args.task.now) c.args.marks.now c.args.pack (filter (is_named (catalog_of c.args.task.now) (plain c.args.held.now.name)) (packages (catalog_of c.args.task.now)))))) c.add_not_installable.new.list (rules_asked_by (catalog_of c.args.task.now) c.args.marks.now c.args.pack c.args.held.now) c.args.list.now =
     turn (not_installable_rules (catalog_of c.args.task.now) c.args.pack) (requirements_of (catalog_of c.args.task.now) c.is_fully_counted-fully.result c.args.pack c.args.held.now.requires_ ++ (conflicts_of (catalog_of c.args.task.now) c.is_fully_counted-fully.result c.args.pack c.args.held.now.conflicts ++ (obsoletions_of (catalog_of c.args.task.now) c.is_fully_counted-fully.result c.args.pack c.args.held.now.obsoletes ++ namesakes_of (catalog_of c.args.task.now) c.args.marks.now c.args.pack (filter (is_named (catalog_of c.args.task.now) (plain c.args.held.now.name)) (packages (catalog_of c.args.task.now)))))) (rules_asked_by (catalog_of c.args.task.now) c.args.marks.now c.args.pack c.args.held.now) c.add_not_installable.result _ c.args.list.now c.args.list.now c.add_not_installable.new.list c.in_ok-add_not_installable.was c.add_not_installable.ensures left0 in
     let left2 : IsLeft (conflicts_of (catalog_of c.args.task.now) c.is_fully_counted-fully.result c.args.pack c.args.held.now.conflicts ++ (obsoletions_of (catalog_of c.args.task.now) c.is_fully_counted-fully.result c.args.pack c.args.held.now.obsoletes ++ namesakes_of (catalog_of c.args.task.now) c.args.marks.now c.args.pack (filter (is_named (catalog_of c.args.task.now) (plain c.args.held.now.name)) (packages (catalog_of c.args.task.now))))) c.add_requirements.new.list (rules_asked_by (catalog_of c.args.task.now) c.args.marks.now c.args.pack c.args.held.now) c.args.list.now =

@@ -1,15 +1,8 @@
-use Rattle.std.proofs.Common.{ℕ, List, [], ◌∷◌, ◌+◌, ◌<◌, ◌≡◌, ◌++◌, ◌&&◌, ◌∙◌, not, true, map, drop, length, nat_le, nat_lt, refl, sym, ap, arith, rules}
-use Rattle.std.specs.Prelude.{filter}
+use Rattle.std.proofs.Common.{◌≡◌, true, drop, length, nat_lt}
 use Rattle.std.specs.List.{list_all}
-use Rattle.std.proofs.lemmas.List.{drop_more}
-use Rattle.solv_pool.specs.Catalog.{catalog_of, dependency, members, packages}
-use Rattle.solv_pool.specs.HardRules.{not_installable_rules}
-use Rattle.solv_pool.specs.Holding.{package_meets}
-use Rattle.solv_pool.specs.Providing.{covers}
-use Rattle.solv_pool.specs.RuleMeaning.{HardRule, req, con, obs, same, rule_with}
-use Rattle.solv_rules.specs.Making.{requirements_of, requirement_holds, is_counted_other, against, conflicts_of, obsoletions_of, is_barred, namesakes_of, is_single}
-use Rattle.solv_rules.proofs.Meeting.{members_within, packages_within, no_operator, all_behind, all_here}
-use Rattle.solv_rules.proofs.Putting.{IsLeft, puts_all, puts_none, turn, broken, first_of}
+use Rattle.solv_pool.specs.Catalog.{catalog_of}
+use Rattle.solv_rules.specs.Making.{conflicts_of, is_single}
+use Rattle.solv_rules.proofs.Putting.{IsLeft}
 use Rattle.solv_rules.proofs.making.add_conflicts.Given as goal
 
 abbrev pub invariant-loop-dep : goal.invariant-loop-dep

@@ -1,45 +1,42 @@
-use Rattle.std.proofs.Common.{ℕ, List, [], ◌∷◌, ◌+◌, ◌<◌, ◌≡◌, ◌++◌, ◌&&◌, ◌∙◌, not, true, map, drop, length, nat_le, nat_lt, refl, sym, ap, arith, rules}
+use Rattle.std.proofs.Common.{◌∷◌, ◌+◌, ◌≡◌, ◌++◌, ◌∙◌, drop, length, nat_lt, sym, ap, arith, rules}
 use Rattle.std.specs.Prelude.{filter}
-use Rattle.std.specs.List.{list_all}
 use Rattle.std.proofs.lemmas.List.{drop_more, drop_all}
-use Rattle.solv_pool.specs.Catalog.{catalog_of, dependency, members, packages}
-use Rattle.solv_pool.specs.HardRules.{not_installable_rules}
-use Rattle.solv_pool.specs.Holding.{package_meets}
+use Rattle.solv_pool.specs.Catalog.{catalog_of, packages}
 use Rattle.solv_pool.specs.Providing.{covers}
-use Rattle.solv_pool.specs.RuleMeaning.{HardRule, req, con, obs, same, rule_with}
-use Rattle.solv_rules.specs.Making.{requirements_of, requirement_holds, is_counted_other, against, conflicts_of, obsoletions_of, is_barred, namesakes_of, is_single}
-use Rattle.solv_rules.proofs.Meeting.{members_within, packages_within, no_operator, all_behind, all_here}
-use Rattle.solv_rules.proofs.Putting.{IsLeft, puts_all, puts_none, turn, broken, first_of}
+use Rattle.solv_pool.specs.RuleMeaning.{obs}
+use Rattle.solv_rules.specs.Making.{against, obsoletions_of}
+use Rattle.solv_rules.proofs.Meeting.{packages_within, all_behind}
+use Rattle.solv_rules.proofs.Putting.{IsLeft, puts_all, turn, broken, left_as}
 use Rattle.solv_rules.proofs.making.add_obsoletions.Goals as goal
 
 pub add_obsoletion-requires : goal.add_obsoletion-requires
 add_obsoletion-requires c =
     let at : drop c.loop-dep.dep-index c.args.obsoletes.now ≡ c.dep-item.result ∷ drop (c.loop-dep.dep-index + 1) c.args.obsoletes.now =
     drop_more c.args.obsoletes.now c.loop-dep.dep-index c.dep-item.result (omega arith) ∙ ap (λ x. x ∷ drop (c.loop-dep.dep-index + 1) c.args.obsoletes.now) (sym c.dep-item.is) in
-    let list : c.named.result.now ≡ filter (covers (catalog_of c.args.task.now) c.dep-item.result) (packages (catalog_of c.args.task.now)) = c.named.ensures.exact (catalog_of c.args.task.now) c.requires.index in
+    let list : c.covered.result.now ≡ filter (covers (catalog_of c.args.task.now) c.dep-item.result) (packages (catalog_of c.args.task.now)) = c.covered.ensures in
     rw list (packages_within (catalog_of c.args.task.now) (covers (catalog_of c.args.task.now) c.dep-item.result))
 
 pub returns-in_err-add_obsoletion : goal.returns-in_err-add_obsoletion
 returns-in_err-add_obsoletion c =
     let at : drop c.loop-dep.dep-index c.args.obsoletes.now ≡ c.dep-item.result ∷ drop (c.loop-dep.dep-index + 1) c.args.obsoletes.now =
     drop_more c.args.obsoletes.now c.loop-dep.dep-index c.dep-item.result (omega arith) ∙ ap (λ x. x ∷ drop (c.loop-dep.dep-index + 1) c.args.obsoletes.now) (sym c.dep-item.is) in
-    let list : c.named.result.now ≡ filter (covers (catalog_of c.args.task.now) c.dep-item.result) (packages (catalog_of c.args.task.now)) = c.named.ensures.exact (catalog_of c.args.task.now) c.requires.index in
-    let here : IsLeft ((against (catalog_of c.args.task.now) c.args.fully c.args.pack (obs c.args.pack c.dep-item.result) c.named.result.now) ++ obsoletions_of (catalog_of c.args.task.now) c.args.fully c.args.pack (drop (c.loop-dep.dep-index + 1) c.args.obsoletes.now)) c.loop-dep.list (obsoletions_of (catalog_of c.args.task.now) c.args.fully c.args.pack c.args.obsoletes.now) c.args.list.now =
-    λ sets. ap (λ t. map (rule_with sets) c.loop-dep.list ++ t) (sym (ap (λ t. obsoletions_of (catalog_of c.args.task.now) c.args.fully c.args.pack t) at ∙ ap (λ qs. against (catalog_of c.args.task.now) c.args.fully c.args.pack (obs c.args.pack c.dep-item.result) qs ++ obsoletions_of (catalog_of c.args.task.now) c.args.fully c.args.pack (drop (c.loop-dep.dep-index + 1) c.args.obsoletes.now)) (sym list))) ∙ c.loop-dep.invariant.left sets in
-    broken (against (catalog_of c.args.task.now) c.args.fully c.args.pack (obs c.args.pack c.dep-item.result) c.named.result.now) (obsoletions_of (catalog_of c.args.task.now) c.args.fully c.args.pack (drop (c.loop-dep.dep-index + 1) c.args.obsoletes.now)) (obsoletions_of (catalog_of c.args.task.now) c.args.fully c.args.pack c.args.obsoletes.now) c.add_obsoletion.result c.from_residual.result _ c.args.list.now c.loop-dep.list c.add_obsoletion.new.list (search rules) c.add_obsoletion.ensures here
+    let list : c.covered.result.now ≡ filter (covers (catalog_of c.args.task.now) c.dep-item.result) (packages (catalog_of c.args.task.now)) = c.covered.ensures in
+    let here : IsLeft ((against (catalog_of c.args.task.now) c.args.fully c.args.pack (obs c.args.pack c.dep-item.result) c.covered.result.now) ++ obsoletions_of (catalog_of c.args.task.now) c.args.fully c.args.pack (drop (c.loop-dep.dep-index + 1) c.args.obsoletes.now)) c.loop-dep.list (obsoletions_of (catalog_of c.args.task.now) c.args.fully c.args.pack c.args.obsoletes.now) c.args.list.now =
+    left_as (ap (λ t. obsoletions_of (catalog_of c.args.task.now) c.args.fully c.args.pack t) at ∙ ap (λ qs. against (catalog_of c.args.task.now) c.args.fully c.args.pack (obs c.args.pack c.dep-item.result) qs ++ obsoletions_of (catalog_of c.args.task.now) c.args.fully c.args.pack (drop (c.loop-dep.dep-index + 1) c.args.obsoletes.now)) (sym list)) c.loop-dep.invariant.left in
+    broken (against (catalog_of c.args.task.now) c.args.fully c.args.pack (obs c.args.pack c.dep-item.result) c.covered.result.now) (obsoletions_of (catalog_of c.args.task.now) c.args.fully c.args.pack (drop (c.loop-dep.dep-index + 1) c.args.obsoletes.now)) (obsoletions_of (catalog_of c.args.task.now) c.args.fully c.args.pack c.args.obsoletes.now) c.add_obsoletion.result c.from_residual.result _ c.args.list.now c.loop-dep.list c.add_obsoletion.new.list (search rules) c.add_obsoletion.ensures here
 
 pub loop-dep-preserved : goal.loop-dep-preserved
 loop-dep-preserved c =
     let at : drop c.loop-dep.dep-index c.args.obsoletes.now ≡ c.dep-item.result ∷ drop (c.loop-dep.dep-index + 1) c.args.obsoletes.now =
     drop_more c.args.obsoletes.now c.loop-dep.dep-index c.dep-item.result (omega arith) ∙ ap (λ x. x ∷ drop (c.loop-dep.dep-index + 1) c.args.obsoletes.now) (sym c.dep-item.is) in
-    let list : c.named.result.now ≡ filter (covers (catalog_of c.args.task.now) c.dep-item.result) (packages (catalog_of c.args.task.now)) = c.named.ensures.exact (catalog_of c.args.task.now) c.requires.index in
-    let here : IsLeft ((against (catalog_of c.args.task.now) c.args.fully c.args.pack (obs c.args.pack c.dep-item.result) c.named.result.now) ++ obsoletions_of (catalog_of c.args.task.now) c.args.fully c.args.pack (drop (c.loop-dep.dep-index + 1) c.args.obsoletes.now)) c.loop-dep.list (obsoletions_of (catalog_of c.args.task.now) c.args.fully c.args.pack c.args.obsoletes.now) c.args.list.now =
-    λ sets. ap (λ t. map (rule_with sets) c.loop-dep.list ++ t) (sym (ap (λ t. obsoletions_of (catalog_of c.args.task.now) c.args.fully c.args.pack t) at ∙ ap (λ qs. against (catalog_of c.args.task.now) c.args.fully c.args.pack (obs c.args.pack c.dep-item.result) qs ++ obsoletions_of (catalog_of c.args.task.now) c.args.fully c.args.pack (drop (c.loop-dep.dep-index + 1) c.args.obsoletes.now)) (sym list))) ∙ c.loop-dep.invariant.left sets in
+    let list : c.covered.result.now ≡ filter (covers (catalog_of c.args.task.now) c.dep-item.result) (packages (catalog_of c.args.task.now)) = c.covered.ensures in
+    let here : IsLeft ((against (catalog_of c.args.task.now) c.args.fully c.args.pack (obs c.args.pack c.dep-item.result) c.covered.result.now) ++ obsoletions_of (catalog_of c.args.task.now) c.args.fully c.args.pack (drop (c.loop-dep.dep-index + 1) c.args.obsoletes.now)) c.loop-dep.list (obsoletions_of (catalog_of c.args.task.now) c.args.fully c.args.pack c.args.obsoletes.now) c.args.list.now =
+    left_as (ap (λ t. obsoletions_of (catalog_of c.args.task.now) c.args.fully c.args.pack t) at ∙ ap (λ qs. against (catalog_of c.args.task.now) c.args.fully c.args.pack (obs c.args.pack c.dep-item.result) qs ++ obsoletions_of (catalog_of c.args.task.now) c.args.fully c.args.pack (drop (c.loop-dep.dep-index + 1) c.args.obsoletes.now)) (sym list)) c.loop-dep.invariant.left in
     record {
       held = all_behind (λ d. nat_lt d (length c.args.task.now.pool.nodes)) c.args.obsoletes.now c.loop-dep.dep-index c.loop-dep.invariant.held;
-      left = turn (against (catalog_of c.args.task.now) c.args.fully c.args.pack (obs c.args.pack c.dep-item.result) c.named.result.now) (obsoletions_of (catalog_of c.args.task.now) c.args.fully c.args.pack (drop (c.loop-dep.dep-index + 1) c.args.obsoletes.now)) (obsoletions_of (catalog_of c.args.task.now) c.args.fully c.args.pack c.args.obsoletes.now) c.add_obsoletion.result _ c.args.list.now c.loop-dep.list c.add_obsoletion.new.list c.in_ok-add_obsoletion.was c.add_obsoletion.ensures here;
+      left = turn (against (catalog_of c.args.task.now) c.args.fully c.args.pack (obs c.args.pack c.dep-item.result) c.covered.result.now) (obsoletions_of (catalog_of c.args.task.now) c.args.fully c.args.pack (drop (c.loop-dep.dep-index + 1) c.args.obsoletes.now)) (obsoletions_of (catalog_of c.args.task.now) c.args.fully c.args.pack c.args.obsoletes.now) c.add_obsoletion.result _ c.args.list.now c.loop-dep.list c.add_obsoletion.new.list c.in_ok-add_obsoletion.was c.add_obsoletion.ensures here;
     }
 
 pub returns : goal.returns
 returns c = puts_all (obsoletions_of (catalog_of c.args.task.now) c.args.fully c.args.pack c.args.obsoletes.now) _ c.args.list.now c.loop-dep.list
-    (λ sets. ap (λ t. map (rule_with sets) c.loop-dep.list ++ obsoletions_of (catalog_of c.args.task.now) c.args.fully c.args.pack t) (sym (drop_all c.loop-dep.dep-index c.args.obsoletes.now (omega (arith, c.loop-dep-test.false)))) ∙ c.loop-dep.invariant.left sets)
+    (left_as (ap (λ t. obsoletions_of (catalog_of c.args.task.now) c.args.fully c.args.pack t) (drop_all c.loop-dep.dep-index c.args.obsoletes.now (omega (arith, c.loop-dep-test.false)))) c.loop-dep.invariant.left)

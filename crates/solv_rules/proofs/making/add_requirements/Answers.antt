@@ -1,15 +1,10 @@
-use Rattle.std.proofs.Common.{ℕ, List, [], ◌∷◌, ◌+◌, ◌<◌, ◌≡◌, ◌++◌, ◌&&◌, ◌∙◌, not, true, map, drop, length, nat_le, nat_lt, refl, sym, ap, arith, rules}
-use Rattle.std.specs.Prelude.{filter}
-use Rattle.std.specs.List.{list_all}
+use Rattle.std.proofs.Common.{[], ◌∷◌, ◌+◌, ◌≡◌, ◌++◌, ◌∙◌, drop, length, nat_lt, sym, ap, arith, rules}
 use Rattle.std.proofs.lemmas.List.{drop_more, drop_all}
-use Rattle.solv_pool.specs.Catalog.{catalog_of, dependency, members, packages}
-use Rattle.solv_pool.specs.HardRules.{not_installable_rules}
-use Rattle.solv_pool.specs.Holding.{package_meets}
-use Rattle.solv_pool.specs.Providing.{covers}
-use Rattle.solv_pool.specs.RuleMeaning.{HardRule, req, con, obs, same, rule_with}
-use Rattle.solv_rules.specs.Making.{requirements_of, requirement_holds, is_counted_other, against, conflicts_of, obsoletions_of, is_barred, namesakes_of, is_single}
-use Rattle.solv_rules.proofs.Meeting.{members_within, packages_within, no_operator, all_behind, all_here}
-use Rattle.solv_rules.proofs.Putting.{IsLeft, puts_all, puts_none, turn, broken, first_of}
+use Rattle.solv_pool.specs.Catalog.{catalog_of}
+use Rattle.solv_pool.specs.RuleMeaning.{req}
+use Rattle.solv_rules.specs.Making.{requirements_of, requirement_holds, is_single}
+use Rattle.solv_rules.proofs.Meeting.{all_behind}
+use Rattle.solv_rules.proofs.Putting.{IsLeft, puts_all, turn, broken, first_of, left_as}
 use Rattle.solv_rules.proofs.making.add_requirements.Goals as goal
 
 pub returns-in_err-add_requirement : goal.returns-in_err-add_requirement
@@ -17,7 +12,7 @@ returns-in_err-add_requirement c =
     let at : drop c.loop-need.need-index c.args.needs.now ≡ c.need-item.result ∷ drop (c.loop-need.need-index + 1) c.args.needs.now =
     drop_more c.args.needs.now c.loop-need.need-index c.need-item.result (omega arith) ∙ ap (λ x. x ∷ drop (c.loop-need.need-index + 1) c.args.needs.now) (sym c.need-item.is) in
     let here : IsLeft ((requirements_of (catalog_of c.args.task.now) c.args.fully c.args.pack (c.need-item.result ∷ [])) ++ requirements_of (catalog_of c.args.task.now) c.args.fully c.args.pack (drop (c.loop-need.need-index + 1) c.args.needs.now)) c.loop-need.list (requirements_of (catalog_of c.args.task.now) c.args.fully c.args.pack c.args.needs.now) c.args.list.now =
-    λ sets. ap (λ t. map (rule_with sets) c.loop-need.list ++ t) (sym (ap (λ t. requirements_of (catalog_of c.args.task.now) c.args.fully c.args.pack t) at ∙ first_of (λ need. req c.args.pack need.dep) (requirement_holds (catalog_of c.args.task.now) c.args.fully) c.need-item.result (drop (c.loop-need.need-index + 1) c.args.needs.now))) ∙ c.loop-need.invariant.left sets in
+    left_as (ap (λ t. requirements_of (catalog_of c.args.task.now) c.args.fully c.args.pack t) at ∙ first_of (λ need. req c.args.pack need.dep) (requirement_holds (catalog_of c.args.task.now) c.args.fully) c.need-item.result (drop (c.loop-need.need-index + 1) c.args.needs.now)) c.loop-need.invariant.left in
     broken (requirements_of (catalog_of c.args.task.now) c.args.fully c.args.pack (c.need-item.result ∷ [])) (requirements_of (catalog_of c.args.task.now) c.args.fully c.args.pack (drop (c.loop-need.need-index + 1) c.args.needs.now)) (requirements_of (catalog_of c.args.task.now) c.args.fully c.args.pack c.args.needs.now) c.add_requirement.result c.from_residual.result _ c.args.list.now c.loop-need.list c.add_requirement.new.list (search rules) c.add_requirement.ensures here
 
 pub loop-need-preserved : goal.loop-need-preserved
@@ -25,7 +20,7 @@ loop-need-preserved c =
     let at : drop c.loop-need.need-index c.args.needs.now ≡ c.need-item.result ∷ drop (c.loop-need.need-index + 1) c.args.needs.now =
     drop_more c.args.needs.now c.loop-need.need-index c.need-item.result (omega arith) ∙ ap (λ x. x ∷ drop (c.loop-need.need-index + 1) c.args.needs.now) (sym c.need-item.is) in
     let here : IsLeft ((requirements_of (catalog_of c.args.task.now) c.args.fully c.args.pack (c.need-item.result ∷ [])) ++ requirements_of (catalog_of c.args.task.now) c.args.fully c.args.pack (drop (c.loop-need.need-index + 1) c.args.needs.now)) c.loop-need.list (requirements_of (catalog_of c.args.task.now) c.args.fully c.args.pack c.args.needs.now) c.args.list.now =
-    λ sets. ap (λ t. map (rule_with sets) c.loop-need.list ++ t) (sym (ap (λ t. requirements_of (catalog_of c.args.task.now) c.args.fully c.args.pack t) at ∙ first_of (λ need. req c.args.pack need.dep) (requirement_holds (catalog_of c.args.task.now) c.args.fully) c.need-item.result (drop (c.loop-need.need-index + 1) c.args.needs.now))) ∙ c.loop-need.invariant.left sets in
+    left_as (ap (λ t. requirements_of (catalog_of c.args.task.now) c.args.fully c.args.pack t) at ∙ first_of (λ need. req c.args.pack need.dep) (requirement_holds (catalog_of c.args.task.now) c.args.fully) c.need-item.result (drop (c.loop-need.need-index + 1) c.args.needs.now)) c.loop-need.invariant.left in
     record {
       held = all_behind (λ need. nat_lt need.dep (length c.args.task.now.pool.nodes)) c.args.needs.now c.loop-need.need-index c.loop-need.invariant.held;
       single = all_behind (λ need. is_single (catalog_of c.args.task.now) need.dep) c.args.needs.now c.loop-need.need-index c.loop-need.invariant.single;
@@ -34,4 +29,4 @@ loop-need-preserved c =
 
 pub returns : goal.returns
 returns c = puts_all (requirements_of (catalog_of c.args.task.now) c.args.fully c.args.pack c.args.needs.now) _ c.args.list.now c.loop-need.list
-    (λ sets. ap (λ t. map (rule_with sets) c.loop-need.list ++ requirements_of (catalog_of c.args.task.now) c.args.fully c.args.pack t) (sym (drop_all c.loop-need.need-index c.args.needs.now (omega (arith, c.loop-need-test.false)))) ∙ c.loop-need.invariant.left sets)
+    (left_as (ap (λ t. requirements_of (catalog_of c.args.task.now) c.args.fully c.args.pack t) (drop_all c.loop-need.need-index c.args.needs.now (omega (arith, c.loop-need-test.false)))) c.loop-need.invariant.left)
