@@ -1,5 +1,5 @@
 mod Sorting
-mod Orders
+pub mod Orders
 mod Places
 mod Obsoletion
 mod Namesakes

@@ -14,5 +14,5 @@ mod replacing;
 mod updating;
 
 pub use architectures::infarch_rules;
-pub use replacing::{feature, legal};
+pub use replacing::{feature, feature_candidates, legal, update_candidates};
 pub use updating::update_rules;

@@ -163,7 +163,7 @@ pub fn legal(
 }
 
 /// A package and those that may take its place, were every change allowed, ascending.
-pub(crate) fn feature_candidates(
+pub fn feature_candidates(
     alloc: Global,
     task: &Task,
     prov: &Providers,
@@ -184,7 +184,7 @@ pub(crate) fn feature_candidates(
 }
 
 /// A package and those that may take its place with the changes that the flags allow, ascending.
-pub(crate) fn update_candidates(
+pub fn update_candidates(
     alloc: Global,
     task: &Task,
     prov: &Providers,
