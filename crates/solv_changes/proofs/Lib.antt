@@ -1,0 +1,7 @@
+mod Pairs
+mod Listing
+mod Greatest
+mod Marked
+mod Same
+mod Restored
+mod Rising

@@ -1,0 +1,16 @@
+use Rattle.std.proofs.Common.{◌-◌, length}
+use Rattle.solv_pool.specs.Belonging.{fits}
+use Rattle.solv_changes.proofs.Pairs.{all_at, name_below, evr_below}
+use Rattle.solv_changes.proofs.comparing.package.Goals as goal
+
+pub returns-clause-named : goal.returns-clause-named
+returns-clause-named c =
+    name_below (length c.args.task.now.pool.names) (length c.args.task.now.pool.nodes) (length c.args.task.now.universe.repos) c.package.result.now
+    (all_at (fits (length c.args.task.now.pool.names) (length c.args.task.now.pool.nodes) (length c.args.task.now.universe.repos))
+    c.args.task.now.universe.packages (c.args.pack - 1) c.package.result.now c.requires.over.packages c.package.ensures)
+
+pub returns-clause-versioned : goal.returns-clause-versioned
+returns-clause-versioned c =
+    evr_below (length c.args.task.now.pool.names) (length c.args.task.now.pool.nodes) (length c.args.task.now.universe.repos) c.package.result.now
+    (all_at (fits (length c.args.task.now.pool.names) (length c.args.task.now.pool.nodes) (length c.args.task.now.universe.repos))
+    c.args.task.now.universe.packages (c.args.pack - 1) c.package.result.now c.requires.over.packages c.package.ensures)

@@ -1,0 +1,5 @@
+pub mod Tables
+pub mod Effects
+pub mod Changes
+pub mod Order
+pub mod Rows

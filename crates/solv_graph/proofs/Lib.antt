@@ -1,0 +1,9 @@
+pub mod Edges
+pub mod Walking
+pub mod Marks
+pub mod Visiting
+pub mod Numbered
+pub mod Listed
+pub mod Placed
+pub mod Steps
+pub mod Ended
