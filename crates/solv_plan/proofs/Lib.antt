@@ -1,0 +1,4 @@
+pub mod Joining
+pub mod Supplementing
+pub mod Tables
+pub mod Planned

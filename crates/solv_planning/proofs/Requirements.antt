@@ -1,0 +1,137 @@
+-- The requirements that have a rule are those that count, and what rules ask for are packages.
+use Rattle.std.proofs.Common.{◌≡◌, ℕ, Bool, true, false, not, ◌&&◌, List, [], ◌∷◌, ◌++◌, map, length, Option, Some, None, refl, sym, ap, ◌∙◌, arith}
+use Rattle.std.specs.Prelude.{filter, flat_map}
+use Rattle.std.specs.List.{list_all}
+use Rattle.std.specs.Option.{option_map_or}
+use Rattle.std.proofs.lemmas.Grind.{flat_map-append}
+use Rattle.solv_pool.specs.Words.{when, is_among}
+use Rattle.solv_pool.specs.Catalog.{Catalog, packages, package_at}
+use Rattle.solv_pool.specs.Best.{best, is_beaten}
+use Rattle.solv_pool.specs.Installable.{is_installable}
+use Rattle.solv_pool.specs.Selections.{selects, selection}
+use Rattle.solv_pool.specs.JobMarks.{is_install, is_update}
+use Rattle.solv_pool.specs.TaskBelonging.{is_pack}
+use Rattle.solv_pool.specs.RuleMeaning.{HardRule, not_installable, req, con, rich_con, obs, same, infarch, update, feature, install, erase, lock, best_job, best_update}
+use Rattle.solv_pool.specs.HardRules.{not_installable_rules, counted_requirements, requirement_rules, conflicting, conflict_rules, package_wise_conflicts, counted_rich_conflicts, rich_conflict_rules, obsoleted, obsoletion_rules, later_namesakes, same_name_rules, rules_asked_by, rules_of_package, package_rules, inferior_packages, infarch_rules, update_candidates, feature_candidates, kept_packages, has_update_rule, update_rules, feature_rules, numbered_jobs, rule_of_job, job_rules, best_job_rule, best_job_rules, selected_installed, best_update_rule, best_update_rules}
+use Rattle.solv_pool.specs.declared.packages.Package.{Package}
+use Rattle.solv_pool.specs.declared.packages.Need.{Need}
+use Rattle.solv_pool.specs.declared.jobs.Job.{Job}
+use Rattle.solv_pool.specs.declared.jobs.Action.{Action}
+use Rattle.solv_pool.specs.declared.jobs.Action.TheVariants as action
+use Rattle.solv_questions.specs.Questions.{Request, rules_of}
+use Rattle.solv_questions.proofs.Members.{all_by}
+use Rattle.solv_questions.proofs.Origins.{IsFrom, is_from}
+use Rattle.solv_plan.specs.PlanOf.{required_by}
+use Rattle.solv_plan.specs.declared.plans.Want.{Want}
+use Rattle.solv_plan.proofs.Tables.{flat_flat, flat_alike, flat_when, append_none}
+use Rattle.solv_planning.specs.Readiness.{asks_for_packages}
+use Rattle.solv_planning.specs.Rows.{wants_of}
+use Rattle.solv_planning.proofs.Packs.{packs_of}
+
+-- lists of rules without a requirement
+no_wants : {X : Type 0} (f : X → HardRule) → ((x : X) → wants_of (f x) ≡ []) → (xs : List X) → flat_map wants_of (map f xs) ≡ []
+no_wants f h [] = refl
+no_wants f h (x ∷ xs) = ap (λ t. t ++ flat_map wants_of (map f xs)) (h x) ∙ no_wants f h xs
+
+none_flat : {X Y : Type 0} (f : X → List Y) → ((x : X) → f x ≡ []) → (xs : List X) → flat_map f xs ≡ []
+none_flat f h [] = refl
+none_flat f h (x ∷ xs) = ap (λ t. t ++ flat_map f xs) (h x) ∙ none_flat f h xs
+
+no_wants_each : {X : Type 0} (f : X → List HardRule) → ((x : X) → flat_map wants_of (f x) ≡ []) → (xs : List X) → flat_map wants_of (flat_map f xs) ≡ []
+no_wants_each f h xs = flat_flat wants_of f xs ∙ none_flat (λ x. flat_map wants_of (f x)) h xs
+
+no_wants_when : (b : Bool) (xs : List HardRule) → flat_map wants_of xs ≡ [] → flat_map wants_of (when b xs) ≡ []
+no_wants_when true xs h = h
+no_wants_when false xs h = refl
+
+-- a part behind others that has none
+none_behind : (xs ys : List HardRule) → flat_map wants_of ys ≡ [] → flat_map wants_of (xs ++ ys) ≡ flat_map wants_of xs
+none_behind xs ys h = flat_map-append wants_of xs ys ∙ ap (λ t. flat_map wants_of xs ++ t) h ∙ append_none (flat_map wants_of xs)
+
+none_before : (xs ys : List HardRule) → flat_map wants_of xs ≡ [] → flat_map wants_of (xs ++ ys) ≡ flat_map wants_of ys
+none_before xs ys h = flat_map-append wants_of xs ys ∙ ap (λ t. t ++ flat_map wants_of ys) h
+
+module _ (r : Request) where
+  required_wants : (p : ℕ) (needs : List Need) → flat_map wants_of (map (λ need. req p need.dep) needs) ≡ map (λ need. record { pack = p; dep = need.dep }) needs
+  required_wants p [] = refl
+  required_wants p (need ∷ needs) = ap (λ t. record { pack = p; dep = need.dep } ∷ t) (required_wants p needs)
+
+  asked_wants : (p : ℕ) (a : Package) → flat_map wants_of (rules_asked_by r.catalog r.marks p a) ≡ map (λ need. record { pack = p; dep = need.dep }) (counted_requirements r.catalog r.marks p a)
+  asked_wants p a =
+      let one : List HardRule = not_installable_rules r.catalog p in
+      let two : List HardRule = requirement_rules r.catalog r.marks p a in
+      let three : List HardRule = conflict_rules r.catalog r.marks p a in
+      let four : List HardRule = rich_conflict_rules r.catalog r.marks p a in
+      let five : List HardRule = obsoletion_rules r.catalog r.marks p a in
+      let six : List HardRule = same_name_rules r.catalog r.marks p in
+      none_behind (one ++ two ++ three ++ four ++ five) six (no_wants (same p) (λ q. refl) (later_namesakes r.catalog r.marks p))
+      ∙ none_behind (one ++ two ++ three ++ four) five (no_wants_each (λ d. map (obs p d) (obsoleted r.catalog r.marks p d)) (λ d. no_wants (obs p d) (λ q. refl) (obsoleted r.catalog r.marks p d)) a.obsoletes)
+      ∙ none_behind (one ++ two ++ three) four (no_wants (rich_con p) (λ d. refl) (counted_rich_conflicts r.catalog r.marks p a))
+      ∙ none_behind (one ++ two) three (no_wants_each (λ d. map (con p d) (conflicting r.catalog r.marks p d)) (λ d. no_wants (con p d) (λ q. refl) (conflicting r.catalog r.marks p d)) (package_wise_conflicts r.catalog a))
+      ∙ none_before one two (no_wants_when (not (is_installable r.catalog p)) (not_installable p ∷ []) refl)
+      ∙ required_wants p (counted_requirements r.catalog r.marks p a)
+
+  package_wants : (p : ℕ) → flat_map wants_of (rules_of_package r.catalog r.marks p) ≡ required_by r p
+  package_wants p = step (package_at r.catalog p)
+    where
+      step : (o : Option Package) → flat_map wants_of (option_map_or (rules_asked_by r.catalog r.marks p) o []) ≡ option_map_or (λ a. map (λ need. record { pack = p; dep = need.dep }) (counted_requirements r.catalog r.marks p a)) o []
+      step None = refl
+      step (Some a) = asked_wants p a
+
+  job_wants : (j : ℕ) (a : Action) (xs : List ℕ) → flat_map wants_of (rule_of_job j a xs) ≡ []
+  job_wants j action.Install xs = refl
+  job_wants j action.Erase xs = refl
+  job_wants j action.Lock xs = refl
+  job_wants j action.Update xs = refl
+  job_wants j action.Verify xs = refl
+  job_wants j action.Multiversion xs = refl
+  job_wants j action.AllowUninstall xs = refl
+  job_wants j action.Favor xs = refl
+  job_wants j action.Disfavor xs = refl
+  job_wants j action.Noop xs = refl
+
+  best_wants : (j : ℕ) (xs : List ℕ) → flat_map wants_of (best_job_rule j xs) ≡ []
+  best_wants j [] = refl
+  best_wants j (x ∷ xs) = refl
+
+  pub required_are : flat_map wants_of (rules_of r) ≡ flat_map (required_by r) (packages r.catalog)
+  required_are =
+      let one : List HardRule = package_rules r.catalog r.marks in
+      let two : List HardRule = infarch_rules r.catalog r.flags in
+      let three : List HardRule = update_rules r.catalog r.flags r.marks r.jobs in
+      let four : List HardRule = feature_rules r.catalog r.flags r.marks in
+      let five : List HardRule = job_rules r.catalog r.jobs in
+      let six : List HardRule = best_job_rules r.catalog r.jobs in
+      let seven : List HardRule = best_update_rules r.catalog r.flags r.marks r.jobs in
+      none_behind (one ++ two ++ three ++ four ++ five ++ six) seven (no_wants_each (λ job. when (is_update job.1.action && job.1.forcebest) (map (best_update_rule r.catalog r.flags r.marks job.0) (selected_installed r.catalog job.1.choice)))
+      (λ job. no_wants_when (is_update job.1.action && job.1.forcebest) (map (best_update_rule r.catalog r.flags r.marks job.0) (selected_installed r.catalog job.1.choice)) (no_wants (best_update_rule r.catalog r.flags r.marks job.0) (λ p. refl) (selected_installed r.catalog job.1.choice))) (numbered_jobs r.jobs))
+      ∙ none_behind (one ++ two ++ three ++ four ++ five) six (no_wants_each (λ job. when (is_install job.1.action && job.1.forcebest) (best_job_rule job.0 (best r.catalog (selection r.catalog job.1.choice))))
+      (λ job. no_wants_when (is_install job.1.action && job.1.forcebest) (best_job_rule job.0 (best r.catalog (selection r.catalog job.1.choice))) (best_wants job.0 (best r.catalog (selection r.catalog job.1.choice)))) (numbered_jobs r.jobs))
+      ∙ none_behind (one ++ two ++ three ++ four) five (no_wants_each (λ job. rule_of_job job.0 job.1.action (selection r.catalog job.1.choice)) (λ job. job_wants job.0 job.1.action (selection r.catalog job.1.choice)) (numbered_jobs r.jobs))
+      ∙ none_behind (one ++ two ++ three) four (no_wants (λ p. feature p (feature_candidates r.catalog r.flags r.marks p)) (λ p. refl) (kept_packages r.catalog r.flags r.marks))
+      ∙ none_behind (one ++ two) three (no_wants (λ p. update p (update_candidates r.catalog r.flags r.marks p)) (λ p. refl) (filter (has_update_rule r.catalog r.jobs r.marks) (kept_packages r.catalog r.flags r.marks)))
+      ∙ none_behind one two (no_wants_when (not r.flags.no_infarch_check) (map infarch (inferior_packages r.catalog r.flags)) (no_wants infarch (λ p. refl) (inferior_packages r.catalog r.flags)))
+      ∙ flat_flat wants_of (rules_of_package r.catalog r.marks) (packages r.catalog)
+      ∙ flat_alike (λ p. flat_map wants_of (rules_of_package r.catalog r.marks p)) (required_by r) package_wants (packages r.catalog)
+
+  best_packs : (xs : List ℕ) → list_all (is_pack (length r.catalog.universe.packages)) (best r.catalog xs) ≡ true
+  best_packs xs = packs_of r.catalog (λ b. is_among xs b && (is_installable r.catalog b && not (is_beaten r.catalog xs b)))
+
+  rule_asks : (x : HardRule) → IsFrom r x → asks_for_packages (length r.catalog.universe.packages) x ≡ true
+  rule_asks (install j xs) own = ap (λ t. list_all (is_pack (length r.catalog.universe.packages)) t) (sym own.is) ∙ packs_of r.catalog (selects r.catalog own.job.choice)
+  rule_asks (best_job j xs) own = ap (λ t. list_all (is_pack (length r.catalog.universe.packages)) t) (sym own.is) ∙ best_packs (selection r.catalog own.job.choice)
+  rule_asks (best_update j p xs) own = ap (λ t. list_all (is_pack (length r.catalog.universe.packages)) t) (sym own.is) ∙ best_packs (update_candidates r.catalog r.flags r.marks p)
+  rule_asks (not_installable p) own = refl
+  rule_asks (req p d) own = refl
+  rule_asks (con p d q) own = refl
+  rule_asks (rich_con p d) own = refl
+  rule_asks (obs p d q) own = refl
+  rule_asks (same p q) own = refl
+  rule_asks (infarch p) own = refl
+  rule_asks (update p xs) own = refl
+  rule_asks (feature p xs) own = refl
+  rule_asks (erase j xs) own = refl
+  rule_asks (lock j xs) own = refl
+
+  pub rules_ask : list_all (asks_for_packages (length r.catalog.universe.packages)) (rules_of r) ≡ true
+  rules_ask = all_by (asks_for_packages (length r.catalog.universe.packages)) (rules_of r) (λ x h. rule_asks x (is_from r x h))

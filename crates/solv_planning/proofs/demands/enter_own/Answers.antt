@@ -1,0 +1,23 @@
+use Rattle.std.proofs.Common.{ℕ, Bool, ◌≡◌, ◌∙◌, ◌∷◌, [], ◌++◌, ◌<◌, ◌≤◌, sym, ap, length, get_or, arith}
+use Rattle.solv_questions.specs.Questions.{request_of}
+use Rattle.solv_planning.specs.declared.demands.JobDemands.{JobDemands}
+use Rattle.solv_plan.specs.declared.plans.Demand.{Demand}
+use Rattle.solv_planning.specs.Rows.{add_to_job}
+use Rattle.solv_planning.proofs.Tables.{written, not_written}
+use Rattle.solv_pool.specs.RuleMeaning.{install}
+use Rattle.solv_planning.proofs.Lines.{own_elsewhere, own_here}
+use Rattle.solv_planning.proofs.demands.enter_own.Goals as goal
+
+pub returns-then-job-table : goal.returns-then-job-table
+returns-then-job-table c =
+    let r = request_of c.args.task.now c.args.marks.now in
+    not_written (add_to_job r) (c.args.number, install c.args.job c.args.packs.now) c.args.job (own_elsewhere r c.args.number c.args.job c.args.packs.now) c.args.table.now c.job.inside.0 c.job.view_is (omega arith)
+
+pub returns : goal.returns
+returns c =
+    let r = request_of c.args.task.now c.args.marks.now in
+    let row = get_or c.args.table.now c.job-2.inside.0 c.index-table-job.result in
+    let made : Demand → JobDemands = λ d. record { best = row.best; own = row.own ++ d ∷ [] } in
+    written (add_to_job r) (c.args.number, install c.args.job c.args.packs.now) c.args.job (own_elsewhere r c.args.number c.args.job c.args.packs.now) c.args.table.now
+    c.push_own.result c.job-2.inside.0 c.index-table-job.result c.push_own.new.row (made c.in_ok-asked.asked) c.job-2.view_is (omega arith)
+    (own_here r c.args.number c.args.job c.args.packs.now row ∙ ap made (sym c.in_ok-asked.ensures)) c.push_own.ensures

@@ -1,0 +1,17 @@
+use Rattle.std.proofs.Common.{ℕ, Bool, ◌≡◌, ◌∙◌, ◌∷◌, [], ◌++◌, ◌<◌, ◌≤◌, sym, ap, length, get_or, arith}
+use Rattle.solv_planning.specs.declared.keeps.PackRules.{PackRules}
+use Rattle.solv_planning.specs.Rows.{add_to_pack}
+use Rattle.solv_planning.proofs.Tables.{written, not_written}
+use Rattle.solv_pool.specs.RuleMeaning.{feature}
+use Rattle.solv_planning.proofs.Lines.{feature_elsewhere, feature_here}
+use Rattle.solv_planning.proofs.keeps.enter_feature.Goals as goal
+
+pub returns-then-pack-table : goal.returns-then-pack-table
+returns-then-pack-table c = λ r xs.
+    not_written (add_to_pack r) (c.args.number, feature c.args.pack xs) c.args.pack (feature_elsewhere r c.args.number c.args.pack xs) c.args.table.now c.pack.inside.0 c.pack.view_is (omega arith)
+
+pub returns : goal.returns
+returns c = λ r xs.
+    let row = get_or c.args.table.now c.pack.inside.0 c.index-table-pack.result in
+    written (add_to_pack r) (c.args.number, feature c.args.pack xs) c.args.pack (feature_elsewhere r c.args.number c.args.pack xs) c.args.table.now
+    c.push_feature.result c.pack.inside.0 c.index-table-pack.result c.push_feature.new.row _ c.pack.view_is (omega arith) (feature_here r c.args.number c.args.pack xs row) c.push_feature.ensures

@@ -1,0 +1,4 @@
+pub mod Readiness
+pub mod Filling
+pub mod Rows
+pub mod Names

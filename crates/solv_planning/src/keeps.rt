@@ -1,0 +1,362 @@
+//! What is asked of installed packages.
+ghost use Rattle.std.specs.Prelude.{ℕ, List, ◌≡◌, ◌∷◌, [], ◌++◌, true, length, map, filter, not, nat_le, ◌≤◌, IfOk, OnOk};
+ghost use Rattle.std.specs.BTreeSet.{contains};
+ghost use Rattle.std.specs.List.{list_all};
+ghost use Rattle.std.specs.Ordering.{nat_cmp};
+ghost use Rattle.solv_pool.specs.Catalog.{catalog_of, members};
+ghost use Rattle.solv_pool.specs.HardRules.{update_candidates};
+ghost use Rattle.solv_pool.specs.JobMarks.{marked};
+ghost use Rattle.solv_pool.specs.RuleMeaning.{rule_with, update, feature, best_update};
+ghost use Rattle.solv_pool.specs.TaskBelonging.{is_pack};
+ghost use Rattle.solv_pool.specs.Words.{when, is_among};
+ghost use Rattle.solv_rules.specs.Books.{read_rules};
+ghost use Rattle.solv_questions.specs.Questions.{Request, request_of, without_those, far_candidates};
+ghost use Rattle.solv_plan.specs.PlanOf.{numbered, keeps_of};
+ghost use Rattle.solv_jobs.specs.Marking.{HasMarks};
+ghost use Rattle.solv_updates.specs.Places.{IsPlace};
+ghost use Rattle.solv_planning.specs.Filling.{filled, entered};
+ghost use Rattle.solv_planning.specs.Readiness.{IsReady, asks_for_packages};
+ghost use Rattle.solv_planning.specs.Rows.{no_rules, add_to_pack, keep_with, is_marked, is_other};
+
+use crate::appending::append;
+use crate::demands::{demand, set_at};
+use crate::ordering::in_order;
+use solv_list::Items;
+use solv_plan::{Demand, Keep};
+use solv_policy::Asked;
+use solv_pool::{JobNo, Marks, PackNo, Rule, Rules, Task};
+use solv_prov::Providers;
+use solv_trail::Question;
+use solv_updates::{feature_candidates, update_candidates};
+use std::alloc::{AllocError, Global};
+use std::collections::BTreeSet;
+
+/// The rules on a package: what they ask for as its best updates, and the numbers of those on what may take its place.
+#[derive(Drop)]
+pub(crate) struct PackRules {
+    pub(crate) pack: PackNo,
+    pub(crate) best: Items<Demand>,
+    pub(crate) updates: Items<usize>,
+    pub(crate) features: Items<usize>,
+}
+
+/// Puts a demand of one of the best updates behind the others.
+fn push_best(row: &mut PackRules, demand: Demand) -> Result<(), AllocError>
+    ensures { OnOk result (row.new ≡ record { pack = row.old.pack; best = row.old.best ++ demand ∷ []; updates = row.old.updates; features = row.old.features }) }
+{
+    row.best.push(demand)
+}
+
+/// Puts the number of a rule on updates behind the others.
+fn push_update(row: &mut PackRules, rule: usize) -> Result<(), AllocError>
+    ensures { OnOk result (row.new ≡ record { pack = row.old.pack; best = row.old.best; updates = row.old.updates ++ rule ∷ []; features = row.old.features }) }
+{
+    row.updates.push(rule)
+}
+
+/// Puts the number of a rule on what may take its place were every change allowed behind the others.
+fn push_feature(row: &mut PackRules, rule: usize) -> Result<(), AllocError>
+    ensures { OnOk result (row.new ≡ record { pack = row.old.pack; best = row.old.best; updates = row.old.updates; features = row.old.features ++ rule ∷ [] }) }
+{
+    row.features.push(rule)
+}
+
+/// Enters a rule that a job is to have the best update of a package into the table of packages.
+fn enter_best(
+    alloc: Global,
+    task: &Task,
+    prov: &Providers,
+    marks: &Marks,
+    number: usize,
+    job: JobNo,
+    pack: PackNo,
+    packs: &[PackNo],
+    table: &mut [PackRules],
+) -> Result<(), AllocError>
+    requires ready { IsReady task.now prov.now marks.now }
+    requires within { list_all (is_pack (length task.now.universe.packages)) packs.now ≡ true }
+    ensures { OnOk result (table.new ≡ entered (add_to_pack (request_of task.now marks.now)) 0 (number, best_update job pack packs.now) table.old) }
+{
+    if pack.0 as usize >= table.len() {
+        return Ok(());
+    }
+    let question = Question::BestUpdate(job, pack);
+    let asked = demand(alloc, task, prov, marks, number, question, packs)?;
+    push_best(&mut table[pack.0 as usize], asked)
+}
+
+/// Enters the number of a rule on updates into the table of packages.
+fn enter_update(number: usize, pack: PackNo, table: &mut [PackRules]) -> Result<(), AllocError>
+    ensures { (r : Request) (xs : List ℕ) → OnOk result (table.new ≡ entered (add_to_pack r) 0 (number, update pack xs) table.old) }
+{
+    if pack.0 as usize >= table.len() {
+        return Ok(());
+    }
+    push_update(&mut table[pack.0 as usize], number)
+}
+
+/// Enters the number of a rule on what may take a package's place were every change allowed into the table of packages.
+fn enter_feature(number: usize, pack: PackNo, table: &mut [PackRules]) -> Result<(), AllocError>
+    ensures { (r : Request) (xs : List ℕ) → OnOk result (table.new ≡ entered (add_to_pack r) 0 (number, feature pack xs) table.old) }
+{
+    if pack.0 as usize >= table.len() {
+        return Ok(());
+    }
+    push_feature(&mut table[pack.0 as usize], number)
+}
+
+/// Enters a rule into the table of packages.
+fn enter(
+    alloc: Global,
+    task: &Task,
+    prov: &Providers,
+    marks: &Marks,
+    sets: &[Items<PackNo>],
+    number: usize,
+    rule: &Rule,
+    table: &mut [PackRules],
+) -> Result<(), AllocError>
+    requires ready { IsReady task.now prov.now marks.now }
+    requires packages { asks_for_packages (length task.now.universe.packages) (rule_with sets.now rule.now) ≡ true }
+    ensures { OnOk result (table.new ≡ entered (add_to_pack (request_of task.now marks.now)) 0 (number, rule_with sets.now rule.now) table.old) }
+{
+    match *rule {
+        Rule::Update(pack, _) => enter_update(number, pack, table),
+        Rule::Feature(pack, _) => enter_feature(number, pack, table),
+        Rule::BestUpdate(job, pack, set) => {
+            let packs = set_at(sets, set);
+            enter_best(alloc, task, prov, marks, number, job, pack, packs, table)
+        }
+        _ => Ok(()),
+    }
+}
+
+/// A package of which no rule is known.
+fn no_rules(alloc: Global, pack: PackNo) -> PackRules
+    ensures { result ≡ no_rules pack }
+{
+    PackRules {
+        pack,
+        best: Items::wrap(Vec::new(alloc)),
+        updates: Items::wrap(Vec::new(alloc)),
+        features: Items::wrap(Vec::new(alloc)),
+    }
+}
+
+/// A row for the system and for each package.
+fn pack_table(alloc: Global, task: &Task) -> Result<Vec<PackRules>, AllocError>
+    ensures { IfOk result (λ table. table.items ≡ map no_rules (members (catalog_of task.now))) }
+{
+    let mut table = Vec::new(alloc);
+    table.push(no_rules(alloc, PackNo(0)))?;
+    for before in 0..task.universe.count() {
+        table.push(no_rules(alloc, PackNo(before + 1)))?;
+    }
+    Ok(table)
+}
+
+/// Enters all rules into the table of packages.
+fn enter_all(
+    alloc: Global,
+    task: &Task,
+    prov: &Providers,
+    marks: &Marks,
+    rules: &Rules,
+    table: &mut [PackRules],
+) -> Result<(), AllocError>
+    requires ready { IsReady task.now prov.now marks.now }
+    requires packages { list_all (asks_for_packages (length task.now.universe.packages)) (read_rules rules.now) ≡ true }
+    ensures { OnOk result (table.new ≡ filled (add_to_pack (request_of task.now marks.now)) 0 (numbered (read_rules rules.now)) table.old) }
+{
+    let sets = rules.sets.held();
+    for (number, rule) in rules.list.held().iter().enumerate() {
+        enter(alloc, task, prov, marks, sets, number, rule, table)?;
+    }
+    Ok(())
+}
+
+/// The table of packages with all rules.
+fn filled_table(
+    alloc: Global,
+    task: &Task,
+    prov: &Providers,
+    marks: &Marks,
+    rules: &Rules,
+) -> Result<Vec<PackRules>, AllocError>
+    requires ready { IsReady task.now prov.now marks.now }
+    requires packages { list_all (asks_for_packages (length task.now.universe.packages)) (read_rules rules.now) ≡ true }
+    ensures { IfOk result (λ table. table.items ≡ filled (add_to_pack (request_of task.now marks.now)) 0 (numbered (read_rules rules.now)) (map no_rules (members (catalog_of task.now)))) }
+{
+    let mut table = pack_table(alloc, task)?;
+    enter_all(alloc, task, prov, marks, rules, &mut table)?;
+    Ok(table)
+}
+
+/// The set of the numbers of a list.
+fn numbers_of(alloc: Global, packs: &[PackNo]) -> Result<BTreeSet<u32>, AllocError>
+    ensures { IfOk result (λ made. (p : ℕ) → contains nat_cmp made p ≡ is_among packs.now p) }
+{
+    let mut made = BTreeSet::new(alloc);
+    for pack in packs {
+        made.insert(pack.0)?;
+    }
+    Ok(made)
+}
+
+/// Those of these packages that are not in a set.
+fn outside(
+    alloc: Global,
+    numbers: &BTreeSet<u32>,
+    packs: &[PackNo],
+) -> Result<Vec<PackNo>, AllocError>
+    ensures { IfOk result (λ made. made.items ≡ filter (λ q. not (contains nat_cmp numbers.now q)) packs.now) }
+{
+    let mut made = Vec::new(alloc);
+    for pack in packs {
+        if !numbers.contains(&pack.0) {
+            made.push(*pack)?;
+        }
+    }
+    Ok(made)
+}
+
+/// Those of these packages that are not among the others.
+fn without_those(
+    alloc: Global,
+    others: &[PackNo],
+    packs: &[PackNo],
+) -> Result<Vec<PackNo>, AllocError>
+    ensures { IfOk result (λ made. made.items ≡ without_those others.now packs.now) }
+{
+    let numbers = numbers_of(alloc, others)?;
+    let made = outside(alloc, &numbers, packs)?;
+    Ok(made)
+}
+
+/// The rest of what may take a package's place were every change allowed, in the order in which they are tried.
+fn far_candidates(
+    alloc: Global,
+    task: &Task,
+    prov: &Providers,
+    marks: &Marks,
+    pack: PackNo,
+    updates: &[PackNo],
+) -> Result<Items<PackNo>, AllocError>
+    requires ready { IsReady task.now prov.now marks.now }
+    requires pack { IsPlace task.now pack }
+    requires exact { updates.now ≡ update_candidates (catalog_of task.now) task.now.flags marks.now pack }
+    ensures { IfOk result (λ made. made ≡ far_candidates (catalog_of task.now) task.now.flags marks.now pack) }
+{
+    let features = feature_candidates(alloc, task, prov, marks, pack)?;
+    let rest = without_those(alloc, updates, &features)?;
+    in_order(alloc, task, prov, marks, Asked::Kept(pack), &rest)
+}
+
+/// What is asked of a package with these rules on it.
+fn keep(
+    alloc: Global,
+    task: &Task,
+    prov: &Providers,
+    marks: &Marks,
+    row: PackRules,
+) -> Result<Keep, AllocError>
+    requires ready { IsReady task.now prov.now marks.now }
+    requires pack { IsPlace task.now row.pack }
+    ensures { IfOk result (λ made. made ≡ keep_with (request_of task.now marks.now) row) }
+{
+    let pack = row.pack;
+    let updates = update_candidates(alloc, task, prov, marks, pack)?;
+    let close = in_order(alloc, task, prov, marks, Asked::Kept(pack), &updates)?;
+    let far = far_candidates(alloc, task, prov, marks, pack, &updates)?;
+    Ok(Keep {
+        pack,
+        best: row.best,
+        is_asked: !marks.erased.held()[pack.0 as usize],
+        updates: row.updates,
+        features: row.features,
+        close,
+        far,
+    })
+}
+
+/// Whether a package is marked for update.
+fn is_update(task: &Task, marks: &Marks, pack: PackNo) -> bool
+    requires marks { HasMarks (length task.now.universe.packages) marks.now }
+    requires within { pack ≤ length task.now.universe.packages }
+    ensures { result ≡ marked marks.now.update pack }
+{
+    marks.update.held()[pack.0 as usize]
+}
+
+/// The installed packages that are marked for update, and the other installed ones.
+#[derive(Drop)]
+struct Installed {
+    marked: Items<Keep>,
+    others: Items<Keep>,
+}
+
+/// Puts what is asked of a package behind the others of its kind, where it is installed.
+fn put_keep(
+    alloc: Global,
+    task: &Task,
+    prov: &Providers,
+    marks: &Marks,
+    row: PackRules,
+    made: &mut Installed,
+) -> Result<(), AllocError>
+    requires ready { IsReady task.now prov.now marks.now }
+    requires within { row.pack ≤ length task.now.universe.packages }
+    ensures marked { OnOk result (made.new.marked ≡ made.old.marked ++ when (is_marked (request_of task.now marks.now) row.pack) (keep_with (request_of task.now marks.now) row ∷ [])) }
+    ensures others { OnOk result (made.new.others ≡ made.old.others ++ when (is_other (request_of task.now marks.now) row.pack) (keep_with (request_of task.now marks.now) row ∷ [])) }
+{
+    if !task.universe.installed(row.pack) {
+        return Ok(());
+    }
+    let updates = is_update(task, marks, row.pack);
+    let asked = keep(alloc, task, prov, marks, row)?;
+    if updates {
+        made.marked.push(asked)
+    } else {
+        made.others.push(asked)
+    }
+}
+
+/// What is asked of the installed packages among these.
+fn keeps_of(
+    alloc: Global,
+    task: &Task,
+    prov: &Providers,
+    marks: &Marks,
+    table: Vec<PackRules>,
+) -> Result<Items<Keep>, AllocError>
+    requires ready { IsReady task.now prov.now marks.now }
+    requires within { list_all (λ row. nat_le row.pack (length task.now.universe.packages)) table.items ≡ true }
+    ensures { IfOk result (λ made. made ≡ map (keep_with (request_of task.now marks.now)) (filter (λ row. is_marked (request_of task.now marks.now) row.pack) table.items) ++ map (keep_with (request_of task.now marks.now)) (filter (λ row. is_other (request_of task.now marks.now) row.pack) table.items)) }
+{
+    let mut made = Installed {
+        marked: Items::wrap(Vec::new(alloc)),
+        others: Items::wrap(Vec::new(alloc)),
+    };
+    for row in table {
+        put_keep(alloc, task, prov, marks, row, &mut made)?;
+    }
+    let Installed { mut marked, others } = made;
+    append(others, &mut marked)?;
+    Ok(marked)
+}
+
+/// What is asked of the installed packages that are marked for update, and then of the other installed ones.
+pub(crate) fn keeps(
+    alloc: Global,
+    task: &Task,
+    prov: &Providers,
+    marks: &Marks,
+    rules: &Rules,
+) -> Result<Items<Keep>, AllocError>
+    requires ready { IsReady task.now prov.now marks.now }
+    requires packages { list_all (asks_for_packages (length task.now.universe.packages)) (read_rules rules.now) ≡ true }
+    ensures { IfOk result (λ made. made ≡ keeps_of (request_of task.now marks.now) (numbered (read_rules rules.now))) }
+{
+    let table = filled_table(alloc, task, prov, marks, rules)?;
+    keeps_of(alloc, task, prov, marks, table)
+}

@@ -1,0 +1,81 @@
+//! What packages require and recommend.
+ghost use Rattle.std.specs.Prelude.{List, ℕ, ◌≡◌, ◌++◌, not, map, filter, flat_map, length, OnOk, IfOk};
+ghost use Rattle.solv_pool.specs.Belonging.{IsOver};
+ghost use Rattle.solv_pool.specs.Catalog.{catalog_of, packages, is_installed};
+ghost use Rattle.solv_pool.specs.RuleMeaning.{rule_with};
+ghost use Rattle.solv_pool.specs.Words.{when};
+ghost use Rattle.solv_pool.specs.declared.job_marks.Marks.{Marks};
+ghost use Rattle.solv_rules.specs.Books.{read_rules};
+ghost use Rattle.solv_questions.specs.Questions.{request_of};
+ghost use Rattle.solv_plan.specs.PlanOf.{recommended_by};
+ghost use Rattle.solv_updates.specs.Places.{IsPlace};
+ghost use Rattle.solv_planning.specs.Rows.{wants_of};
+
+use solv_base::DepId;
+use solv_list::Items;
+use solv_plan::Want;
+use solv_pool::{PackNo, Rule, Rules, Task};
+use std::alloc::{AllocError, Global};
+
+/// Puts the requirement of a rule behind others, if it is of one.
+fn put_required(rule: &Rule, made: &mut Items<Want>) -> Result<(), AllocError>
+    ensures { (sets : List (List ℕ)) → OnOk result (made.new ≡ made.old ++ wants_of (rule_with sets rule.now)) }
+{
+    match *rule {
+        Rule::Req(pack, dep) => made.push(Want { pack, dep }),
+        _ => Ok(()),
+    }
+}
+
+/// The requirements that have a rule.
+pub(crate) fn required(alloc: Global, rules: &Rules) -> Result<Items<Want>, AllocError>
+    ensures { IfOk result (λ made. made ≡ flat_map wants_of (read_rules rules.now)) }
+{
+    let mut made = Items::wrap(Vec::new(alloc));
+    for rule in rules.list.held() {
+        put_required(rule, &mut made)?;
+    }
+    Ok(made)
+}
+
+/// Puts what a package recommends behind others.
+fn put_all(pack: PackNo, deps: &[DepId], made: &mut Items<Want>) -> Result<(), AllocError>
+    ensures { OnOk result (made.new ≡ made.old ++ map (λ d. record { pack = pack; dep = d }) deps.now) }
+{
+    for dep in deps {
+        made.push(Want { pack, dep: *dep })?;
+    }
+    Ok(())
+}
+
+/// Puts what a package recommends that is not installed behind others.
+fn put_recommended(task: &Task, pack: PackNo, made: &mut Items<Want>) -> Result<(), AllocError>
+    requires { IsPlace task.now pack }
+    ensures { (marks : Marks) → OnOk result (made.new ≡ made.old ++ when (not (is_installed (catalog_of task.now) pack)) (recommended_by (request_of task.now marks) pack)) }
+{
+    if task.universe.installed(pack) {
+        return Ok(());
+    }
+    put_all(pack, task.universe.package(pack).recommends.held(), made)
+}
+
+/// What all packages recommend that are not installed.
+fn all_recommended(alloc: Global, task: &Task) -> Result<Items<Want>, AllocError>
+    ensures { (marks : Marks) → IfOk result (λ made. made ≡ flat_map (recommended_by (request_of task.now marks)) (filter (λ p. not (is_installed (catalog_of task.now) p)) (packages (catalog_of task.now)))) }
+{
+    let mut made = Items::wrap(Vec::new(alloc));
+    for before in 0..task.universe.count() {
+        put_recommended(task, PackNo(before + 1), &mut made)?;
+    }
+    Ok(made)
+}
+
+/// What packages recommend that are not installed, where that is looked at.
+pub(crate) fn recommended(alloc: Global, task: &Task) -> Result<Items<Want>, AllocError>
+    ensures { (marks : Marks) → IfOk result (λ made. made ≡ when (not task.now.flags.ignore_recommended) (flat_map (recommended_by (request_of task.now marks)) (filter (λ p. not (is_installed (catalog_of task.now) p)) (packages (catalog_of task.now))))) }
+{
+    if task.flags.ignore_recommended {
+        return Ok(Items::wrap(Vec::new(alloc)));
+    }
+    all_recommended(alloc, task)
+}

@@ -1,0 +1,110 @@
+-- Where single packages meet all dependencies, each rule has a form that may stand at its place.
+use Rattle.std.proofs.Common.{◌≡◌, ℕ, zero, suc, ◌+◌, Bool, true, false, not, ◌&&◌, List, [], ◌∷◌, Option, Some, None, inl, inr, refl, sym, ◌∙◌, ap, subst, arith}
+use Rattle.std.specs.Prelude.{◌==◌, slice_get, unwrap_or}
+use Rattle.std.specs.List.{list_all}
+use Rattle.std.proofs.lemmas.Bool.{and_parts, false≢true, true≢false}
+use Rattle.solv_base.specs.Dependency.{Dep, one, namespace, and, or, with, without, if_then, if_else, unless, unless_else, missing, package_wise, operators}
+use Rattle.solv_base.specs.Places.{fits_place}
+use Rattle.solv_pool.specs.Catalog.{package_at, dependency}
+use Rattle.solv_pool.specs.Counting.{requirement_counts, rich_conflict_counts}
+use Rattle.solv_pool.specs.RuleMeaning.{HardRule, not_installable, req, con, rich_con, obs, same, infarch, update, feature, install, erase, lock, best_job, best_update}
+use Rattle.solv_pool.specs.Laws.{IsWellPlaced}
+use Rattle.solv_pool.specs.declared.packages.Package.{Package}
+use Rattle.solv_rules.specs.Making.{is_single, asks_singly}
+use Rattle.solv_questions.specs.Law.{AsksSingly}
+use Rattle.solv_questions.specs.Questions.{Request}
+use Rattle.solv_questions.proofs.Members.{Has, of_filtered, all_at}
+use Rattle.solv_questions.proofs.Asking.{not_so}
+use Rattle.solv_questions.proofs.Origins.{IsFrom, IsRequired, IsRichConflict}
+
+not_suc : (k : ℕ) → (suc k == 0) ≡ false
+not_suc k = grind arith
+
+more_operators : (a b : ℕ) → (a + b + 1 == 0) ≡ false
+more_operators a b = grind arith
+
+-- simple, versioned, or a namespace
+abbrev pub IsOne : Dep ℕ → Type 0
+IsOne (one c) = Unit {0}
+IsOne (namespace n) = Unit {0}
+IsOne (and a b) = ⊥
+IsOne (or a b) = ⊥
+IsOne (with a b) = ⊥
+IsOne (without a b) = ⊥
+IsOne (if_then a b) = ⊥
+IsOne (if_else a b c) = ⊥
+IsOne (unless a b) = ⊥
+IsOne (unless_else a b c) = ⊥
+IsOne missing = ⊥
+
+pub is_one : (d : Dep ℕ) → (package_wise d && operators d == 0) ≡ true → IsOne d
+is_one (one c) h = tt
+is_one (namespace n) h = tt
+is_one (and a b) h = absurd (false≢true h)
+is_one (or a b) h = absurd (false≢true (sym (more_operators (operators a) (operators b)) ∙ (and_parts (package_wise (or a b)) (operators a + operators b + 1 == 0) h).1))
+is_one (with a b) h = absurd (false≢true (sym (more_operators (operators a) (operators b)) ∙ (and_parts (package_wise (with a b)) (operators a + operators b + 1 == 0) h).1))
+is_one (without a b) h = absurd (false≢true (sym (more_operators (operators a) (operators b)) ∙ (and_parts (package_wise (without a b)) (operators a + operators b + 1 == 0) h).1))
+is_one (if_then a b) h = absurd (false≢true h)
+is_one (if_else a b c) h = absurd (false≢true h)
+is_one (unless a b) h = absurd (false≢true h)
+is_one (unless_else a b c) h = absurd (false≢true h)
+is_one missing h = absurd (false≢true h)
+
+one_fits : (at : Bool) (d : Dep ℕ) → IsOne d → fits_place at d ≡ true
+one_fits at (one c) h = refl
+one_fits at (namespace n) h = refl
+one_fits at (and a b) h = absurd h
+one_fits at (or a b) h = absurd h
+one_fits at (with a b) h = absurd h
+one_fits at (without a b) h = absurd h
+one_fits at (if_then a b) h = absurd h
+one_fits at (if_else a b c) h = absurd h
+one_fits at (unless a b) h = absurd h
+one_fits at (unless_else a b c) h = absurd h
+one_fits at missing h = absurd h
+
+-- the record of a package is one of the universe's
+pub record_there : (r : Request) (p : ℕ) (a : Package) → package_at r.catalog p ≡ Some a → Has r.catalog.universe.packages a
+record_there r zero a e = absurd (cc)
+record_there r (suc k) a e = at r.catalog.universe.packages k e
+  where
+    at : (xs : List Package) (n : ℕ) → slice_get xs n ≡ Some a → Has xs a
+    at [] n s = absurd (cc)
+    at (x ∷ xs) zero s = inl (ap (λ o. unwrap_or o x) s)
+    at (x ∷ xs) (suc n) s = inr (at xs n s)
+
+module _ (r : Request) (singly : AsksSingly r) where
+  -- the requirements and conflicts of a package are single
+  single_of : (p : ℕ) (a : Package) → package_at r.catalog p ≡ Some a → asks_singly r.catalog a ≡ true
+  single_of p a e = all_at (asks_singly r.catalog) r.catalog.universe.packages a singly (record_there r p a e)
+
+  pub required_single : (p d : ℕ) → IsRequired r p d → IsOne (dependency r.catalog d)
+  required_single p d own =
+      let both = and_parts (list_all (λ need. is_single r.catalog need.dep) (own.package_).requires_) (list_all (is_single r.catalog) (own.package_).conflicts) (single_of p own.package_ own.at) in
+      let f = of_filtered (λ need. requirement_counts r.catalog r.marks p need.dep) (own.package_).requires_ own.need own.counts in
+      let S : ℕ → Type 0 = λ n. IsOne (dependency r.catalog n) in
+      subst S own.is (is_one (dependency r.catalog own.need.dep) (all_at (λ need. is_single r.catalog need.dep) (own.package_).requires_ own.need both.0 f.0))
+
+  pub no_rich_conflict : (p d : ℕ) → IsRichConflict r p d → ⊥
+  no_rich_conflict p d own =
+      let both = and_parts (list_all (λ need. is_single r.catalog need.dep) (own.package_).requires_) (list_all (is_single r.catalog) (own.package_).conflicts) (single_of p own.package_ own.at) in
+      let f = of_filtered (λ x. not (package_wise (dependency r.catalog x)) && rich_conflict_counts r.catalog r.marks p x) (own.package_).conflicts d own.counts in
+      let wise = (and_parts (package_wise (dependency r.catalog d)) (operators (dependency r.catalog d) == 0) (all_at (is_single r.catalog) (own.package_).conflicts d both.1 f.0)).0 in
+      true≢false (sym wise ∙ not_so (package_wise (dependency r.catalog d)) (and_parts (not (package_wise (dependency r.catalog d))) (rich_conflict_counts r.catalog r.marks p d) f.1).0)
+
+  -- a rule is well placed
+  pub placed : (x : HardRule) → IsFrom r x → IsWellPlaced r.catalog x
+  placed (req p d) h = one_fits true (dependency r.catalog d) (required_single p d h)
+  placed (rich_con p d) h = absurd (no_rich_conflict p d h)
+  placed (not_installable z) h = tt
+  placed (con z d q) h = tt
+  placed (obs z d q) h = tt
+  placed (same z q) h = tt
+  placed (infarch z) h = tt
+  placed (update z zs) h = tt
+  placed (feature z zs) h = tt
+  placed (install j zs) h = tt
+  placed (erase j zs) h = tt
+  placed (lock j zs) h = tt
+  placed (best_job j zs) h = tt
+  placed (best_update j z zs) h = tt
