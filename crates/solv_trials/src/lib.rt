@@ -5,8 +5,14 @@
 #![tactic(auto)]
 
 #[cfg(test)]
+mod change_tests;
+#[cfg(test)]
 mod fixture;
 #[cfg(test)]
 mod job_tests;
+#[cfg(test)]
+mod legal_tests;
+#[cfg(test)]
+mod policy_tests;
 #[cfg(test)]
 mod update_tests;

@@ -13,7 +13,7 @@ use std::process::Abort;
 use std::test::Fail;
 
 /// Whether these may take the place of a package, were every change allowed, and these with what the flags allow.
-fn replaced(
+pub(crate) fn replaced(
     rt: &impl Abort,
     alloc: Global,
     made: &Trial,

@@ -1,0 +1,4 @@
+pub mod Enabling
+pub mod Answering
+pub mod Whole
+pub mod SetOf

@@ -1,0 +1,74 @@
+-- What deciding gives: sets by the questions of a task, and refutations.
+use Rattle.std.specs.Prelude.{◌≡◌, ℕ, ℤ, Bool, true, List, flat_map, length, nat_lt, ◌&&◌, Option}
+use Rattle.std.specs.List.{list_all}
+use Rattle.solv_pool.specs.Clauses.{rule_clauses}
+use Rattle.solv_pool.specs.Propagation.{is_fact}
+use Rattle.solv_pool.specs.RuleMeaning.{HardRule, meets_rule}
+use Rattle.solv_derive.specs.Leaves.{leaves}
+use Rattle.solv_derive.specs.Logs.{is_good_log}
+use Rattle.solv_derive.specs.Range.{are_over}
+use Rattle.solv_derive.specs.declared.logs.Log.{Log}
+use Rattle.solv_trail.specs.Asked.{KeepsLaw, enabled_clauses, set_of}
+use Rattle.solv_trail.specs.Propagated.{in_use}
+use Rattle.solv_trail.specs.declared.questions.Ask.{Ask}
+use Rattle.solv_core.specs.Cores.{CoreOf}
+use Rattle.solv_core.specs.GoodTrails.{IsGoodTrail, facts_of}
+use Rattle.solv_core.specs.declared.verdicts.Trail.{Trail}
+use Rattle.solv_core.specs.declared.verdicts.Verdict.{Verdict}
+use Rattle.solv_core.specs.declared.verdicts.Verdict.TheVariants as verdict
+use Rattle.solv_rules.specs.Books.{owners_from}
+use Rattle.solv_questions.specs.Questions.{Request, rules_of, enabled_rules, asks}
+use Rattle.solv_questions.specs.Law.{AsksSingly}
+use Rattle.solv_plan.specs.Plans.{plan_asks}
+use Rattle.solv_plan.specs.PlanOf.{plan_of, wants_singly}
+use Rattle.solv_plan.specs.declared.plans.Plan.{Plan}
+
+-- who asks: a plan, for so many packages
+pub record Asker : Type 0 where
+  pub plan : Plan
+  pub packages : ℕ
+
+-- the law of guides holds of it over these clauses with their owners
+abbrev pub IsLawful : Asker → List (List ℤ) → List ℕ → Type 0
+IsLawful asker clauses owners = (enabled : List Bool) → KeepsLaw asker.packages (enabled_clauses enabled clauses owners) (λ known. plan_asks asker.plan known enabled)
+
+-- it asks the questions of this request, and the core is over the clauses of all its rules
+pub record IsAskedFor (r : Request) (asker : Asker) (core : CoreOf) : Type 0 where
+  pub plan : asker.plan ≡ plan_of r
+  pub packages : asker.packages ≡ length r.catalog.universe.packages
+  pub singly : AsksSingly r
+  pub wants : list_all (wants_singly r.catalog) r.catalog.universe.packages ≡ true
+  pub clauses : core.clauses ≡ flat_map (rule_clauses r.catalog) (rules_of r)
+  pub owners : core.owners ≡ owners_from r.catalog 0 (rules_of r)
+  pub count : core.packages ≡ length r.catalog.universe.packages
+  pub over : are_over core.packages core.clauses ≡ true
+
+module _ (r : Request) (enabled : List Bool) where
+  -- the rules that are enabled
+  abbrev pub rules_on : List HardRule
+  rules_on = enabled_rules enabled (rules_of r)
+
+  -- their clauses
+  abbrev pub clauses_on : List (List ℤ)
+  clauses_on = flat_map (rule_clauses r.catalog) rules_on
+
+  -- the set meets each of them
+  abbrev pub meets_all : (ℕ → Bool) → Bool
+  meets_all set = list_all (λ x. meets_rule r.catalog x set) rules_on
+
+  -- each package of the trail follows, or is the first possible candidate of the first open question; and its set meets each enabled rule
+  pub record IsSolution (trail : Trail) : Type 0 where
+    pub good : IsGoodTrail (length r.catalog.universe.packages) clauses_on (λ known. asks r known enabled) trail.events
+    pub meets : meets_all (set_of (is_fact (facts_of trail.events))) ≡ true
+
+  -- the log is good, rests on enabled rules alone, and no set that holds the system meets them
+  pub record IsRefuted (core : CoreOf) (log : Log) : Type 0 where
+    pub good : is_good_log core.clauses log.steps ≡ true
+    pub rests : list_all (λ rule. nat_lt rule (length core.clauses) && in_use core.owners enabled rule) (leaves log.steps) ≡ true
+    pub none : (set : ℕ → Bool) → set 0 ≡ true → meets_all set ≡ true → ⊥
+
+  -- a set, or a refutation; nothing is said where the ledger is spent
+  abbrev pub IsDecided : CoreOf → Verdict → Type 0
+  IsDecided core (verdict.Sat trail) = IsSolution trail
+  IsDecided core (verdict.Unsat log) = IsRefuted core log
+  IsDecided core verdict.Spent = Unit {0}

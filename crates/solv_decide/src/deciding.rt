@@ -1,0 +1,84 @@
+//! The answer for a task: one run with every rule enabled.
+ghost use Rattle.std.specs.Prelude.{◌≡◌, ◌≤◌, ◌+◌, ◌==◌, ◌∷◌, [], None, true, length, replicate, IfOk};
+ghost use Rattle.std.specs.List.{list_all};
+ghost use Rattle.solv_pool.specs.Catalog.{catalog_of};
+ghost use Rattle.solv_pool.specs.TaskBelonging.{IsClosed};
+ghost use Rattle.solv_prov.specs.Index.{IsIndexOf};
+ghost use Rattle.solv_jobs.specs.Marking.{HasMarks};
+ghost use Rattle.solv_rules.specs.Making.{asks_singly};
+ghost use Rattle.solv_rules.specs.Books.{IsBook, first_fault, is_bookable, read_rules};
+ghost use Rattle.solv_core.specs.Ledgers.{IsGoodLedger};
+ghost use Rattle.solv_core.specs.Running.{is_spent_verdict};
+ghost use Rattle.solv_questions.specs.Questions.{asks, request_of, rules_of};
+ghost use Rattle.solv_plan.specs.PlanOf.{wants_singly};
+ghost use Rattle.solv_decide.specs.Deciding.{IsDecided};
+
+use crate::phases::Phases;
+use crate::solving::solve;
+use solv_core::{Core, Ledger, Verdict};
+use solv_pool::laws::clauses_name_packages;
+use solv_pool::{Marks, Task};
+use solv_prov::Providers;
+use solv_rules::Book;
+use std::alloc::{AllocError, Global};
+
+/// What a task is answered, and the ledger of the one run.
+#[derive(Drop)]
+pub struct Decided {
+    pub verdict: Verdict,
+    pub ledger: Ledger,
+}
+
+/// As many rules, each enabled.
+fn all_enabled(alloc: Global, rules: usize) -> Result<Vec<bool>, AllocError>
+    ensures { IfOk result (λ enabled. enabled.items ≡ replicate rules true) }
+{
+    let enabled = vec![in alloc; true; rules]?;
+    Ok(enabled)
+}
+
+/// A core over the clauses of a book.
+fn core_of(alloc: Global, task: &Task, book: &Book) -> Result<Core, AllocError>
+    requires book { IsBook (catalog_of task.now) book.now }
+    requires bookable { list_all (is_bookable (catalog_of task.now)) (read_rules book.now.rules) ≡ true }
+    requires fits { first_fault (catalog_of task.now) 0 (read_rules book.now.rules) ≡ None }
+    ensures { IfOk result (λ core. core ≡ record { clauses = book.now.clauses; owners = book.now.owners; packages = length task.now.universe.packages }) }
+{
+    clauses_name_packages();
+    task.universe.marks_each();
+    Core::new(alloc, book.memory(), book.owners(), task.universe.count())
+}
+
+/// Decides a task whose hard rules, by these marks, a book has: a set that meets them, a refutation, or that a budget of learnt rules is spent.
+pub fn decide(
+    alloc: Global,
+    task: &Task,
+    prov: &Providers,
+    marks: &Marks,
+    book: &Book,
+    budget: u32,
+) -> Result<Decided, AllocError>
+    requires index { IsIndexOf prov.now (catalog_of task.now) }
+    requires closed { IsClosed task.now }
+    requires marks { HasMarks (length task.now.universe.packages) marks.now }
+    requires singly { list_all (asks_singly (catalog_of task.now)) task.now.universe.packages ≡ true }
+    requires wants { list_all (wants_singly (catalog_of task.now)) task.now.universe.packages ≡ true }
+    requires book { IsBook (catalog_of task.now) book.now }
+    requires rules { read_rules book.now.rules ≡ rules_of (request_of task.now marks.now) }
+    requires bookable { list_all (is_bookable (catalog_of task.now)) (read_rules book.now.rules) ≡ true }
+    requires fits { first_fault (catalog_of task.now) 0 (read_rules book.now.rules) ≡ None }
+    requires budget { budget ≤ 1000000 }
+    ensures budget { IfOk result (λ d. d.ledger.budget ≡ budget) }
+    ensures run { IfOk result (λ d. d.ledger.runs ≡ (record { enabled = replicate (length book.now.rules.list) true; kept = [] }) ∷ []) }
+    ensures good { IfOk result (λ d. IsGoodLedger book.now.clauses book.now.owners (length task.now.universe.packages) (asks (request_of task.now marks.now)) d.ledger) }
+    ensures spent { IfOk result (λ d. is_spent_verdict d.verdict ≡ (length d.ledger.entries == budget + 1)) }
+    ensures decided { IfOk result (λ d. IsDecided (request_of task.now marks.now) (replicate (length book.now.rules.list) true) (record { clauses = book.now.clauses; owners = book.now.owners; packages = length task.now.universe.packages }) d.verdict) }
+{
+    clauses_name_packages();
+    let phases = Phases::new(alloc, task, prov, marks, book)?;
+    let mut core = core_of(alloc, task, book)?;
+    let enabled = all_enabled(alloc, book.rules().list.len())?;
+    let mut ledger = Ledger::new(alloc, budget);
+    let verdict = solve(&phases, &mut core, &enabled, &mut ledger)?;
+    Ok(Decided { verdict, ledger })
+}

@@ -1,0 +1,21 @@
+//! Sets of packages that meet the rules of a task, by its questions.
+//!
+//! - [`Phases`]: the questions of a task, as the guide of the search.
+//! - [`solve`]: a set by a trail in which each package follows or is the first possible candidate of the first open
+//!   question, or a refutation, or a spent budget.
+//! - [`decide`]: the answer for a task, by one run with every rule enabled.
+//! - [`set_of`]: the set of a trail.
+//!
+//! `specs/Deciding` says what each answer is.
+#![tactic(auto)]
+
+mod deciding;
+mod phases;
+mod sets;
+mod solving;
+
+pub use deciding::{Decided, decide};
+pub use phases::Phases;
+pub use sets::set_of;
+pub use solv_core::{Core, Entry, Event, Ledger, Run, Trail, Verdict};
+pub use solving::solve;

@@ -1,0 +1,73 @@
+//! The questions of a task, as a guide of the search.
+ghost use Rattle.std.specs.Prelude.{◌≡◌, length, IfOk};
+ghost use Rattle.solv_pool.specs.Catalog.{catalog_of};
+ghost use Rattle.solv_pool.specs.TaskBelonging.{IsClosed};
+ghost use Rattle.solv_prov.specs.Index.{IsIndexOf};
+ghost use Rattle.solv_jobs.specs.Marking.{HasMarks};
+ghost use Rattle.solv_rules.specs.Books.{read_rules};
+ghost use Rattle.solv_questions.specs.Questions.{rules_of, request_of};
+ghost use Rattle.solv_plan.specs.Plans.{plan_asks};
+ghost use Rattle.solv_plan.specs.PlanOf.{plan_of};
+ghost use Rattle.solv_decide.specs.Deciding.{IsLawful};
+ghost use Rattle.solv_decide.specs.GuideLaw.{lawful};
+
+use solv_core::{Ask, Guide, Known};
+use solv_plan::{Plan, next};
+use solv_planning::make_plan;
+use solv_pool::{Marks, Task};
+use solv_prov::Providers;
+use solv_rules::Book;
+use std::alloc::{AllocError, Global};
+use std::marker::Model;
+
+/// The questions of a task in their order, over the rules of a book. Contracts see the plan of the questions, and the number of packages.
+#[derive(Drop)]
+pub struct Phases {
+    plan: Plan,
+    packages: u32,
+}
+
+impl Model for Phases {
+    ghost use Rattle.solv_decide.specs.Deciding.{Asker};
+
+    ghost Value = { Asker };
+
+    ghost view = { λ p. record { plan = p.plan; packages = p.packages } };
+}
+
+impl Phases {
+    /// The questions of a task by these marks, where the book has the task's hard rules. It copies what it needs.
+    pub fn new(
+        alloc: Global,
+        task: &Task,
+        prov: &Providers,
+        marks: &Marks,
+        book: &Book,
+    ) -> Result<Phases, AllocError>
+        requires index { IsIndexOf prov.now (catalog_of task.now) }
+        requires closed { IsClosed task.now }
+        requires marks { HasMarks (length task.now.universe.packages) marks.now }
+        requires rules { read_rules book.now.rules ≡ rules_of (request_of task.now marks.now) }
+        ensures { IfOk result (λ p. p ≡ record { plan = plan_of (request_of task.now marks.now); packages = length task.now.universe.packages }) }
+    {
+        let plan = make_plan(alloc, task, prov, marks, book.rules())?;
+        Ok(Phases {
+            plan,
+            packages: task.universe.count(),
+        })
+    }
+}
+
+impl Guide for Phases {
+    ghost is_for = { λ guide clauses owners. IsLawful guide clauses owners };
+
+    ghost is_for_packages = { λ guide count. guide.packages ≡ count };
+
+    ghost asks = { λ guide known enabled. plan_asks guide.plan known enabled };
+
+    fn next(&self, known: &Known, enabled: &[bool]) -> Option<Ask> {
+        next(&self.plan, known, enabled)
+    }
+
+    ghost keeps_law = { λ guide count clauses owners enabled law few. lawful guide count clauses owners enabled law few };
+}

@@ -1,0 +1,49 @@
+//! Sets that meet the enabled rules of a task, by its questions.
+ghost use Rattle.std.specs.Prelude.{◌≡◌, ◌⊎◌, ◌≤◌, ◌+◌, ◌==◌, ◌++◌, ◌∷◌, [], true, length, take, drop, nat_lt, IfOk, OnOk, OnErr};
+ghost use Rattle.std.specs.List.{list_all};
+ghost use Rattle.solv_core.specs.Ledgers.{are_of_run, IsGoodLedger};
+ghost use Rattle.solv_core.specs.Running.{is_log_over, is_spent_verdict};
+ghost use Rattle.solv_questions.specs.Questions.{Request, asks};
+ghost use Rattle.solv_decide.specs.Deciding.{IsAskedFor, IsDecided};
+
+use crate::phases::Phases;
+use solv_core::{Core, Ledger, Verdict};
+use solv_derive::laws::good_logs_refute;
+use solv_plan::laws::plans_ask_the_questions;
+use solv_pool::laws::clauses_say_the_rule;
+use solv_questions::questions_keep_the_law;
+use std::alloc::AllocError;
+
+/// Looks for a set that meets the enabled rules: as the questions of the task ask, with what follows from each choice, and with what is learnt where
+/// choices clash. `enabled` has an entry for each rule of the core. The ledger gets this run, and what it learnt.
+///
+/// After want of memory it may be tried again.
+pub fn solve(
+    phases: &Phases,
+    core: &mut Core,
+    enabled: &[bool],
+    ledger: &mut Ledger,
+) -> Result<Verdict, AllocError>
+    requires enabled { list_all (λ o. nat_lt o (length enabled.now)) core.old.owners ≡ true }
+    requires asked { (r : Request) × IsAskedFor r phases.now core.old }
+    requires budget { ledger.old.budget ≤ 1000000 }
+    requires few { length ledger.old.entries ≤ ledger.old.budget + 1 }
+    ensures core { core.new ≡ core.old }
+    ensures budget { ledger.new.budget ≡ ledger.old.budget }
+    ensures few { length ledger.new.entries ≤ ledger.new.budget + 1 }
+    ensures run { OnOk result (ledger.new.runs ≡ ledger.old.runs ++ (record { enabled = enabled.now; kept = [] }) ∷ []) }
+    ensures runs { OnErr result ((ledger.new ≡ ledger.old) ⊎ (ledger.new.runs ≡ ledger.old.runs ++ (record { enabled = enabled.now; kept = [] }) ∷ [])) }
+    ensures earlier_runs { take (length ledger.old.runs) ledger.new.runs ≡ ledger.old.runs }
+    ensures earlier_entries { take (length ledger.old.entries) ledger.new.entries ≡ ledger.old.entries }
+    ensures own_entries { are_of_run (length ledger.old.runs) (drop (length ledger.old.entries) ledger.new.entries) ≡ true }
+    ensures good { (r : Request) → IsAskedFor r phases.now core.old → IsGoodLedger core.old.clauses core.old.owners core.old.packages (asks r) ledger.old → IsGoodLedger core.old.clauses core.old.owners core.old.packages (asks r) ledger.new }
+    ensures spent { IfOk result (λ v. is_spent_verdict v ≡ (length ledger.new.entries == ledger.new.budget + 1)) }
+    ensures log_over { IfOk result (λ v. is_log_over core.old.packages v ≡ true) }
+    ensures decided { (r : Request) → IsAskedFor r phases.now core.old → IfOk result (IsDecided r enabled.now core.old) }
+{
+    clauses_say_the_rule();
+    questions_keep_the_law();
+    plans_ask_the_questions();
+    good_logs_refute();
+    core.run(enabled, phases, ledger)
+}
