@@ -33,9 +33,38 @@ fn decided(rt: &impl Abort, alloc: Global, made: &Trial, budget: u32) -> Result<
 
 /// The set of an answer, if it has one.
 fn set_in(alloc: Global, answer: Decided) -> Result<Option<Vec<PackNo>>, AllocError> {
-    match answer.verdict {
+    let Decided {
+        verdict,
+        ledger: _ledger,
+    } = answer;
+    match verdict {
         Verdict::Sat(trail) => Ok(Some(set_of(alloc, &trail)?)),
-        _ => Ok(None),
+        Verdict::Unsat(_log) => Ok(None),
+        Verdict::Spent => Ok(None),
+    }
+}
+
+/// The set that a task gives, if it gives one.
+fn set_by(
+    rt: &impl Abort,
+    alloc: Global,
+    made: &Trial,
+    budget: u32,
+) -> Result<Option<Vec<PackNo>>, AllocError>
+    requires closed { IsClosed made.now.task }
+    requires index { IsIndexOf made.now.prov (catalog_of made.now.task) }
+    requires marks { HasMarks (length made.now.task.universe.packages) made.now.marks }
+    requires budget { budget ≤ 1000000 }
+{
+    let answer = decided(rt, alloc, made, budget)?;
+    set_in(alloc, answer)
+}
+
+/// Whether it is the set of these packages.
+fn is_set(set: &Option<Vec<PackNo>>, want: &[u32]) -> bool {
+    match set {
+        Some(packs) => are(packs, want),
+        None => false,
     }
 }
 
@@ -50,11 +79,8 @@ fn gives(
     requires { budget ≤ 1000000 }
 {
     let made = trial_of(alloc, script)?;
-    let answer = decided(rt, alloc, &made, budget)?;
-    match set_in(alloc, answer)? {
-        Some(set) => Ok(are(&set, want)),
-        None => Ok(false),
-    }
+    let set = set_by(rt, alloc, &made, budget)?;
+    Ok(is_set(&set, want))
 }
 
 /// Whether a script gives no set.
@@ -62,8 +88,8 @@ fn gives_none(rt: &impl Abort, alloc: Global, script: &str, budget: u32) -> Resu
     requires { budget ≤ 1000000 }
 {
     let made = trial_of(alloc, script)?;
-    let answer = decided(rt, alloc, &made, budget)?;
-    Ok(set_in(alloc, answer)?.is_none())
+    let set = set_by(rt, alloc, &made, budget)?;
+    Ok(set.is_none())
 }
 
 /// A (1) needs lib >= 2: lib 1-1 (2), lib 2-1 (3), and other (4), which provides lib. The name that comes first wins.
