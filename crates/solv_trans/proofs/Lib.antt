@@ -1,0 +1,7 @@
+pub mod Joined
+pub mod Lists
+pub mod Asking
+pub mod Marked
+pub mod Owned
+pub mod Apart
+pub mod Whole

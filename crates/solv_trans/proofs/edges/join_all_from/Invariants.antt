@@ -1,0 +1,6 @@
+use Rattle.std.proofs.Common.{take}
+use Rattle.solv_trans.specs.Joining.{Joins, from_one}
+use Rattle.solv_trans.proofs.edges.join_all_from.Given as goal
+
+abbrev pub invariant-loop-other : goal.invariant-loop-other
+invariant-loop-other l = Joins (from_one l.turns l.pack l.need) (take l.other-index l.providers) l.initial.edges l.edges

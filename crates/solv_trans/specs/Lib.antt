@@ -1,0 +1,5 @@
+pub mod Moving
+pub mod Edges
+pub mod Orders
+pub mod Readiness
+pub mod Joining

@@ -1,0 +1,304 @@
+//! Which parts come before which.
+ghost use Rattle.std.specs.Prelude.{ℕ, Bool, ◌≡◌, ◌≤◌, ◌<◌, ◌+◌, ◌∷◌, [], ◌||◌, ◌&&◌, ◌==◌, true, length, nat_le, nat_lt, IfOk, OnOk};
+ghost use Rattle.std.specs.List.{list_any, list_all};
+ghost use Rattle.solv_graph.specs.Graphs.{edge_to};
+ghost use Rattle.solv_pool.specs.Catalog.{catalog_of, dependency, members, packages};
+ghost use Rattle.solv_pool.specs.Holding.{package_meets};
+ghost use Rattle.solv_prov.specs.Index.{IsIndexOf};
+ghost use Rattle.solv_trans.specs.Moving.{comes, goes};
+ghost use Rattle.solv_trans.specs.Readiness.{IsReady, is_single};
+ghost use Rattle.solv_trans.specs.Joining.{is_marked, AreTurns, Joins, from_one, to_one, settles, unsettled, owned_by, AreEdges};
+
+use solv_graph::{Graph, Turn};
+use solv_pool::{Need, PackNo, Task};
+use solv_prov::Providers;
+use std::alloc::{AllocError, Global};
+
+/// All edges, and the pre edges among them.
+#[derive(Drop)]
+pub(crate) struct Edges {
+    pub(crate) all: Graph,
+    pub(crate) pre: Graph,
+}
+
+/// Puts an edge to the others.
+fn put_edge(edges: &mut Edges, from: PackNo, to: PackNo, pre: bool) -> Result<(), AllocError>
+    requires from { from < length edges.old.all }
+    requires to { to < length edges.old.all }
+    requires same { length edges.old.pre ≡ length edges.old.all }
+    ensures size { length edges.new.all ≡ length edges.old.all }
+    ensures pre_size { length edges.new.pre ≡ length edges.old.pre }
+    ensures all { OnOk result ((a b : ℕ) → edge_to edges.new.all a b ≡ (edge_to edges.old.all a b || (from == a && to == b))) }
+    ensures pre { OnOk result ((a b : ℕ) → edge_to edges.new.pre a b ≡ (edge_to edges.old.pre a b || (pre && (from == a && to == b)))) }
+{
+    edges.all.join(from.0, to.0)?;
+    if pre {
+        edges.pre.join(from.0, to.0)?;
+    }
+    Ok(())
+}
+
+/// Whether what is met by a package needs nothing that comes: it is the package that requires it, the system, or kept.
+fn is_settled_by(task: &Task, in_set: &[bool], pack: PackNo, other: PackNo) -> bool
+    requires held { other ≤ length task.now.universe.packages }
+    requires size { length in_set.now ≡ length task.now.universe.packages + 1 }
+    ensures { result ≡ settles (catalog_of task.now) (is_marked in_set.now) pack other }
+{
+    if other == pack || other.0 == 0 {
+        return true;
+    }
+    task.universe.installed(other) && in_set[other.0 as usize]
+}
+
+/// Whether one of the packages that meet a requirement settles it.
+fn is_settled(task: &Task, in_set: &[bool], pack: PackNo, providers: &[PackNo]) -> bool
+    requires held { list_all (λ p. nat_le p (length task.now.universe.packages)) providers.now ≡ true }
+    requires size { length in_set.now ≡ length task.now.universe.packages + 1 }
+    ensures { result ≡ list_any (settles (catalog_of task.now) (is_marked in_set.now) pack) providers.now }
+{
+    for other in providers {
+        if is_settled_by(task, in_set, pack, *other) {
+            return true;
+        }
+    }
+    false
+}
+
+/// Puts an edge from a package to one that requires what it meets, if it comes.
+fn join_from(
+    turns: &[Turn],
+    pack: PackNo,
+    need: &Need,
+    other: PackNo,
+    edges: &mut Edges,
+) -> Result<(), AllocError>
+    requires size { length edges.old.all ≡ length turns.now }
+    requires pre_size { length edges.old.pre ≡ length turns.now }
+    requires pack { pack < length turns.now }
+    requires other { other < length turns.now }
+    ensures { OnOk result (Joins (from_one turns.now pack need.now) (other ∷ []) edges.old edges.new) }
+{
+    match turns[other.0 as usize] {
+        Turn::Early => {
+            put_edge(edges, other, pack, need.pre)?;
+            Ok(())
+        }
+        Turn::Late => Ok(()),
+        Turn::Never => Ok(()),
+    }
+}
+
+/// Puts edges from the packages that come.
+#[tactic(auto, using(crate::proofs::Joined::joins_none, crate::proofs::Joined::joins_more))]
+fn join_all_from(
+    turns: &[Turn],
+    pack: PackNo,
+    need: &Need,
+    providers: &[PackNo],
+    edges: &mut Edges,
+) -> Result<(), AllocError>
+    requires size { length edges.old.all ≡ length turns.now }
+    requires pre_size { length edges.old.pre ≡ length turns.now }
+    requires pack { pack < length turns.now }
+    requires held { list_all (λ p. nat_lt p (length turns.now)) providers.now ≡ true }
+    ensures { OnOk result (Joins (from_one turns.now pack need.now) providers.now edges.old edges.new) }
+{
+    for other in providers {
+        join_from(turns, pack, need, *other, edges)?;
+    }
+    Ok(())
+}
+
+/// Puts edges by one requirement of a package that comes, unless it is settled.
+fn join_brought(
+    task: &Task,
+    in_set: &[bool],
+    turns: &[Turn],
+    pack: PackNo,
+    need: &Need,
+    providers: &[PackNo],
+    edges: &mut Edges,
+) -> Result<(), AllocError>
+    requires in_set { length in_set.now ≡ length task.now.universe.packages + 1 }
+    requires turns { length turns.now ≡ length task.now.universe.packages + 1 }
+    requires size { length edges.old.all ≡ length turns.now }
+    requires pre_size { length edges.old.pre ≡ length turns.now }
+    requires pack { pack < length turns.now }
+    requires held { list_all (λ p. nat_lt p (length turns.now)) providers.now ≡ true }
+    ensures { OnOk result (Joins (from_one turns.now pack need.now) (unsettled (catalog_of task.now) (is_marked in_set.now) pack providers.now) edges.old edges.new) }
+{
+    if is_settled(task, in_set, pack, providers) {
+        return Ok(());
+    }
+    join_all_from(turns, pack, need, providers, edges)?;
+    Ok(())
+}
+
+/// Puts the edges to a package that comes.
+fn join_coming(
+    task: &Task,
+    prov: &Providers,
+    in_set: &[bool],
+    turns: &[Turn],
+    pack: PackNo,
+    edges: &mut Edges,
+) -> Result<(), AllocError>
+    requires ready { IsReady task.now prov.now }
+    requires in_set { length in_set.now ≡ length task.now.universe.packages + 1 }
+    requires turns { AreTurns (catalog_of task.now) (is_marked in_set.now) turns.now }
+    requires size { length edges.old.all ≡ length turns.now }
+    requires pre_size { length edges.old.pre ≡ length turns.now }
+    requires a_package { 0 < pack }
+    requires held { pack ≤ length task.now.universe.packages }
+    requires comes { comes (catalog_of task.now) (is_marked in_set.now) pack ≡ true }
+    ensures { OnOk result (Joins (owned_by (catalog_of task.now) (is_marked in_set.now)) (pack ∷ []) edges.old edges.new) }
+{
+    for need in task.universe.package(pack).requires_.held() {
+        join_brought(task, in_set, turns, pack, need, prov.of(need.dep), edges)?;
+    }
+    Ok(())
+}
+
+/// Puts an edge to a package, if that is another one and goes.
+fn join_to(
+    turns: &[Turn],
+    pack: PackNo,
+    need: &Need,
+    other: PackNo,
+    edges: &mut Edges,
+) -> Result<(), AllocError>
+    requires size { length edges.old.all ≡ length turns.now }
+    requires pre_size { length edges.old.pre ≡ length turns.now }
+    requires pack { pack < length turns.now }
+    requires other { other < length turns.now }
+    ensures { OnOk result (Joins (to_one turns.now pack need.now) (other ∷ []) edges.old edges.new) }
+{
+    if pack == other {
+        return Ok(());
+    }
+    match turns[other.0 as usize] {
+        Turn::Early => Ok(()),
+        Turn::Late => {
+            put_edge(edges, pack, other, need.pre)?;
+            Ok(())
+        }
+        Turn::Never => Ok(()),
+    }
+}
+
+/// Puts edges to the other packages that go.
+#[tactic(auto, using(crate::proofs::Joined::joins_none, crate::proofs::Joined::joins_more))]
+fn join_all_to(
+    turns: &[Turn],
+    pack: PackNo,
+    need: &Need,
+    providers: &[PackNo],
+    edges: &mut Edges,
+) -> Result<(), AllocError>
+    requires size { length edges.old.all ≡ length turns.now }
+    requires pre_size { length edges.old.pre ≡ length turns.now }
+    requires pack { pack < length turns.now }
+    requires held { list_all (λ p. nat_lt p (length turns.now)) providers.now ≡ true }
+    ensures { OnOk result (Joins (to_one turns.now pack need.now) providers.now edges.old edges.new) }
+{
+    for other in providers {
+        join_to(turns, pack, need, *other, edges)?;
+    }
+    Ok(())
+}
+
+/// Puts the edges from a package that goes.
+fn join_going(
+    task: &Task,
+    prov: &Providers,
+    turns: &[Turn],
+    pack: PackNo,
+    edges: &mut Edges,
+) -> Result<(), AllocError>
+    requires ready { IsReady task.now prov.now }
+    requires turns { length turns.now ≡ length task.now.universe.packages + 1 }
+    requires size { length edges.old.all ≡ length turns.now }
+    requires pre_size { length edges.old.pre ≡ length turns.now }
+    requires a_package { 0 < pack }
+    requires held { pack ≤ length task.now.universe.packages }
+    ensures { (set : ℕ → Bool) → AreTurns (catalog_of task.now) set turns.now → goes (catalog_of task.now) set pack ≡ true → OnOk result (Joins (owned_by (catalog_of task.now) set) (pack ∷ []) edges.old edges.new) }
+{
+    for need in task.universe.package(pack).requires_.held() {
+        join_all_to(turns, pack, need, prov.of(need.dep), edges)?;
+    }
+    Ok(())
+}
+
+/// Puts the edges to a package that comes, or from one that goes.
+fn join_package(
+    task: &Task,
+    prov: &Providers,
+    in_set: &[bool],
+    turns: &[Turn],
+    pack: PackNo,
+    edges: &mut Edges,
+) -> Result<(), AllocError>
+    requires ready { IsReady task.now prov.now }
+    requires in_set { length in_set.now ≡ length task.now.universe.packages + 1 }
+    requires turns { AreTurns (catalog_of task.now) (is_marked in_set.now) turns.now }
+    requires size { length edges.old.all ≡ length turns.now }
+    requires pre_size { length edges.old.pre ≡ length turns.now }
+    requires a_package { 0 < pack }
+    requires held { pack ≤ length task.now.universe.packages }
+    ensures { OnOk result (Joins (owned_by (catalog_of task.now) (is_marked in_set.now)) (pack ∷ []) edges.old edges.new) }
+{
+    match turns[pack.0 as usize] {
+        Turn::Early => {
+            join_coming(task, prov, in_set, turns, pack, edges)?;
+            Ok(())
+        }
+        Turn::Late => {
+            join_going(task, prov, turns, pack, edges)?;
+            Ok(())
+        }
+        Turn::Never => Ok(()),
+    }
+}
+
+/// Puts the edges of all packages.
+fn join_packages(
+    task: &Task,
+    prov: &Providers,
+    in_set: &[bool],
+    turns: &[Turn],
+    edges: &mut Edges,
+) -> Result<(), AllocError>
+    requires ready { IsReady task.now prov.now }
+    requires in_set { length in_set.now ≡ length task.now.universe.packages + 1 }
+    requires turns { AreTurns (catalog_of task.now) (is_marked in_set.now) turns.now }
+    requires size { length edges.old.all ≡ length turns.now }
+    requires pre_size { length edges.old.pre ≡ length turns.now }
+    ensures { OnOk result (Joins (owned_by (catalog_of task.now) (is_marked in_set.now)) (packages (catalog_of task.now)) edges.old edges.new) }
+{
+    for before in 0..task.universe.count() {
+        join_package(task, prov, in_set, turns, PackNo(before + 1), edges)?;
+    }
+    Ok(())
+}
+
+/// The edges between the parts.
+pub(crate) fn edges_of(
+    alloc: Global,
+    task: &Task,
+    prov: &Providers,
+    in_set: &[bool],
+    turns: &[Turn],
+) -> Result<Edges, AllocError>
+    requires ready { IsReady task.now prov.now }
+    requires in_set { length in_set.now ≡ length task.now.universe.packages + 1 }
+    requires turns { AreTurns (catalog_of task.now) (is_marked in_set.now) turns.now }
+    ensures { IfOk result (λ edges. AreEdges (catalog_of task.now) (is_marked in_set.now) edges) }
+{
+    task.universe.marks_each();
+    let count = task.universe.count() + 1;
+    let all = Graph::new(alloc, count)?;
+    let pre = Graph::new(alloc, count)?;
+    let mut edges = Edges { all, pre };
+    join_packages(task, prov, in_set, turns, &mut edges)?;
+    Ok(edges)
+}

@@ -1,0 +1,116 @@
+//! The order in which a transaction is made.
+ghost use Rattle.std.specs.Prelude.{ℕ, ◌≡◌, ◌≤◌, ◌<◌, ◌+◌, true, length, nat_le, IfOk};
+ghost use Rattle.std.specs.List.{list_all};
+ghost use Rattle.solv_graph.specs.Graphs.{edge_to};
+ghost use Rattle.solv_graph.specs.Orders.{part_of, late_of};
+ghost use Rattle.solv_pool.specs.Catalog.{catalog_of};
+ghost use Rattle.solv_pool.specs.Words.{is_among};
+ghost use Rattle.solv_trans.specs.Moving.{goes, is_part};
+ghost use Rattle.solv_trans.specs.Edges.{edge, pre_edge};
+ghost use Rattle.solv_trans.specs.Joining.{is_marked};
+ghost use Rattle.solv_trans.specs.Orders.{IsOrdered};
+ghost use Rattle.solv_trans.specs.Readiness.{IsReady};
+
+use crate::counting::counting_edges;
+use crate::edges::{Edges, edges_of};
+use crate::marks::marks_of;
+use crate::moving::turns_of;
+use solv_graph::{Row, Turn};
+use solv_list::Items;
+use solv_pool::{PackNo, Task};
+use solv_prov::Providers;
+use std::alloc::{AllocError, Global};
+
+/// The parts of a transaction in order, and the cycles in what they require of each other.
+#[derive(Drop)]
+pub struct Ordered {
+    /// The packages that come and those that go.
+    pub parts: Items<PackNo>,
+    /// The cycles of pre-requirements, each ascending, by their lowest members.
+    pub pre_cycles: Items<Items<PackNo>>,
+    /// The cycles of all requirements, likewise.
+    pub cycles: Items<Items<PackNo>>,
+}
+
+/// The packages with these numbers.
+fn packs_of(alloc: Global, numbers: &[u32]) -> Result<Items<PackNo>, AllocError>
+    ensures { IfOk result (λ packs. packs ≡ numbers.now) }
+{
+    let mut packs = Vec::with_capacity(alloc, numbers.len())?;
+    for number in numbers {
+        packs.push(PackNo(*number))?;
+    }
+    Ok(Items::wrap(packs))
+}
+
+/// The lists of the packages with these numbers.
+fn lists_of(alloc: Global, rows: &[Row]) -> Result<Items<Items<PackNo>>, AllocError>
+    ensures { IfOk result (λ lists. lists ≡ rows.now) }
+{
+    let mut lists = Vec::with_capacity(alloc, rows.len())?;
+    for row in rows {
+        let packs = packs_of(alloc, row.held())?;
+        lists.push(packs)?;
+    }
+    Ok(Items::wrap(lists))
+}
+
+/// The order of what comes and goes, where edges are known.
+fn in_order(alloc: Global, edges: &Edges, turns: &[Turn]) -> Result<Ordered, AllocError>
+    requires size { length turns.now ≡ length edges.now.all }
+    requires pre_size { length edges.now.pre ≡ length edges.now.all }
+    requires within { (a b : ℕ) → edge_to edges.now.pre a b ≡ true → edge_to edges.now.all a b ≡ true }
+    requires starts { (a b : ℕ) → edge_to edges.now.all a b ≡ true → part_of turns.now a ≡ true }
+    requires ends { (a b : ℕ) → edge_to edges.now.all a b ≡ true → part_of turns.now b ≡ true }
+    ensures { IfOk result (λ made. IsOrdered (length edges.now.all) (part_of turns.now) (late_of turns.now) (edge_to edges.now.all) (edge_to edges.now.pre) made) }
+{
+    let classes = edges.all.classes(alloc)?;
+    let pre_classes = edges.pre.classes(alloc)?;
+    let counting = counting_edges(alloc, edges, &classes, &pre_classes)?;
+    let order = counting.in_order(alloc, turns)?;
+    let parts = packs_of(alloc, &order)?;
+    let pre_cycles = lists_of(alloc, pre_classes.lists())?;
+    let cycles = lists_of(alloc, classes.lists())?;
+    Ok(Ordered {
+        parts,
+        pre_cycles,
+        cycles,
+    })
+}
+
+/// The order of what comes and goes by a table of the set.
+fn order_marked(
+    alloc: Global,
+    task: &Task,
+    prov: &Providers,
+    in_set: &[bool],
+) -> Result<Ordered, AllocError>
+    requires ready { IsReady task.now prov.now }
+    requires in_set { length in_set.now ≡ length task.now.universe.packages + 1 }
+    ensures { IfOk result (λ made. IsOrdered (length task.now.universe.packages + 1) (is_part (catalog_of task.now) (is_marked in_set.now)) (goes (catalog_of task.now) (is_marked in_set.now)) (edge (catalog_of task.now) (is_marked in_set.now)) (pre_edge (catalog_of task.now) (is_marked in_set.now)) made) }
+{
+    let turns = turns_of(alloc, task, in_set)?;
+    let edges = edges_of(alloc, task, prov, in_set, &turns)?;
+    let made = in_order(alloc, &edges, &turns)?;
+    Ok(made)
+}
+
+/// The order in which the packages that come and those that go are installed and erased, so that the installed packages become
+/// those of the set.
+///
+/// It keeps every pre-requirement whose ends are not in one cycle of pre-requirements, and every other requirement whose ends
+/// are not in one cycle.
+pub fn order(
+    alloc: Global,
+    task: &Task,
+    prov: &Providers,
+    set: &[PackNo],
+) -> Result<Ordered, AllocError>
+    requires ready { IsReady task.now prov.now }
+    requires within { list_all (λ p. nat_le p (length task.now.universe.packages)) set.now ≡ true }
+    ensures { IfOk result (λ made. IsOrdered (length task.now.universe.packages + 1) (is_part (catalog_of task.now) (is_among set.now)) (goes (catalog_of task.now) (is_among set.now)) (edge (catalog_of task.now) (is_among set.now)) (pre_edge (catalog_of task.now) (is_among set.now)) made) }
+{
+    let in_set = marks_of(alloc, task.universe.count(), set)?;
+    let made = order_marked(alloc, task, prov, &in_set)?;
+    Ok(made)
+}
