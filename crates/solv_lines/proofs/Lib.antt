@@ -1,0 +1,5 @@
+mod Rising
+mod Provided
+mod Joining
+mod Beyond
+mod Asking

@@ -1,0 +1,5 @@
+pub mod Fitting
+pub mod RuleTexts
+pub mod LineSets
+pub mod ResultLines
+pub mod Rows

@@ -1,0 +1,124 @@
+-- A task with rules of every kind, small enough to be told by hand.
+use Rattle.std.specs.Prelude.{ℕ, true, false, List, [], ◌∷◌, Some, None, codes, pos}
+use Rattle.solv_base.specs.declared.comparison.Cmp.{Cmp}
+use Rattle.solv_base.specs.declared.relation.DepNode.TheVariants.{Simple, Versioned, And}
+use Rattle.solv_pool.specs.declared.packages.Package.{Package}
+use Rattle.solv_pool.specs.declared.hard_rules.Rule.TheVariants as rule
+use Rattle.solv_pool.specs.declared.hard_rules.Rules.{Rules}
+use Rattle.solv_pool.specs.declared.jobs.Action.{Action}
+use Rattle.solv_pool.specs.declared.jobs.Action.TheVariants.{Install, Erase, Update}
+use Rattle.solv_pool.specs.declared.jobs.Choice.{Choice}
+use Rattle.solv_pool.specs.declared.jobs.Choice.TheVariants.{Name, All}
+use Rattle.solv_pool.specs.declared.jobs.Job.{Job}
+use Rattle.solv_pool.specs.declared.tasks.Task.{Task}
+use Rattle.solv_script.specs.declared.scripts.Kinds.{Kinds}
+use Rattle.solv_changes.specs.declared.kinds.Change.{Change}
+use Rattle.solv_changes.specs.declared.kinds.Change.TheVariants as change
+use Rattle.solv_lines.specs.declared.outcomes.Found.{Found}
+
+-- `<`
+abbrev pub below : Cmp
+below = record { less = true; equal = false; greater = false }
+
+-- a package without relations
+abbrev pub bare : ℕ → ℕ → ℕ → ℕ → Package
+bare name evr arch repo = record {
+  name = name;
+  evr = evr;
+  arch = arch;
+  vendor = None;
+  repo = repo;
+  provides = [];
+  requires_ = [];
+  conflicts = [];
+  obsoletes = [];
+  recommends = [];
+  suggests = [];
+  supplements = [];
+  enhances = [];
+  files = [];
+}
+
+-- a job
+abbrev pub job : Action → Choice → Job
+job action choice = record { action = action; choice = choice; forcebest = false; text = [] }
+
+-- A 1-1 and B 1-1 are installed; C 1-1, A 2-1 and P 1-1 for i686 are available; one job asks for a name that nothing has
+abbrev pub spoken : Task
+spoken = record {
+  pool = record {
+    names =
+        codes "noarch"
+        ∷ codes "i686"
+        ∷ codes "1-1"
+        ∷ codes "2-1"
+        ∷ codes "A"
+        ∷ codes "B"
+        ∷ codes "C"
+        ∷ codes "P"
+        ∷ codes "missing"
+        ∷ codes "nosuch"
+        ∷ codes "system"
+        ∷ codes "available"
+        ∷ [];
+    nodes = Simple 4 ∷ Simple 5 ∷ And 0 1 ∷ Simple 8 ∷ Simple 9 ∷ Versioned 4 below 3 ∷ [];
+  };
+  universe = record {
+    packages = bare 4 2 0 0 ∷ bare 5 2 0 0 ∷ bare 6 2 0 1 ∷ bare 4 3 0 1 ∷ bare 7 2 1 1 ∷ [];
+    repos = record { name = 10; priority = pos 0 } ∷ record { name = 11; priority = pos 0 } ∷ [];
+    arch = None;
+    installed = Some 0;
+    disabled = false ∷ false ∷ false ∷ false ∷ false ∷ [];
+  };
+  flags = record {
+    allow_downgrade = false;
+    allow_name_change = true;
+    allow_arch_change = false;
+    allow_vendor_change = false;
+    allow_uninstall = false;
+    ignore_recommended = false;
+    no_infarch_check = false;
+  };
+  namespaces = [];
+  jobs = job Install (Name 4) ∷ job Erase (Name 0) ∷ job Install All ∷ job Update All ∷ [];
+}
+
+-- a rule of each kind, and more than one where its text may differ
+abbrev pub told : Rules
+told = record {
+  list =
+      rule.NotInstallable 5
+      ∷ rule.Req 2 0
+      ∷ rule.Req 4 3
+      ∷ rule.Con 3 5 1
+      ∷ rule.RichCon 3 2
+      ∷ rule.Obs 3 0 1
+      ∷ rule.Same 1 4
+      ∷ rule.Infarch 5
+      ∷ rule.Update 2 1
+      ∷ rule.Feature 2 1
+      ∷ rule.Install 0 0
+      ∷ rule.Install 2 0
+      ∷ rule.Install 0 1
+      ∷ rule.Erase 1 1
+      ∷ rule.Lock 1 1
+      ∷ rule.BestJob 2 1
+      ∷ rule.BestUpdate 3 2 1
+      ∷ [];
+  sets = [] ∷ (1 ∷ []) ∷ [];
+}
+
+-- the lines of changes and of problems are asked for; or none
+abbrev pub both_kinds : Kinds
+both_kinds = record { transaction = true; problems = true; order = false; reason = false; userinstalled = false; unneeded = false }
+
+abbrev pub no_kinds : Kinds
+no_kinds = record { transaction = false; problems = false; order = true; reason = true; userinstalled = true; unneeded = true }
+
+-- a change of each kind
+abbrev pub made : List Change
+made = change.Upgrade 1 4 ∷ change.Downgrade 4 1 ∷ change.Alter 2 3 ∷ change.Reinstall 2 2 ∷ change.Obsolete 1 3 ∷ change.Erase 2 ∷ change.Install 5 ∷ []
+
+-- a problem that lists these rules
+abbrev pub listing : List ℕ → Found
+listing rules = record { rules = rules }
