@@ -89,6 +89,7 @@ module _ (r : Request) (asker : Asker) (core : CoreOf) (asked : IsAskedFor r ask
     refuted : GoodLogsRefute → (log : Log) → length core.owners ≡ length core.clauses → (is_good_log core.clauses log.steps ≡ true) → list_all (λ rule. nat_lt rule (length core.clauses) && in_use core.owners enabled rule) (leaves log.steps) ≡ true → steps_over core.packages log.steps ≡ true → IsRefuted r enabled core log
     refuted refute log each good rests over = record {
       good = good;
+      over = over;
       rests = rests;
       none = λ set zero all.
           let leaf : (rule : ℕ) → Has (leaves log.steps) rule → rule_true core.clauses set rule ≡ true = λ rule h. leaf_true set zero all rule (and_parts (nat_lt rule (length core.clauses)) (in_use core.owners enabled rule) (all_at (λ n. nat_lt n (length core.clauses) && in_use core.owners enabled n) (leaves log.steps) rule rests h)).1 in

@@ -6,7 +6,7 @@ use Rattle.solv_pool.specs.Propagation.{is_fact}
 use Rattle.solv_pool.specs.RuleMeaning.{HardRule, meets_rule}
 use Rattle.solv_derive.specs.Leaves.{leaves}
 use Rattle.solv_derive.specs.Logs.{is_good_log}
-use Rattle.solv_derive.specs.Range.{are_over}
+use Rattle.solv_derive.specs.Range.{are_over, steps_over}
 use Rattle.solv_derive.specs.declared.logs.Log.{Log}
 use Rattle.solv_trail.specs.Asked.{KeepsLaw, enabled_clauses, set_of}
 use Rattle.solv_trail.specs.Propagated.{in_use}
@@ -61,9 +61,10 @@ module _ (r : Request) (enabled : List Bool) where
     pub good : IsGoodTrail (length r.catalog.universe.packages) clauses_on (λ known. asks r known enabled) trail.events
     pub meets : meets_all (set_of (is_fact (facts_of trail.events))) ≡ true
 
-  -- the log is good, rests on enabled rules alone, and no set that holds the system meets them
+  -- the log is good and names packages, rests on enabled rules alone, and no set that holds the system meets them
   pub record IsRefuted (core : CoreOf) (log : Log) : Type 0 where
     pub good : is_good_log core.clauses log.steps ≡ true
+    pub over : steps_over core.packages log.steps ≡ true
     pub rests : list_all (λ rule. nat_lt rule (length core.clauses) && in_use core.owners enabled rule) (leaves log.steps) ≡ true
     pub none : (set : ℕ → Bool) → set 0 ≡ true → meets_all set ≡ true → ⊥
 

@@ -50,7 +50,7 @@ is_one (unless a b) h = absurd (false≢true h)
 is_one (unless_else a b c) h = absurd (false≢true h)
 is_one missing h = absurd (false≢true h)
 
-one_fits : (at : Bool) (d : Dep ℕ) → IsOne d → fits_place at d ≡ true
+pub one_fits : (at : Bool) (d : Dep ℕ) → IsOne d → fits_place at d ≡ true
 one_fits at (one c) h = refl
 one_fits at (namespace n) h = refl
 one_fits at (and a b) h = absurd h

@@ -1,0 +1,3 @@
+mod Enabled
+mod Chosen
+mod Answered

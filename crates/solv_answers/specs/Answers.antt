@@ -1,0 +1,105 @@
+-- What the answers to a task are.
+use Rattle.std.specs.Prelude.{◌≡◌, ◌+◌, ℕ, ℤ, Bool, true, List, [], ◌∷◌, Option, None, flat_map, length, replicate}
+use Rattle.std.specs.List.{list_all}
+use Rattle.solv_pool.specs.Catalog.{catalog_of}
+use Rattle.solv_pool.specs.Clauses.{rule_clauses}
+use Rattle.solv_pool.specs.HardRules.{hard_rules}
+use Rattle.solv_pool.specs.JobMarks.{marks_of}
+use Rattle.solv_pool.specs.RuleMeaning.{meets_rule}
+use Rattle.solv_pool.specs.Words.{is_among}
+use Rattle.solv_pool.specs.declared.tasks.Task.{Task}
+use Rattle.solv_prov.specs.Index.{IsIndexOf}
+use Rattle.solv_jobs.specs.Marking.{HasMarks}
+use Rattle.solv_rules.specs.Books.{IsBook, first_fault, is_bookable, owners_from, read_rules}
+use Rattle.solv_trail.specs.declared.questions.Ask.{Ask}
+use Rattle.solv_core.specs.GoodTrails.{IsGoodTrail}
+use Rattle.solv_core.specs.Ledgers.{IsGoodLedger}
+use Rattle.solv_core.specs.declared.ledger.Ledger.{Ledger}
+use Rattle.solv_core.specs.declared.ledger.Run.{Run}
+use Rattle.solv_core.specs.declared.verdicts.Trail.{Trail}
+use Rattle.solv_questions.specs.Questions.{Request, request_of, asks}
+use Rattle.solv_decide.specs.Sets.{IsSetOf}
+use Rattle.solv_changes.specs.Changes.{changes}
+use Rattle.solv_changes.specs.Effects.{IsMemberList, after}
+use Rattle.solv_changes.specs.declared.kinds.Change.{Change}
+use Rattle.solv_remedy.specs.Problems.{IsProblem}
+use Rattle.solv_remedy.specs.declared.problems.Problem.{Problem}
+use Rattle.solv_trans.specs.Moving.{goes, is_part}
+use Rattle.solv_trans.specs.Edges.{edge, pre_edge}
+use Rattle.solv_trans.specs.Orders.{IsOrdered}
+use Rattle.solv_trans.specs.declared.ordering.Ordered.{Ordered}
+use Rattle.solv_answers.specs.declared.answers.Answer.{Answer}
+use Rattle.solv_answers.specs.declared.answers.Answer.TheVariants as answer
+use Rattle.solv_answers.specs.declared.preparing.Prepared.{Prepared}
+
+module _ (task : Task) where
+  -- what a task asks for, by the marks that its jobs give
+  abbrev pub request : Request
+  request = request_of task (marks_of task)
+
+  -- each hard rule is enabled
+  abbrev pub all_enabled : List Bool
+  all_enabled = replicate (length (hard_rules task)) true
+
+  -- the clauses of the hard rules, rule by rule
+  abbrev pub hard_clauses : List (List ℤ)
+  hard_clauses = flat_map (rule_clauses (catalog_of task)) (hard_rules task)
+
+  -- the number of the rule of each
+  abbrev pub hard_owners : List ℕ
+  hard_owners = owners_from (catalog_of task) 0 (hard_rules task)
+
+  -- what the questions of a task ask where these literals are known and these rules enabled
+  abbrev pub asked : (ℤ → Bool) → List Bool → Option Ask
+  asked known enabled = asks request known enabled
+
+  -- the set meets each hard rule
+  abbrev pub meets_hard_rules : (ℕ → Bool) → Bool
+  meets_hard_rules set = list_all (λ r. meets_rule (catalog_of task) r set) (hard_rules task)
+
+  -- the index, the marks and the book of a task, whose hard rules give a book without a fault
+  pub record IsPrepared (prepared : Prepared) : Type 0 where
+    pub index : IsIndexOf prepared.prov (catalog_of task)
+    pub marks : prepared.marks ≡ marks_of task
+    pub each : HasMarks (length task.universe.packages) prepared.marks
+    pub book : IsBook (catalog_of task) prepared.book
+    pub rules : read_rules prepared.book.rules ≡ hard_rules task
+    pub bookable : list_all (is_bookable (catalog_of task)) (hard_rules task) ≡ true
+    pub fits : first_fault (catalog_of task) 0 (hard_rules task) ≡ None
+
+  -- A transaction. Each package of the trail follows from the hard rules and the packages taken before, or is the first candidate
+  -- not known out of the first open question, and at the end none is open; the set is the trail's, ascending, and meets each hard
+  -- rule; the changes are those of the set, and what is there after them is the set; the order is a good one.
+  pub record IsTransaction (trail : Trail) (set : List ℕ) (made : List Change) (ordered : Ordered) : Type 0 where
+    pub good : IsGoodTrail (length task.universe.packages) hard_clauses (λ known. asked known all_enabled) trail.events
+    pub of_trail : IsSetOf trail.events set
+    pub members : IsMemberList (length task.universe.packages) set
+    pub meets : meets_hard_rules (is_among set) ≡ true
+    pub changed : made ≡ changes (catalog_of task) (is_among set)
+    pub leaves : after (catalog_of task) made ≡ set
+    pub in_order : IsOrdered (length task.universe.packages + 1) (is_part (catalog_of task) (is_among set)) (goes (catalog_of task) (is_among set)) (edge (catalog_of task) (is_among set)) (pre_edge (catalog_of task) (is_among set)) ordered
+
+  -- One problem: rules that no set meets together, as its log shows. So no set meets all hard rules.
+  pub record AreProblems (problems : List Problem) : Type 0 where
+    pub problem : Problem
+    pub one : problems ≡ problem ∷ []
+    pub good : IsProblem (catalog_of task) (hard_rules task) problem
+    pub unsolved : problem.solutions ≡ []
+    pub none : (set : ℕ → Bool) → set 0 ≡ true → meets_hard_rules set ≡ true → ⊥
+
+  -- the one run with every rule enabled
+  abbrev pub whole_run : Run
+  whole_run = record { enabled = all_enabled; kept = [] }
+
+  -- The budget is spent: the ledger of one run is good, and holds one rule more than the budget. Each stands for a conflict that the
+  -- choices of the task's questions meet.
+  pub record IsSpent (budget : ℕ) (ledger : Ledger) : Type 0 where
+    pub good : IsGoodLedger hard_clauses hard_owners (length task.universe.packages) asked ledger
+    pub of_budget : ledger.budget ≡ budget
+    pub runs : ledger.runs ≡ whole_run ∷ []
+    pub spent : length ledger.entries ≡ budget + 1
+
+  abbrev pub IsAnswer : ℕ → Answer → Type 0
+  IsAnswer budget (answer.Transaction trail set made ordered) = IsTransaction trail set made ordered
+  IsAnswer budget (answer.Problems problems) = AreProblems problems
+  IsAnswer budget (answer.Spent ledger) = IsSpent budget ledger
