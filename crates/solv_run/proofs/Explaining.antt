@@ -1,13 +1,26 @@
 -- A run explains its status.
-use Rattle.std.proofs.Common.{ℕ, ◌≡◌, ◌≢◌, ◌<◌, List, [], ◌∷◌, Option, Some, None, refl, sym, ap, ◌∙◌, arith, inl, inr, ◌⊎◌, subst}
-use Rattle.std.specs.Prelude.{Result, Ok, Err, unwrap_or}
+use Rattle.std.proofs.Common.{ℕ, ◌≡◌, ◌≢◌, ◌<◌, ◌⊎◌, Bool, true, false, List, [], ◌∷◌, ◌++◌, length, Option, Some, None, refl, sym, ap, ◌∙◌, arith, inl, inr, subst, if◌then◌else◌}
+use Rattle.std.specs.Prelude.{Result, Ok, Err, IfSome, IsOkAnd, unwrap_or, ◌==◌}
 use Rattle.solv_io.specs.Counters.{Rose}
 use Rattle.solv_io.specs.declared.status.Status.{Status}
 use Rattle.solv_io.specs.declared.status.Status.TheVariants as status
-use Rattle.solv_script.specs.FirstScript.{State, Bad, first_script}
-use Rattle.solv_run.specs.Dues.{Due, script_due, usage_due, read_fault_due}
-use Rattle.solv_run.specs.Runs.{SinkRun, FilesRun, WroteAll, HasWriteFault, HasBytes, AskedBesides, IsReported, whole, cut_off, IsRun, no_file, not_read, was_read}
-use Rattle.solv_run.specs.Explained.{IsExplained}
+use Rattle.solv_pool.specs.Catalog.{catalog_of}
+use Rattle.solv_pool.specs.HardRules.{hard_rules}
+use Rattle.solv_rules.specs.Books.{first_fault}
+use Rattle.solv_rules.specs.declared.fault.BookFault.{BookFault}
+use Rattle.solv_script.specs.FileRuns.{FilesRun, AskedBesides, bytes_in}
+use Rattle.solv_script.specs.Grammar.{Bad, script_read}
+use Rattle.solv_script.specs.Reads.{written_script}
+use Rattle.solv_script.specs.States.{State, script_given}
+use Rattle.solv_script.specs.declared.scripts.Script.{Script}
+use Rattle.solv_answers.specs.Answers.{IsAnswer}
+use Rattle.solv_answers.specs.declared.answers.Answer.{Answer}
+use Rattle.solv_answers.specs.declared.answers.Answer.TheVariants as an
+use Rattle.solv_run.specs.Cases.{IsNamed, HasAskedAll, HasStopped, HasScript, IsDueFor, IsDueRun, IsRun, passes, answered, no_file, not_read, stopped, refused, was_read}
+use Rattle.solv_run.specs.Checks.{are_true}
+use Rattle.solv_run.specs.Dues.{Due, usage_due, read_fault_due, bad_line_due, limit_due, answer_due, answer_status, is_spent, budget}
+use Rattle.solv_run.specs.Explained.{WasRead, HasAnswer, IsDone, IsDiffering, IsSpentRun, IsBad, IsLimited, IsReadFault, IsCalm, IsComplete, IsExplained}
+use Rattle.solv_run.specs.Runs.{SinkRun, WroteAll, HasWriteFault, IsReported, whole, cut_off}
 use Rattle.solv_run.specs.declared.reports.Report.{Report}
 
 -- a status that is due, or a write fault
@@ -41,107 +54,236 @@ answers_of : (due : Due) (report : Report) (out err : SinkRun) → IsReported du
 answers_of due report out err (whole a s o e) = a
 answers_of due report out err (cut_off a s f o e) = a
 
--- a status that is not due, and is no write fault, does not come
-not_due : (due : Due) (report : Report) (out err : SinkRun) (t : Status) → IsReported due report out err → due.status ≢ t → t ≢ status.WriteFault → report.status ≢ t
-not_due due report out err t r other calm h = elim (status_of due report out err r) [ inl s ↦ other (sym s ∙ h) | inr w ↦ calm (sym h ∙ w.0) ]
+-- a status that comes, and is no write fault, is due
+due_status : (due : Due) (report : Report) (out err : SinkRun) (t : Status) → IsReported due report out err → t ≢ status.WriteFault → report.status ≡ t → due.status ≡ t
+due_status due report out err t r calm h = elim (status_of due report out err r) [ inl s ↦ sym s ∙ h | inr w ↦ absurd (calm (sym h ∙ w.0)) ]
+
+-- without a fault of a sink the status is the one that is due
+calm_status : (due : Due) (report : Report) (out err : SinkRun) → IsReported due report out err → (HasWriteFault out err → ⊥) → report.status ≡ due.status
+calm_status due report out err r calm = elim (status_of due report out err r) [ inl s ↦ s | inr w ↦ absurd (calm w.1) ]
+
+-- the status of an answer
+abbrev status_by : Bool → Bool → Status
+status_by spent all = if spent then status.Spent else (if all then status.Done else status.Differs)
+
+no_fault_by : (a b : Bool) → status_by a b ≢ status.WriteFault
+no_fault_by true b h = cc
+no_fault_by false true h = cc
+no_fault_by false false h = cc
+
+done_by : (a b : Bool) → status_by a b ≡ status.Done → (a ≡ false) × (b ≡ true)
+done_by true b h = absurd (cc)
+done_by false true h = (refl, refl)
+done_by false false h = absurd (cc)
+
+differs_by : (a b : Bool) → status_by a b ≡ status.Differs → (a ≡ false) × (b ≡ false)
+differs_by true b h = absurd (cc)
+differs_by false true h = absurd (cc)
+differs_by false false h = (refl, refl)
+
+spent_by : (a b : Bool) → status_by a b ≡ status.Spent → a ≡ true
+spent_by true b h = refl
+spent_by false true h = absurd (cc)
+spent_by false false h = absurd (cc)
+
+no_other_by : (a b : Bool) (t : Status) → (status.Spent ≢ t) → (status.Done ≢ t) → (status.Differs ≢ t) → status_by a b ≢ t
+no_other_by true b t x y z h = x h
+no_other_by false true t x y z h = y h
+no_other_by false false t x y z h = z h
+
+three_by : (a b : Bool) → (status_by a b ≡ status.Done) ⊎ ((status_by a b ≡ status.Differs) ⊎ (status_by a b ≡ status.Spent))
+three_by true b = inr (inr refl)
+three_by false true = inl refl
+three_by false false = inr (inl refl)
+
+abbrev checked : Script → Bool
+checked script = are_true script.checks
+
+-- no write fault is due
+for_calm : (script : Script) (due : Due) → IsDueFor script due → due.status ≢ status.WriteFault
+for_calm script due (passes fault e) h = cc
+for_calm script due (answered answer fits is) h = no_fault_by (is_spent answer) (checked script) h
+
+run_calm : (form : Option (List ℕ)) (files : FilesRun) (due : Due) → IsDueRun form files due → due.status ≢ status.WriteFault
+run_calm form files due (no_file a b c) h = cc
+run_calm form files due (not_read file a b c) h = cc
+run_calm form files due (stopped file bytes name a b) h = cc
+run_calm form files due (refused file bytes b n a f) h = cc
+run_calm form files due (was_read file bytes script d n a s for) h = for_calm script d for h
 
 module _ (form : Option (List ℕ)) (files : FilesRun) (report : Report) (out err : SinkRun) where
-  explained_usage : form ≡ None → IsReported usage_due report out err → IsExplained form files report out err
-  explained_usage none r = record {
-    done = λ h. absurd (not_due usage_due report out err status.Done r (λ e. cc) (λ e. cc) h);
-    refused = λ h. absurd (not_due usage_due report out err status.Refused r (λ e. cc) (λ e. cc) h);
-    read_fault = λ h. absurd (not_due usage_due report out err status.ReadFault r (λ e. cc) (λ e. cc) h);
-    write_fault = fault_of usage_due report out err (λ e. cc) r;
-    usage = λ h. none;
-    no_differences = not_due usage_due report out err status.Differs r (λ e. cc) (λ e. cc);
-    nothing_spent = not_due usage_due report out err status.Spent r (λ e. cc) (λ e. cc);
-    out_fault = out_fault_of usage_due report out err r;
-    err_fault = err_fault_of usage_due report out err r;
-    bad_words = λ h. elim (status_of usage_due report out err r) [ inl s ↦ inl s | inr w ↦ inr w.0 ];
-    complete = λ file bytes held state is told there good calm quiet. absurd (let clash : None ≡ Some file = sym none ∙ is in cc);
-  }
+  -- what a status says of a script that was read
+  module _ (script : Script) (read : WasRead form files report out err script) where
+    has_answer : (answer : Answer) → IsAnswer script.task budget answer → IsReported (answer_due script answer) report out err → report.status ≢ status.WriteFault → HasAnswer form files report out err script answer
+    has_answer answer is r calm = record { read = read; is = is; answers = answers_of (answer_due script answer) report out err r; text = out_text_of (answer_due script answer) report out err r calm }
 
-  explained_not_read : (file : List ℕ) → form ≡ Some file → AskedBesides files (file ∷ []) → Rose files.faults_before files.faults_after
-      → IsReported (read_fault_due file) report out err → IsExplained form files report out err
-  explained_not_read file named asked rose r = record {
-    done = λ h. absurd (not_due (read_fault_due file) report out err status.Done r (λ e. cc) (λ e. cc) h);
-    refused = λ h. absurd (not_due (read_fault_due file) report out err status.Refused r (λ e. cc) (λ e. cc) h);
-    read_fault = λ h. record { file = file; named = named; asked = asked; rose = rose; line = err_text_of (read_fault_due file) report out err r (λ e. let clash = sym h ∙ e in cc) };
-    write_fault = fault_of (read_fault_due file) report out err (λ e. cc) r;
-    usage = λ h. absurd (not_due (read_fault_due file) report out err status.Usage r (λ e. cc) (λ e. cc) h);
-    no_differences = not_due (read_fault_due file) report out err status.Differs r (λ e. cc) (λ e. cc);
-    nothing_spent = not_due (read_fault_due file) report out err status.Spent r (λ e. cc) (λ e. cc);
-    out_fault = out_fault_of (read_fault_due file) report out err r;
-    err_fault = err_fault_of (read_fault_due file) report out err r;
-    bad_words = λ h. absurd (let clash : None ≡ Some file = sym h ∙ named in cc);
-    complete = λ f bytes held state is told there good calm quiet. absurd (calm rose);
-  }
+    for_done : (due : Due) → IsDueFor script due → IsReported due report out err → report.status ≡ status.Done → IsDone form files report out err
+    for_done due (passes fault e) r h = absurd (let x = due_status (limit_due script.task fault) report out err status.Done r (λ e. cc) h in cc)
+    for_done due (answered answer fits is) r h =
+        let both = done_by (is_spent answer) (checked script) (due_status (answer_due script answer) report out err status.Done r (λ e. cc) h) in
+        record { script = script; answer = answer; has = has_answer answer is r (λ e. let clash = sym h ∙ e in cc); unspent = both.0; all_true = both.1 }
 
-  module _ (file bytes : List ℕ) (named : form ≡ Some file) (read : HasBytes files file bytes) where
-    explained_ok : (s : State) → first_script bytes ≡ Ok s → IsReported (script_due file (Ok s)) report out err → IsExplained form files report out err
-    explained_ok s good r = record {
-      done = λ h. record {
-        file = file;
-        bytes = bytes;
-        state = s;
-        named = named;
-        read = read;
-        all_good = good;
-        answers = answers_of (script_due file (Ok s)) report out err r;
-        text = out_text_of (script_due file (Ok s)) report out err r (λ e. let clash = sym h ∙ e in cc);
-      };
-      refused = λ h. absurd (not_due (script_due file (Ok s)) report out err status.Refused r (λ e. cc) (λ e. cc) h);
-      read_fault = λ h. absurd (not_due (script_due file (Ok s)) report out err status.ReadFault r (λ e. cc) (λ e. cc) h);
-      write_fault = fault_of (script_due file (Ok s)) report out err (λ e. cc) r;
-      usage = λ h. absurd (not_due (script_due file (Ok s)) report out err status.Usage r (λ e. cc) (λ e. cc) h);
-      no_differences = not_due (script_due file (Ok s)) report out err status.Differs r (λ e. cc) (λ e. cc);
-      nothing_spent = not_due (script_due file (Ok s)) report out err status.Spent r (λ e. cc) (λ e. cc);
-      out_fault = out_fault_of (script_due file (Ok s)) report out err r;
-      err_fault = err_fault_of (script_due file (Ok s)) report out err r;
-      bad_words = λ h. absurd (let clash : None ≡ Some file = sym h ∙ named in cc);
-      complete = λ f b held state is told there fine calm quiet.
-          elim (status_of (script_due file (Ok s)) report out err r) [ inl t ↦ t | inr w ↦ absurd (quiet w.1) ];
+    for_differs : (due : Due) → IsDueFor script due → IsReported due report out err → report.status ≡ status.Differs → IsDiffering form files report out err
+    for_differs due (passes fault e) r h = absurd (let x = due_status (limit_due script.task fault) report out err status.Differs r (λ e. cc) h in cc)
+    for_differs due (answered answer fits is) r h =
+        let both = differs_by (is_spent answer) (checked script) (due_status (answer_due script answer) report out err status.Differs r (λ e. cc) h) in
+        record { script = script; answer = answer; has = has_answer answer is r (λ e. let clash = sym h ∙ e in cc); unspent = both.0; some_false = both.1 }
+
+    spent_answer : (answer : Answer) → is_spent answer ≡ true → IsAnswer script.task budget answer → IsReported (answer_due script answer) report out err → report.status ≢ status.WriteFault → IsSpentRun form files report out err
+    spent_answer (an.Transaction trail set made ordered) s is r calm = absurd (cc)
+    spent_answer (an.Problems problems) s is r calm = absurd (cc)
+    spent_answer (an.Spent ledger) s is r calm = record { script = script; ledger = ledger; has = has_answer (an.Spent ledger) is r calm; line = err_text_of (answer_due script (an.Spent ledger)) report out err r calm }
+
+    for_spent : (due : Due) → IsDueFor script due → IsReported due report out err → report.status ≡ status.Spent → IsSpentRun form files report out err
+    for_spent due (passes fault e) r h = absurd (let x = due_status (limit_due script.task fault) report out err status.Spent r (λ e. cc) h in cc)
+    for_spent due (answered answer fits is) r h =
+        spent_answer answer (spent_by (is_spent answer) (checked script) (due_status (answer_due script answer) report out err status.Spent r (λ e. cc) h)) is r (λ e. let clash = sym h ∙ e in cc)
+
+    for_refused : (due : Due) → IsDueFor script due → IsReported due report out err → report.status ≡ status.Refused → IsLimited form files report out err
+    for_refused due (passes fault e) r h = record { script = script; fault = fault; read = read; passed = e; line = err_text_of (limit_due script.task fault) report out err r (λ e. let clash = sym h ∙ e in cc) }
+    for_refused due (answered answer fits is) r h =
+        absurd (no_other_by (is_spent answer) (checked script) status.Refused (λ e. cc) (λ e. cc) (λ e. cc) (due_status (answer_due script answer) report out err status.Refused r (λ e. cc) h))
+
+    for_none : (t : Status) → (status.Refused ≢ t) → (status.Spent ≢ t) → (status.Done ≢ t) → (status.Differs ≢ t) → t ≢ status.WriteFault → (due : Due) → IsDueFor script due → IsReported due report out err → report.status ≢ t
+    for_none t w x y z calm due (passes fault e) r h = w (due_status (limit_due script.task fault) report out err t r calm h)
+    for_none t w x y z calm due (answered answer fits is) r h = no_other_by (is_spent answer) (checked script) t x y z (due_status (answer_due script answer) report out err t r calm h)
+
+    -- what becomes of a script that the grammar accepts
+    for_complete : (state : State) → written_script script ≡ script_given state → (HasWriteFault out err → ⊥) → (due : Due) → IsDueFor script due → IsReported due report out err → IsComplete form files report out err state
+    for_complete state same calm due (passes fault e) r = record {
+      script = script;
+      of_state = same;
+      answered = λ none. absurd (let clash = sym none ∙ e in cc);
+      limited = λ f g. calm_status (limit_due script.task fault) report out err r calm;
+    }
+    for_complete state same calm due (answered answer fits is) r = record {
+      script = script;
+      of_state = same;
+      answered = λ none. let s = calm_status (answer_due script answer) report out err r calm in
+          elim (three_by (is_spent answer) (checked script)) [ inl a ↦ inl (s ∙ a) | inr o ↦ elim o [ inl b ↦ inr (inl (s ∙ b)) | inr c ↦ inr (inr (s ∙ c)) ] ];
+      limited = λ f g. absurd (let clash = sym fits ∙ g in cc);
     }
 
-    explained_bad : (b : Bad) → first_script bytes ≡ Err b → IsReported (script_due file (Err b)) report out err → IsExplained form files report out err
-    explained_bad b bad r = record {
-      done = λ h. absurd (not_due (script_due file (Err b)) report out err status.Done r (λ e. cc) (λ e. cc) h);
-      refused = λ h. record {
-        file = file;
-        bytes = bytes;
-        bad = b;
-        named = named;
-        read = read;
-        first_bad = bad;
-        line = err_text_of (script_due file (Err b)) report out err r (λ e. let clash = sym h ∙ e in cc);
-      };
-      read_fault = λ h. absurd (not_due (script_due file (Err b)) report out err status.ReadFault r (λ e. cc) (λ e. cc) h);
-      write_fault = fault_of (script_due file (Err b)) report out err (λ e. cc) r;
-      usage = λ h. absurd (not_due (script_due file (Err b)) report out err status.Usage r (λ e. cc) (λ e. cc) h);
-      no_differences = not_due (script_due file (Err b)) report out err status.Differs r (λ e. cc) (λ e. cc);
-      nothing_spent = not_due (script_due file (Err b)) report out err status.Spent r (λ e. cc) (λ e. cc);
-      out_fault = out_fault_of (script_due file (Err b)) report out err r;
-      err_fault = err_fault_of (script_due file (Err b)) report out err r;
-      bad_words = λ h. absurd (let clash : None ≡ Some file = sym h ∙ named in cc);
-      complete = λ f c held state is told there fine calm quiet. absurd (clash f c held state is told there fine);
-    }
-      where
-        clash : (f c : List ℕ) (held : List ℕ → Option (List ℕ)) (state : State) → form ≡ Some f → files.contents ≡ Some held → held f ≡ Some c → first_script c ≡ Ok state → ⊥
-        clash f c held state is told there fine =
-            let same_file : Some file ≡ Some f = sym named ∙ is in
-            let here : held file ≡ Some bytes = rw told at read in
-            let name : file ≡ f = ap (λ o. unwrap_or o f) same_file in
-            let P : List ℕ → Type 0 = λ g. held g ≡ Some bytes in
-            let both : Some bytes ≡ Some c = sym (subst P name here) ∙ there in
-            let body : bytes ≡ c = ap (λ o. unwrap_or o c) both in
-            let ends : Err b ≡ Ok state = sym bad ∙ ap first_script body ∙ fine in
-            cc
+  was : (file bytes : List ℕ) (script : Script) → IsNamed form files file bytes → HasAskedAll form files file bytes → HasScript form files file bytes script → WasRead form files report out err script
+  was file bytes script n a s = record { file = file; bytes = bytes; named = n; asked = a; read = s }
+
+  -- what each status says
+  of_done : (due : Due) → IsDueRun form files due → IsReported due report out err → report.status ≡ status.Done → IsDone form files report out err
+  of_done due (no_file a b c) r h = absurd (let x = due_status usage_due report out err status.Done r (λ e. cc) h in cc)
+  of_done due (not_read file a b c) r h = absurd (let x = due_status (read_fault_due file) report out err status.Done r (λ e. cc) h in cc)
+  of_done due (stopped file bytes name a b) r h = absurd (let x = due_status (read_fault_due name) report out err status.Done r (λ e. cc) h in cc)
+  of_done due (refused file bytes b n a f) r h = absurd (let x = due_status (bad_line_due b) report out err status.Done r (λ e. cc) h in cc)
+  of_done due (was_read file bytes script d n a s for) r h = for_done script (was file bytes script n a s) d for r h
+
+  of_differs : (due : Due) → IsDueRun form files due → IsReported due report out err → report.status ≡ status.Differs → IsDiffering form files report out err
+  of_differs due (no_file a b c) r h = absurd (let x = due_status usage_due report out err status.Differs r (λ e. cc) h in cc)
+  of_differs due (not_read file a b c) r h = absurd (let x = due_status (read_fault_due file) report out err status.Differs r (λ e. cc) h in cc)
+  of_differs due (stopped file bytes name a b) r h = absurd (let x = due_status (read_fault_due name) report out err status.Differs r (λ e. cc) h in cc)
+  of_differs due (refused file bytes b n a f) r h = absurd (let x = due_status (bad_line_due b) report out err status.Differs r (λ e. cc) h in cc)
+  of_differs due (was_read file bytes script d n a s for) r h = for_differs script (was file bytes script n a s) d for r h
+
+  of_spent : (due : Due) → IsDueRun form files due → IsReported due report out err → report.status ≡ status.Spent → IsSpentRun form files report out err
+  of_spent due (no_file a b c) r h = absurd (let x = due_status usage_due report out err status.Spent r (λ e. cc) h in cc)
+  of_spent due (not_read file a b c) r h = absurd (let x = due_status (read_fault_due file) report out err status.Spent r (λ e. cc) h in cc)
+  of_spent due (stopped file bytes name a b) r h = absurd (let x = due_status (read_fault_due name) report out err status.Spent r (λ e. cc) h in cc)
+  of_spent due (refused file bytes b n a f) r h = absurd (let x = due_status (bad_line_due b) report out err status.Spent r (λ e. cc) h in cc)
+  of_spent due (was_read file bytes script d n a s for) r h = for_spent script (was file bytes script n a s) d for r h
+
+  of_refused : (due : Due) → IsDueRun form files due → IsReported due report out err → report.status ≡ status.Refused → IsBad form files report out err ⊎ IsLimited form files report out err
+  of_refused due (no_file a b c) r h = absurd (let x = due_status usage_due report out err status.Refused r (λ e. cc) h in cc)
+  of_refused due (not_read file a b c) r h = absurd (let x = due_status (read_fault_due file) report out err status.Refused r (λ e. cc) h in cc)
+  of_refused due (stopped file bytes name a b) r h = absurd (let x = due_status (read_fault_due name) report out err status.Refused r (λ e. cc) h in cc)
+  of_refused due (refused file bytes b n a f) r h = inl (record { file = file; bytes = bytes; bad = b; named = n; asked = a; first_bad = f; line = err_text_of (bad_line_due b) report out err r (λ e. let clash = sym h ∙ e in cc) })
+  of_refused due (was_read file bytes script d n a s for) r h = inr (for_refused script (was file bytes script n a s) d for r h)
+
+  of_read_fault : (due : Due) → IsDueRun form files due → IsReported due report out err → report.status ≡ status.ReadFault → IsReadFault form files report out err
+  of_read_fault due (no_file a b c) r h = absurd (let x = due_status usage_due report out err status.ReadFault r (λ e. cc) h in cc)
+  of_read_fault due (not_read file a b c) r h = record { before = []; name = file; asked = b; rose = c; line = err_text_of (read_fault_due file) report out err r (λ e. let clash = sym h ∙ e in cc) }
+  of_read_fault due (stopped file bytes name a b) r h = record { before = file ∷ b.before; name = name; asked = b.asked; rose = b.rose; line = err_text_of (read_fault_due name) report out err r (λ e. let clash = sym h ∙ e in cc) }
+  of_read_fault due (refused file bytes b n a f) r h = absurd (let x = due_status (bad_line_due b) report out err status.ReadFault r (λ e. cc) h in cc)
+  of_read_fault due (was_read file bytes script d n a s for) r h = absurd (for_none script (was file bytes script n a s) status.ReadFault (λ e. cc) (λ e. cc) (λ e. cc) (λ e. cc) (λ e. cc) d for r h)
+
+  of_usage : (due : Due) → IsDueRun form files due → IsReported due report out err → report.status ≡ status.Usage → form ≡ None
+  of_usage due (no_file a b c) r h = a
+  of_usage due (not_read file a b c) r h = absurd (let x = due_status (read_fault_due file) report out err status.Usage r (λ e. cc) h in cc)
+  of_usage due (stopped file bytes name a b) r h = absurd (let x = due_status (read_fault_due name) report out err status.Usage r (λ e. cc) h in cc)
+  of_usage due (refused file bytes b n a f) r h = absurd (let x = due_status (bad_line_due b) report out err status.Usage r (λ e. cc) h in cc)
+  of_usage due (was_read file bytes script d n a s for) r h = absurd (for_none script (was file bytes script n a s) status.Usage (λ e. cc) (λ e. cc) (λ e. cc) (λ e. cc) (λ e. cc) d for r h)
+
+  -- a status that is due, or a write fault
+  or_write_fault : (due : Due) (t : Status) → due.status ≡ t → IsReported due report out err → (report.status ≡ t) ⊎ (report.status ≡ status.WriteFault)
+  or_write_fault due t is r = elim (status_of due report out err r) [ inl s ↦ inl (s ∙ is) | inr w ↦ inr w.0 ]
+
+  of_file_fault : (due : Due) → IsDueRun form files due → IsReported due report out err → files.faults_before < files.faults_after → (report.status ≡ status.ReadFault) ⊎ (report.status ≡ status.WriteFault)
+  of_file_fault due (no_file a b c) r h = absurd (omega (arith, c, h))
+  of_file_fault due (not_read file a b c) r h = or_write_fault (read_fault_due file) status.ReadFault refl r
+  of_file_fault due (stopped file bytes name a b) r h = or_write_fault (read_fault_due name) status.ReadFault refl r
+  of_file_fault due (refused file bytes b n a f) r h = let c = a.no_fault in absurd (omega (arith, c, h))
+  of_file_fault due (was_read file bytes script d n a s for) r h = let c = a.no_fault in absurd (omega (arith, c, h))
+
+  of_bad_words : (due : Due) → IsDueRun form files due → IsReported due report out err → form ≡ None → (report.status ≡ status.Usage) ⊎ (report.status ≡ status.WriteFault)
+  of_bad_words due (no_file a b c) r h = or_write_fault usage_due status.Usage refl r
+  of_bad_words due (not_read file a b c) r h = absurd (let clash = sym h ∙ a in cc)
+  of_bad_words due (stopped file bytes name a b) r h = absurd (let clash = sym h ∙ a.named in cc)
+  of_bad_words due (refused file bytes b n a f) r h = absurd (let clash = sym h ∙ n.named in cc)
+  of_bad_words due (was_read file bytes script d n a s for) r h = absurd (let clash = sym h ∙ n.named in cc)
+
+  -- the script that the words name
+  module _ (f c : List ℕ) (held : List ℕ → Option (List ℕ)) (is : form ≡ Some f) (told : files.contents ≡ Some held) (holds : held f ≡ Some c) where
+    told_of : (P : (List ℕ → Option (List ℕ)) → Type 0) → IfSome files.contents P → P held
+    told_of P h = let Q : Option (List ℕ → Option (List ℕ)) → Type 0 = λ o. IfSome o P in subst Q told h
+
+    same_file : (file bytes : List ℕ) → IsNamed form files file bytes → file ≡ f
+    same_file file bytes n = ap (λ o. unwrap_or o f) (sym n.named ∙ is)
+
+    same_bytes : (file bytes : List ℕ) → IsNamed form files file bytes → bytes ≡ c
+    same_bytes file bytes n =
+        let there : held file ≡ Some bytes = told_of (λ g. g file ≡ Some bytes) n.holds in
+        let P : List ℕ → Type 0 = λ g. held g ≡ Some bytes in
+        ap (λ o. unwrap_or o c) (sym (subst P (same_file file bytes n) there) ∙ holds)
+
+    same_read : (file bytes : List ℕ) → IsNamed form files file bytes → script_read file (bytes_in held) bytes ≡ script_read f (bytes_in held) c
+    same_read file bytes n = ap (λ g. script_read g (bytes_in held) bytes) (same_file file bytes n) ∙ ap (λ b. script_read f (bytes_in held) b) (same_bytes file bytes n)
+
+    bad_of : (file bytes : List ℕ) (b : Bad) → IsNamed form files file bytes → IfSome files.contents (λ held. script_read file (bytes_in held) bytes ≡ Err b) → script_read f (bytes_in held) c ≡ Err b
+    bad_of file bytes b n h = sym (same_read file bytes n) ∙ told_of (λ held. script_read file (bytes_in held) bytes ≡ Err b) h
+
+    given_of : (file bytes : List ℕ) (script : Script) → IsNamed form files file bytes → HasScript form files file bytes script → IsOkAnd (script_read f (bytes_in held) c) (λ s. written_script script ≡ script_given s)
+    given_of file bytes script n h =
+        let P : Result State Bad → Type 0 = λ r. IsOkAnd r (λ s. written_script script ≡ script_given s) in
+        subst P (same_read file bytes n) (told_of (λ held. IsOkAnd (script_read file (bytes_in held) bytes) (λ s. written_script script ≡ script_given s)) h)
+
+    of_bad_line : (bad : Bad) → script_read f (bytes_in held) c ≡ Err bad → IsCalm form files report out err → (due : Due) → IsDueRun form files due → IsReported due report out err → report.status ≡ status.Refused
+    of_bad_line bad e calm due (no_file a b d) r = absurd (let clash = sym a ∙ is in cc)
+    of_bad_line bad e calm due (not_read file a b d) r = absurd (calm.files_calm d)
+    of_bad_line bad e calm due (stopped file bytes name a b) r = absurd (calm.files_calm b.rose)
+    of_bad_line bad e calm due (refused file bytes b n a g) r = calm_status (bad_line_due b) report out err r calm.sinks_calm
+    of_bad_line bad e calm due (was_read file bytes script d n a s for) r =
+        let P : Result State Bad → Type 0 = λ o. IsOkAnd o (λ t. written_script script ≡ script_given t) in
+        absurd (subst P e (given_of file bytes script n s))
+
+    of_complete : (state : State) → script_read f (bytes_in held) c ≡ Ok state → IsCalm form files report out err → (due : Due) → IsDueRun form files due → IsReported due report out err → IsComplete form files report out err state
+    of_complete state e calm due (no_file a b d) r = absurd (let clash = sym a ∙ is in cc)
+    of_complete state e calm due (not_read file a b d) r = absurd (calm.files_calm d)
+    of_complete state e calm due (stopped file bytes name a b) r = absurd (calm.files_calm b.rose)
+    of_complete state e calm due (refused file bytes b n a g) r = absurd (let clash = sym e ∙ bad_of file bytes b n g in cc)
+    of_complete state e calm due (was_read file bytes script d n a s for) r =
+        let P : Result State Bad → Type 0 = λ o. IsOkAnd o (λ t. written_script script ≡ script_given t) in
+        for_complete script (was file bytes script n a s) state (subst P e (given_of file bytes script n s)) calm.sinks_calm d for r
 
   pub explained : IsRun form files report out err → IsExplained form files report out err
-  explained (no_file none asked calm r) = explained_usage none r
-  explained (not_read file named asked rose r) = explained_not_read file named asked rose r
-  explained (was_read file bytes named asked calm read r) = by (first_script bytes) refl r
-    where
-      by : (o : Result State Bad) → first_script bytes ≡ o → IsReported (script_due file o) report out err → IsExplained form files report out err
-      by (Ok s) e r = explained_ok file bytes named read s e r
-      by (Err b) e r = explained_bad file bytes named read b e r
+  explained run = record {
+    done = of_done run.due run.is_due run.reported;
+    differs = of_differs run.due run.is_due run.reported;
+    refused = of_refused run.due run.is_due run.reported;
+    read_fault = of_read_fault run.due run.is_due run.reported;
+    write_fault = fault_of run.due report out err (run_calm form files run.due run.is_due) run.reported;
+    spent = of_spent run.due run.is_due run.reported;
+    usage = of_usage run.due run.is_due run.reported;
+    file_fault = of_file_fault run.due run.is_due run.reported;
+    out_fault = out_fault_of run.due report out err run.reported;
+    err_fault = err_fault_of run.due report out err run.reported;
+    bad_words = of_bad_words run.due run.is_due run.reported;
+    bad_line = λ f c held bad is told holds e calm. of_bad_line f c held is told holds bad e calm run.due run.is_due run.reported;
+    complete = λ f c held state is told holds e calm. of_complete f c held is told holds state e calm run.due run.is_due run.reported;
+  }

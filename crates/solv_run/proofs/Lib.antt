@@ -1,7 +1,8 @@
-pub mod Best
-pub mod WrittenTasks
-pub mod Marks
-pub mod LineSets
-pub mod Reported
-pub mod ReadRuns
-pub mod Explaining
+mod Reported
+mod Fetched
+mod Explaining
+mod Singles
+mod CheckLines
+mod Said
+mod Bookable
+mod AnswerLines

@@ -1,16 +1,21 @@
 -- What is due in a run: its status, the texts for both sinks, and the answers.
-use Rattle.std.specs.Prelude.{ℕ, List, [], ◌∷◌, ◌++◌, codes, Result, Ok, Err}
+use Rattle.std.specs.Prelude.{ℕ, Bool, true, false, List, [], ◌∷◌, ◌++◌, codes, if◌then◌else◌}
 use Rattle.std.specs.Fmt.{decimal}
 use Rattle.solv_io.specs.declared.status.Status.{Status}
 use Rattle.solv_io.specs.declared.status.Status.TheVariants as status
 use Rattle.solv_commands.specs.Causes.{cause_name}
-use Rattle.solv_script.specs.FirstScript.{State, Bad}
-use Rattle.solv_script.specs.Reads.{script_of}
+use Rattle.solv_pool.specs.Catalog.{catalog_of}
+use Rattle.solv_pool.specs.PackageText.{package_text}
+use Rattle.solv_pool.specs.declared.tasks.Task.{Task}
+use Rattle.solv_rules.specs.declared.fault.BookFault.{BookFault}
+use Rattle.solv_rules.specs.declared.fault.BookFault.TheVariants.{TooRich, TooManyWords, Memory}
+use Rattle.solv_script.specs.Grammar.{Bad}
+use Rattle.solv_script.specs.declared.scripts.Script.{Script}
+use Rattle.solv_answers.specs.declared.answers.Answer.{Answer}
+use Rattle.solv_answers.specs.declared.answers.Answer.TheVariants.{Transaction, Problems, Spent}
+use Rattle.solv_run.specs.Checks.{are_true}
 use Rattle.solv_run.specs.CommandLine.{usage_line}
-use Rattle.solv_run.specs.Picks.{picked}
-use Rattle.solv_run.specs.ResultLines.{result_text}
-use Rattle.solv_run.specs.declared.reports.Answer.{Answer}
-use Rattle.solv_run.specs.declared.reports.Answer.TheVariants.{First}
+use Rattle.solv_run.specs.Texts.{printed}
 
 pub record Due : Type 0 where
   pub status : Status
@@ -18,27 +23,61 @@ pub record Due : Type 0 where
   pub err : List ℕ
   pub answers : List Answer
 
+-- one line, and nothing else
+abbrev pub line_due : Status → List ℕ → Due
+line_due status line = record { status = status; out = []; err = line; answers = [] }
+
 -- words that are not of the form
 abbrev pub usage_due : Due
-usage_due = record { status = status.Usage; out = []; err = usage_line; answers = [] }
+usage_due = line_due status.Usage usage_line
 
 -- a file that cannot be read
 abbrev pub read_fault_line : List ℕ → List ℕ
 read_fault_line file = codes "testsolv: cannot read " ++ (file ++ codes "\n")
 
 abbrev pub read_fault_due : List ℕ → Due
-read_fault_due file = record { status = status.ReadFault; out = []; err = read_fault_line file; answers = [] }
+read_fault_due file = line_due status.ReadFault (read_fault_line file)
 
--- a script with a bad line: its file, the line's number and the cause
-abbrev pub bad_line : List ℕ → Bad → List ℕ
-bad_line file b = codes "testsolv: " ++ (file ++ (codes ":" ++ (decimal b.line ++ (codes ": " ++ (cause_name b.cause ++ codes "\n")))))
+-- a bad line: its file, its number and its cause
+abbrev pub bad_line : Bad → List ℕ
+bad_line b = codes "testsolv: " ++ (b.file ++ (codes ":" ++ (decimal b.line ++ (codes ": " ++ (cause_name b.cause ++ codes "\n")))))
 
--- a script that was read, or its first bad line
-abbrev pub script_due : List ℕ → Result State Bad → Due
-script_due file (Ok s) = record {
-  status = status.Done;
-  out = result_text (script_of s).task;
-  err = [];
-  answers = First (0 ∷ picked (script_of s).task) ∷ [];
+abbrev pub bad_line_due : Bad → Due
+bad_line_due b = line_due status.Refused (bad_line b)
+
+-- a limit that the clauses of a task pass
+abbrev pub limit_line : Task → BookFault → List ℕ
+limit_line task (TooRich pack dep count) = codes "testsolv: " ++ (package_text task.pool task.universe pack ++ (codes ": TooRich " ++ (decimal count ++ codes "\n")))
+limit_line task (TooManyWords words) = codes "testsolv: TooManyWords " ++ (decimal words ++ codes "\n")
+limit_line task Memory = []
+
+abbrev pub limit_due : Task → BookFault → Due
+limit_due task fault = line_due status.Refused (limit_line task fault)
+
+-- the budget of learnt rules
+abbrev pub budget : ℕ
+budget = 100000
+
+-- a budget that is spent
+abbrev pub spent_line : List ℕ
+spent_line = codes "testsolv: budget of 100000 learnt rules spent\n"
+
+abbrev pub is_spent : Answer → Bool
+is_spent (Transaction trail set made ordered) = false
+is_spent (Problems problems) = false
+is_spent (Spent ledger) = true
+
+-- the status of an answer: whether the budget is spent, and else whether all comparisons are true
+abbrev pub answer_status : Script → Answer → Status
+answer_status script answer =
+    if is_spent answer then status.Spent
+    else (if are_true script.checks then status.Done else status.Differs)
+
+-- an answer to a script
+abbrev pub answer_due : Script → Answer → Due
+answer_due script answer = record {
+  status = answer_status script answer;
+  out = printed script answer;
+  err = if is_spent answer then spent_line else [];
+  answers = answer ∷ [];
 }
-script_due file (Err b) = record { status = status.Refused; out = []; err = bad_line file b; answers = [] }

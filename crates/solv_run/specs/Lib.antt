@@ -1,10 +1,9 @@
 pub mod CommandLine
-pub mod Picks
-pub mod ResultLines
-pub mod BestSoFar
-pub mod Taken
+pub mod Checks
+pub mod Texts
+pub mod Outcomes
 pub mod Dues
 pub mod Runs
-pub mod Said
-pub mod Faults
+pub mod Cases
 pub mod Explained
+pub mod Phases

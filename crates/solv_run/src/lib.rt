@@ -1,16 +1,16 @@
 //! The top call.
 #![tactic(auto)]
 
-mod answers;
+mod checks;
 mod command_line;
-mod picks;
+mod printing;
 mod reports;
-mod result_lines;
 mod running;
 mod saying;
 mod top;
 
-pub use reports::{Answer, Report};
+pub use reports::Report;
+pub use solv_answers::Answer;
 pub use top::run;
 
 #[cfg(test)]

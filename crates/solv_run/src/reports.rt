@@ -1,16 +1,9 @@
 //! What the top call answers.
+use solv_answers::Answer;
 use solv_io::Status;
 use solv_list::Items;
-use solv_pool::PackNo;
 
-/// An answer to a script.
-#[derive(Drop)]
-pub enum Answer {
-    /// The system and the packages that the jobs pick, ascending.
-    First { set: Items<PackNo> },
-}
-
-/// How a run ended, and the answers that it reached.
+/// How a run ended, and the answer that it reached, if it reached one.
 #[derive(Drop)]
 pub struct Report {
     pub status: Status,

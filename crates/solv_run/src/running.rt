@@ -1,128 +1,130 @@
-//! What is said for a script, and for words and files that give none.
-ghost use Rattle.std.specs.Prelude.{◌≡◌, ◌∷◌, [], ℕ, List, Option, Some, None, Ok, Err, IfOk, map, string_bytes, true};
+//! What is said for a script.
+ghost use Rattle.std.specs.Prelude.{◌≡◌, ◌∷◌, [], true, Some, None, IfOk, if◌then◌else◌};
 ghost use Rattle.std.specs.List.{list_all};
-ghost use Rattle.solv_script.specs.FirstScript.{first_script, Bad, State};
+ghost use Rattle.solv_pool.specs.Catalog.{catalog_of};
+ghost use Rattle.solv_pool.specs.HardRules.{hard_rules};
 ghost use Rattle.solv_pool.specs.TaskBelonging.{IsClosed};
-ghost use Rattle.solv_pool.specs.Written.{written_task};
-ghost use Rattle.solv_run.specs.Picks.{picked};
-ghost use Rattle.solv_run.specs.ResultLines.{result_text as answer_text};
-ghost use Rattle.solv_run.specs.Said.{IsSaid};
-ghost use Rattle.solv_run.specs.Faults.{bad_line_in};
-ghost use Rattle.solv_run.specs.declared.reports.Answer.TheVariants.{First};
-ghost use Rattle.solv_run.specs.CommandLine.{file_named, usage_line};
-ghost use Rattle.solv_run.specs.Dues.{script_due, usage_due, read_fault_due, bad_line, read_fault_line};
-ghost use Rattle.solv_run.specs.Runs.{SinkRun, FilesRun, IsReported, IsRun};
+ghost use Rattle.solv_tags.specs.EntryForms.{asks_for_singles};
+ghost use Rattle.solv_rules.specs.Books.{first_fault};
+ghost use Rattle.solv_answers.specs.Answers.{IsAnswer, IsPrepared};
+ghost use Rattle.solv_run.specs.Cases.{IsSaidFor};
+ghost use Rattle.solv_run.specs.Dues.{answer_due, answer_status, is_spent, spent_line};
+ghost use Rattle.solv_run.specs.Runs.{SinkRun, IsReported};
 
-use crate::answers::answer;
-use crate::reports::{Answer, Report};
-use crate::result_lines::result_text;
-use crate::saying::{USAGE, bad_line_text, read_fault_text, say};
+use crate::checks::are_true;
+use crate::printing::printed;
+use crate::reports::Report;
+use crate::saying::{SPENT, limit_text, say, say_line};
+use solv_answers::{Answer, Prepared, answer, prepare};
 use solv_io::{Sink, Status};
 use solv_list::Items;
-use solv_pool::{PackNo, Task};
-use solv_script::{Cause, ScriptFault, read_first};
+use solv_rules::BookFault;
+use solv_script::Script;
 use std::alloc::{AllocError, Global};
 
-/// The packages that the jobs of a task pick, and what is printed for them.
-fn solved(alloc: Global, task: &Task) -> Result<(Vec<PackNo>, Vec<u8>), AllocError>
-    requires { IsClosed task.now }
-    ensures set { IfOk result (λ answer. answer.0.items ≡ 0 ∷ picked (written_task task.now)) }
-    ensures text { IfOk result (λ answer. answer.1.items ≡ answer_text (written_task task.now)) }
-{
-    let set = answer(alloc, task)?;
-    let text = result_text(alloc, task, &set[1..])?;
-    Ok((set, text))
-}
+/// The most rules that are learnt.
+const BUDGET: u32 = 100_000;
 
-/// Says what the jobs of a task pick.
-fn say_answer<O: Sink>(alloc: Global, task: &Task, out: &mut O) -> Result<Report, AllocError>
-    requires { IsClosed task.now }
-    ensures { IfOk result (λ report. IsSaid Status.Done (answer_text (written_task task.now)) (First (0 ∷ picked (written_task task.now)) ∷ []) report
-        (O.written out.old) (O.written out.new) (O.faults out.old) (O.faults out.new)) }
+/// The status of an answer.
+fn status_of(script: &Script, answer: &Answer) -> Status
+    ensures { result ≡ answer_status script.now answer.now }
 {
-    let (set, text) = solved(alloc, task)?;
-    let mut answers = Items::wrap(Vec::new(alloc));
-    answers.push(Answer::First {
-        set: Items::wrap(set),
-    })?;
-    say(out, &text, Status::Done, answers)
-}
-
-/// Says the first bad line of a script.
-fn say_bad_line<E: Sink>(
-    alloc: Global,
-    file: &str,
-    line: u64,
-    cause: Cause,
-    err: &mut E,
-) -> Result<Report, AllocError>
-    ensures { IfOk result (λ report. IsSaid Status.Refused (bad_line file.now (record { line = line; cause = cause })) [] report
-        (E.written err.old) (E.written err.new) (E.faults err.old) (E.faults err.new)) }
-{
-    let text = bad_line_text(alloc, file, line, cause)?;
-    say(
-        err,
-        text.as_bytes(),
-        Status::Refused,
-        Items::wrap(Vec::new(alloc)),
-    )
-}
-
-/// Says that a file cannot be read.
-pub(crate) fn say_read_fault<E: Sink>(
-    alloc: Global,
-    file: &str,
-    err: &mut E,
-) -> Result<Report, AllocError>
-    ensures { IfOk result (λ report. IsSaid Status.ReadFault (read_fault_line file.now) [] report
-        (E.written err.old) (E.written err.new) (E.faults err.old) (E.faults err.new)) }
-{
-    let text = read_fault_text(alloc, file)?;
-    say(
-        err,
-        text.as_bytes(),
-        Status::ReadFault,
-        Items::wrap(Vec::new(alloc)),
-    )
-}
-
-/// Says the form of a command line.
-pub(crate) fn say_usage<E: Sink>(alloc: Global, err: &mut E) -> Result<Report, AllocError>
-    ensures { IfOk result (λ report. IsSaid Status.Usage usage_line [] report
-        (E.written err.old) (E.written err.new) (E.faults err.old) (E.faults err.new)) }
-{
-    say(err, USAGE, Status::Usage, Items::wrap(Vec::new(alloc)))
-}
-
-/// The bad line of a refusal. Where a script names no other file, every other fault is want of memory.
-fn bad_line_of(fault: ScriptFault) -> Option<(u64, Cause)>
-    ensures { result ≡ bad_line_in fault }
-{
-    match fault {
-        ScriptFault::Refused { line, cause, .. } => Some((line, cause)),
-        _ => None,
+    if let Answer::Spent(_) = answer {
+        return Status::Spent;
+    }
+    if are_true(script.checks.held()) {
+        Status::Done
+    } else {
+        Status::Differs
     }
 }
 
-/// Reads a script and says what is due for it.
-pub(crate) fn run_script<O: Sink, E: Sink>(
+/// The line on `err` for an answer: a spent budget has one, and any other answer none.
+fn line_of(answer: &Answer) -> &'static [u8]
+    ensures { result.now ≡ (if is_spent answer.now then spent_line else []) }
+{
+    match answer {
+        Answer::Spent(_) => SPENT,
+        _ => b"",
+    }
+}
+
+/// Says an answer to a script.
+fn say_answer<O: Sink, E: Sink>(
     alloc: Global,
-    file: &str,
-    bytes: Vec<u8>,
+    script: &Script,
+    prepared: &Prepared,
+    answer: Answer,
     out: &mut O,
     err: &mut E,
 ) -> Result<Report, AllocError>
-    ensures { IfOk result (λ report. IsReported (script_due file.now (first_script bytes.items)) report
+    requires closed { IsClosed script.now.task }
+    requires prepared { IsPrepared script.now.task prepared.now }
+    ensures { IfOk result (λ report. IsReported (answer_due script.now answer) report
         (record { before = O.written out.old; after = O.written out.new; faults_before = O.faults out.old; faults_after = O.faults out.new })
         (record { before = E.written err.old; after = E.written err.new; faults_before = E.faults err.old; faults_after = E.faults err.new })) }
 {
-    let read = read_first(alloc, file, &bytes);
-    drop(bytes);
-    match read {
-        Ok(script) => say_answer(alloc, &script.task, out),
-        Err(fault) => match bad_line_of(fault) {
-            Some((line, cause)) => say_bad_line(alloc, file, line, cause, err),
-            None => Err(AllocError),
-        },
+    let text = printed(alloc, script, prepared, &answer)?;
+    let status = status_of(script, &answer);
+    let line = line_of(&answer);
+    let mut answers = Items::wrap(Vec::new(alloc));
+    answers.push(answer)?;
+    say(out, err, &text, line, status, answers)
+}
+
+/// Answers a script and says it.
+fn say_answered<O: Sink, E: Sink>(
+    alloc: Global,
+    script: &Script,
+    prepared: &Prepared,
+    out: &mut O,
+    err: &mut E,
+) -> Result<Report, AllocError>
+    requires closed { IsClosed script.now.task }
+    requires singly { list_all (asks_for_singles (catalog_of script.now.task)) script.now.task.universe.packages ≡ true }
+    requires prepared { IsPrepared script.now.task prepared.now }
+    ensures { IfOk result (λ report. IsSaidFor script.now report
+        (record { before = O.written out.old; after = O.written out.new; faults_before = O.faults out.old; faults_after = O.faults out.new })
+        (record { before = E.written err.old; after = E.written err.new; faults_before = E.faults err.old; faults_after = E.faults err.new })) }
+{
+    let answer = answer(alloc, &script.task, prepared, BUDGET)?;
+    say_answer(alloc, script, prepared, answer, out, err)
+}
+
+/// Says the limit that the clauses of a script's task pass.
+fn say_limit<O: Sink, E: Sink>(
+    alloc: Global,
+    script: &Script,
+    fault: BookFault,
+    out: &mut O,
+    err: &mut E,
+) -> Result<Report, AllocError>
+    requires closed { IsClosed script.now.task }
+    requires passed { first_fault (catalog_of script.now.task) 0 (hard_rules script.now.task) ≡ Some fault }
+    ensures { IfOk result (λ report. IsSaidFor script.now report
+        (record { before = O.written out.old; after = O.written out.new; faults_before = O.faults out.old; faults_after = O.faults out.new })
+        (record { before = E.written err.old; after = E.written err.new; faults_before = E.faults err.old; faults_after = E.faults err.new })) }
+{
+    let line = limit_text(alloc, &script.task, fault)?;
+    say_line(alloc, &line, Status::Refused, out, err)
+}
+
+/// Says what is due for a script that was read.
+pub(crate) fn run_script<O: Sink, E: Sink>(
+    alloc: Global,
+    script: &Script,
+    out: &mut O,
+    err: &mut E,
+) -> Result<Report, AllocError>
+    requires closed { IsClosed script.now.task }
+    requires singly { list_all (asks_for_singles (catalog_of script.now.task)) script.now.task.universe.packages ≡ true }
+    ensures { IfOk result (λ report. IsSaidFor script.now report
+        (record { before = O.written out.old; after = O.written out.new; faults_before = O.faults out.old; faults_after = O.faults out.new })
+        (record { before = E.written err.old; after = E.written err.new; faults_before = E.faults err.old; faults_after = E.faults err.new })) }
+{
+    match prepare(alloc, &script.task) {
+        Ok(prepared) => say_answered(alloc, script, &prepared, out, err),
+        Err(BookFault::Memory) => Err(AllocError),
+        Err(fault) => say_limit(alloc, script, fault, out, err),
     }
 }

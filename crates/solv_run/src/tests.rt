@@ -6,6 +6,123 @@ use std::alloc::{AllocError, Global};
 use std::process::Abort;
 use std::test::Fail;
 
+/// Scripts that are answered, and what is printed for them.
+const ANSWERED: [(&str, &str); 18] = [
+    // Two versions of one name.
+    (
+        "repo system 0 empty\nrepo available 0 testtags <inline>\n#>=Pkg: N 1 1 noarch\n#>=Pkg: N 2 1 noarch\n#>=Pkg: M 1 1 noarch\nsystem x86_64 rpm system\njob install name N\njob install name N\n",
+        "install N-2-1.noarch@available\n",
+    ),
+    // Two repositories.
+    (
+        "repo system 0 empty\nrepo available 0 testtags <inline>\n#>=Pkg: N 1 1 noarch\n#>=Pkg: N 2 1 noarch\n#>=Pkg: M 1 1 noarch\nsystem x86_64 rpm system\njob install name N\njob update name N\n",
+        "install N-2-1.noarch@available\n",
+    ),
+    // An erased package with a best update.
+    (
+        "repo system 0 testtags <inline>\n#>=Pkg: A 1 1 noarch\nrepo available 0 testtags <inline>\n#>=Pkg: A 2 1 noarch\n#>=Pkg: A 2 1 noarch\nsystem x86_64 rpm system\njob update name A [forcebest]\njob erase pkg A-1-1.noarch@system\n",
+        "upgrade A-1-1.noarch@system A-2-1.noarch@available\n",
+    ),
+    // Candidates of several names.
+    (
+        "repo system 0 empty\nrepo available 0 testtags <inline>\n#>=Pkg: a 1 1 noarch\n#>=Prv: virtual\n#>=Pkg: b 2 1 noarch\n#>=Prv: virtual\n#>=Pkg: a 3 1 noarch\n#>=Pkg: a 2 1 noarch\n#>=Prv: virtual\nsystem x86_64 rpm system\njob install provides virtual\n",
+        "install a-2-1.noarch@available\n",
+    ),
+    // Nothing.
+    ("", ""),
+    // A requirement with a version.
+    (
+        "repo system 0 empty\nrepo available 0 testtags <inline>\n#>=Pkg: A 1 1 noarch\n#>=Req: lib >= 2\n#>=Pkg: lib 1 1 noarch\n#>=Pkg: lib 2 1 noarch\n#>=Pkg: other 1 1 noarch\n#>=Prv: lib\nsystem x86_64 rpm system\njob install name A\n",
+        "install A-1-1.noarch@available\ninstall lib-2-1.noarch@available\n",
+    ),
+    // An update that cannot be had.
+    (
+        "repo system 0 testtags <inline>\n#>=Pkg: A 1 1 noarch\nrepo available 0 testtags <inline>\n#>=Pkg: A 2 1 noarch\n#>=Req: missing\nsystem x86_64 rpm system\njob update name A\n",
+        "",
+    ),
+    // A downgrade that is asked for.
+    (
+        "repo system 0 testtags <inline>\n#>=Pkg: A 2 1 noarch\nrepo available 0 testtags <inline>\n#>=Pkg: A 1 1 noarch\nsystem x86_64 rpm system\njob install name A = 1\n",
+        "downgrade A-2-1.noarch@system A-1-1.noarch@available\n",
+    ),
+    // A name that nothing provides.
+    (
+        "repo system 0 empty\nrepo available 0 testtags <inline>\nsystem x86_64 rpm system\njob install name nosuch\n",
+        "problem 1 info nothing provides requested nosuch\n",
+    ),
+    // A broken requirement of an installed package.
+    (
+        "repo system 0 testtags <inline>\n#>=Pkg: B 1 1 noarch\n#>=Req: missing\nrepo available 0 testtags <inline>\n#>=Pkg: C 1 1 noarch\nsystem x86_64 rpm system\njob install name C\n",
+        "install C-1-1.noarch@available\n",
+    ),
+    // A package that conflicts with itself.
+    (
+        "repo system 0 empty\nrepo available 0 testtags <inline>\n#>=Pkg: P 1 1 noarch\n#>=Prv: x\n#>=Con: x\nsystem x86_64 rpm system\njob install name P\n",
+        "install P-1-1.noarch@available\n",
+    ),
+    // Inferior architectures that are not minded.
+    (
+        "repo system 0 empty\nrepo available 0 testtags <inline>\n#>=Pkg: A 1 1 i686\n#>=Pkg: A 1 1 x86_64\nsystem x86_64 rpm system\nsolverflags noinfarchcheck\njob install pkg A-1-1.i686@available\n",
+        "install A-1-1.i686@available\n",
+    ),
+    // An obsoletion.
+    (
+        "repo system 0 testtags <inline>\n#>=Pkg: old 1 1 noarch\nrepo available 0 testtags <inline>\n#>=Pkg: new 1 1 noarch\n#>=Obs: old\nsystem x86_64 rpm system\njob update all packages\n",
+        "install new-1-1.noarch@available\nobsolete old-1-1.noarch@system new-1-1.noarch@available\n",
+    ),
+    // Versions beside each other.
+    (
+        "repo system 0 testtags <inline>\n#>=Pkg: kernel 2 1 noarch\nrepo available 0 testtags <inline>\n#>=Pkg: kernel 3 1 noarch\nsystem x86_64 rpm system\njob multiversion name kernel\njob install name kernel = 3\n",
+        "install kernel-3-1.noarch@available\n",
+    ),
+    // A supplement by a namespace.
+    (
+        "repo system 0 empty\nrepo available 0 testtags <inline>\n#>=Pkg: lang-de 1 1 noarch\n#>=Sup: namespace:language(de)\nsystem x86_64 rpm system\nnamespace namespace:language(de) @SYSTEM\n",
+        "install lang-de-1-1.noarch@available\n",
+    ),
+    // The same without the namespace.
+    (
+        "repo system 0 empty\nrepo available 0 testtags <inline>\n#>=Pkg: lang-de 1 1 noarch\n#>=Sup: namespace:language(de)\nsystem x86_64 rpm system\n",
+        "",
+    ),
+    // A candidate that cannot be installed.
+    (
+        "repo system 0 empty\nrepo available 0 testtags <inline>\n#>=Pkg: A 1 1 noarch\n#>=Pkg: A 2 1 noarch\n#>=Req: missing\nsystem x86_64 rpm system\njob install name A\n",
+        "install A-1-1.noarch@available\n",
+    ),
+    // A favoured candidate.
+    (
+        "repo system 0 empty\nrepo available 0 testtags <inline>\n#>=Pkg: P 1 1 noarch\n#>=Req: lib\n#>=Pkg: la 1 1 noarch\n#>=Prv: lib\n#>=Pkg: lb 1 1 noarch\n#>=Prv: lib\nsystem x86_64 rpm system\njob favor name lb\njob install name P\n",
+        "install P-1-1.noarch@available\ninstall lb-1-1.noarch@available\n",
+    ),
+];
+
+/// Scripts with comparisons: true ones, and a false one.
+const COMPARED: [(&str, Status, &str); 2] = [
+    (
+        "evrcmp 1.0~rc1 < 1.0\nevrcmp 1.0^git1 > 1.0\nevrcmp 1.0^git1 < 1.0.1\nevrcmp 10 > 9\nevrcmp a < 1\nevrcmp 1.05 = 1.5\nevrcmp 1:1 > 9\n",
+        Status::Done,
+        "",
+    ),
+    (
+        "evrcmp 1.0~rc1 > 1.0\n",
+        Status::Differs,
+        "evrcmp 1.0~rc1 > 1.0 is false: <\n",
+    ),
+];
+
+/// Scripts with a bad line: a block that is not closed, and a job that there is none of.
+const REFUSED: [(&str, &str); 2] = [
+    (
+        "repo system 0 empty\nrepo available 0 testtags <inline>\n#>=Pkg: A 1 1 noarch\n#>+Req:\n#>B\nsystem x86_64 rpm system\n",
+        "testsolv: case.t:5: UnclosedBlock\n",
+    ),
+    (
+        "repo system 0 empty\nrepo available 0 testtags <inline>\n#>=Pkg: A 1 1 noarch\nsystem x86_64 rpm system\n\n# a comment\njob instal name A\n",
+        "testsolv: case.t:7: UnknownJob\n",
+    ),
+];
+
 /// Two packages of one name, and two jobs for it.
 const TWO_VERSIONS: &str =
     "repo system 0 empty\nrepo available 0 testtags <inline>\n#>=Pkg: N 1 1 noarch\n#>=Pkg: N 2 1 noarch\n#>=Pkg: M 1 1 noarch\nsystem x86_64 rpm system\njob install name N\njob install name N\n";
@@ -67,24 +184,7 @@ fn expect_run(
 
 #[test]
 fn answers_scripts(rt: HostRuntime) -> Result<(), Fail> {
-    let install =
-        "repo a 1 testtags <inline>\n#>=Pkg: x 1 1 noarch\nrepo b 0 testtags <inline>\n#>=Pkg: x 2 1 noarch\njob install name x\n";
-    let tie =
-        "repo a 0 testtags <inline>\n#>=Pkg: x 1.05 1 noarch\n#>=Pkg: x 1.5 1 noarch\njob install name x";
-    let alike =
-        "repo a 0 testtags <inline>\n#>=Pkg: x-1 2 - noarch\n#>=Pkg: x 1 2 noarch\njob install name x\njob install name x-1\n";
-    let sorted =
-        "repo a 0 testtags <inline>\n#>=Pkg: b 1 1 noarch\n#>=Pkg: a 1 1 noarch\njob install name b\njob install name a\n";
-    let cases = [
-        ("", ""),
-        ("# nothing\n\n", ""),
-        (TWO_VERSIONS, "install N-2-1.noarch@available\n"),
-        (install, "install x-1-1.noarch@a\n"),
-        (tie, "install x-1.05-1.noarch@a\n"),
-        (alike, "install x-1-2.noarch@a\n"),
-        (sorted, "install a-1-1.noarch@a\ninstall b-1-1.noarch@a\n"),
-    ];
-    for (script, out) in cases {
+    for (script, out) in ANSWERED {
         expect_run(
             &rt,
             rt.alloc(),
@@ -98,22 +198,23 @@ fn answers_scripts(rt: HostRuntime) -> Result<(), Fail> {
 }
 
 #[test]
+fn compares_versions(rt: HostRuntime) -> Result<(), Fail> {
+    for (script, status, out) in COMPARED {
+        expect_run(
+            &rt,
+            rt.alloc(),
+            &["testsolv", "case.t"],
+            script,
+            status,
+            (out, ""),
+        )?;
+    }
+    Ok(())
+}
+
+#[test]
 fn refuses_scripts(rt: HostRuntime) -> Result<(), Fail> {
-    let cases = [
-        (
-            "solverflags allowdowngrade\n",
-            "testsolv: case.t:1: NotBuilt\n",
-        ),
-        (
-            "repo a 0 empty\n#\nrepo a 0 empty\n",
-            "testsolv: case.t:3: DuplicateRepo\n",
-        ),
-        (
-            "repo a 0 testtags <inline>\n#>=Pkg: x 1 1 i686\n",
-            "testsolv: case.t:2: NotBuilt\n",
-        ),
-    ];
-    for (script, err) in cases {
+    for (script, err) in REFUSED {
         expect_run(
             &rt,
             rt.alloc(),
@@ -122,6 +223,37 @@ fn refuses_scripts(rt: HostRuntime) -> Result<(), Fail> {
             Status::Refused,
             ("", err),
         )?;
+    }
+    Ok(())
+}
+
+#[test]
+fn names_what_cannot_be_read(rt: HostRuntime) -> Result<(), Fail> {
+    let alloc = rt.alloc();
+    let words = command_line(alloc, &["testsolv", "d/case.t"])?;
+    let scripts = [
+        (
+            "repo available 0 testtags a.repo\n",
+            Status::ReadFault,
+            "testsolv: cannot read d/a.repo\n",
+            2,
+        ),
+        (
+            "repo available 0 testtags a.repo.gz\n",
+            Status::Refused,
+            "testsolv: d/case.t:1: Compressed\n",
+            1,
+        ),
+    ];
+    for (script, status, line, calls) in scripts {
+        let mut files = one_file(alloc, "d/case.t", script, &[])?;
+        let mut out = small_sink(alloc, &[])?;
+        let mut err = small_sink(alloc, &[])?;
+        let report = run(alloc, &words, &mut files, &mut out, &mut err)?;
+        assert_eq!(rt; report.status, status, "for {script}");
+        assert_eq!(rt; err.taken.held(), line.as_bytes(), "for {script}");
+        assert_eq!(rt; out.taken.len(), 0);
+        assert_eq!(rt; files.asked.len(), calls);
     }
     Ok(())
 }
@@ -186,6 +318,14 @@ fn reports_faults_of_the_error_stream(rt: HostRuntime) -> Result<(), Fail> {
     Ok(())
 }
 
+/// The set of a report that has one transaction.
+fn set_in(report: &Report) -> Option<&[PackNo]> {
+    match report.answers.held() {
+        [Answer::Transaction { set, .. }] => Some(set.held()),
+        _ => None,
+    }
+}
+
 #[test]
 fn gives_the_set(rt: HostRuntime) -> Result<(), Fail> {
     let alloc = rt.alloc();
@@ -196,8 +336,6 @@ fn gives_the_set(rt: HostRuntime) -> Result<(), Fail> {
     let report = run(alloc, &words, &mut files, &mut out, &mut err)?;
     assert_eq!(rt; report.status, Status::WriteFault);
     assert_eq!(rt; out.taken.held(), b"install ".as_slice());
-    assert_eq!(rt; report.answers.len(), 1);
-    let Answer::First { set } = &report.answers.held()[0];
-    assert_eq!(rt; set.held(), [PackNo(0), PackNo(2)].as_slice());
+    assert!(rt; set_in(&report) == Some([PackNo(0), PackNo(2)].as_slice()));
     Ok(())
 }

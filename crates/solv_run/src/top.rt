@@ -1,17 +1,82 @@
 //! The top call.
 ghost use Rattle.std.specs.Prelude.{◌≡◌, ℕ, List, Option, Some, None, IfOk, map, string_bytes};
+ghost use Rattle.solv_script.specs.FileRuns.{FilesRun, script_piece};
 ghost use Rattle.solv_run.specs.CommandLine.{file_named};
-ghost use Rattle.solv_run.specs.Runs.{SinkRun, FilesRun, IsRun};
+ghost use Rattle.solv_run.specs.Cases.{IsRun};
 ghost use Rattle.solv_run.specs.Explained.{IsExplained};
+ghost use Rattle.solv_run.specs.Dues.{read_fault_due};
+ghost use Rattle.solv_run.specs.Phases.{IsReportedFault, IsRunOfBytes};
+ghost use Rattle.solv_run.specs.Runs.{SinkRun, IsReported};
 
 use crate::command_line::file_named;
 use crate::reports::Report;
-use crate::running::{run_script, say_read_fault, say_usage};
-use solv_io::{FileFault, Files, Sink};
+use crate::running::run_script;
+use crate::saying::{USAGE, bad_line_text, read_fault_text, say_line};
+use solv_io::{FileFault, Files, Sink, Status};
+use solv_script::{ScriptFault, read_script};
 use std::alloc::{AllocError, Global};
 
 /// One more byte than a script may have, so that a script that is too long is seen to be.
 const MOST_FETCHED: usize = 67_108_865;
+
+/// Says that a file cannot be read.
+fn say_read_fault<O: Sink, E: Sink>(
+    alloc: Global,
+    file: &str,
+    out: &mut O,
+    err: &mut E,
+) -> Result<Report, AllocError>
+    ensures { IfOk result (λ report. IsReported (read_fault_due file.now) report
+        (record { before = O.written out.old; after = O.written out.new; faults_before = O.faults out.old; faults_after = O.faults out.new })
+        (record { before = E.written err.old; after = E.written err.new; faults_before = E.faults err.old; faults_after = E.faults err.new })) }
+{
+    let line = read_fault_text(alloc, file)?;
+    say_line(alloc, line.as_bytes(), Status::ReadFault, out, err)
+}
+
+/// Says why no script was read, unless memory was wanting.
+fn say_fault<O: Sink, E: Sink>(
+    alloc: Global,
+    fault: ScriptFault,
+    out: &mut O,
+    err: &mut E,
+) -> Result<Report, AllocError>
+    ensures { IfOk result (λ report. IsReportedFault fault report
+        (record { before = O.written out.old; after = O.written out.new; faults_before = O.faults out.old; faults_after = O.faults out.new })
+        (record { before = E.written err.old; after = E.written err.new; faults_before = E.faults err.old; faults_after = E.faults err.new })) }
+{
+    match fault {
+        ScriptFault::Refused { file, line, cause } => {
+            let text = bad_line_text(alloc, file.held(), line, cause)?;
+            say_line(alloc, text.as_bytes(), Status::Refused, out, err)
+        }
+        ScriptFault::ReadFault { name } => say_read_fault(alloc, name.held(), out, err),
+        ScriptFault::Memory => Err(AllocError),
+    }
+}
+
+/// Reads the script that has these bytes, and says what is due for it.
+fn run_bytes<F: Files, O: Sink, E: Sink>(
+    alloc: Global,
+    file: &str,
+    bytes: Vec<u8>,
+    files: &mut F,
+    out: &mut O,
+    err: &mut E,
+) -> Result<Report, AllocError>
+    ensures { IfOk result (λ report. IsRunOfBytes (script_piece file.now bytes.items)
+        (record { contents = F.contents files.old; asked_before = F.asked files.old; asked_after = F.asked files.new; faults_before = F.faults files.old; faults_after = F.faults files.new })
+        report
+        (record { before = O.written out.old; after = O.written out.new; faults_before = O.faults out.old; faults_after = O.faults out.new })
+        (record { before = E.written err.old; after = E.written err.new; faults_before = E.faults err.old; faults_after = E.faults err.new })) }
+{
+    let read = read_script(alloc, file, &bytes, files);
+    drop(bytes);
+    match read {
+        Ok(script) => run_script(alloc, &script, out, err),
+        Err(fault) => say_fault(alloc, fault, out, err),
+    }
+}
 
 /// Runs `testsolv` with these words.
 fn run_words<F: Files, O: Sink, E: Sink>(
@@ -28,18 +93,19 @@ fn run_words<F: Files, O: Sink, E: Sink>(
         (record { before = E.written err.old; after = E.written err.new; faults_before = E.faults err.old; faults_after = E.faults err.new })) }
 {
     let Some(file) = file_named(words) else {
-        return say_usage(alloc, err);
+        return say_line(alloc, USAGE, Status::Usage, out, err);
     };
     let mut bytes = Vec::new(alloc);
     match files.fetch(file, MOST_FETCHED, &mut bytes) {
-        Ok(()) => run_script(alloc, file, bytes, out, err),
-        Err(FileFault::Failed) => say_read_fault(alloc, file, err),
+        Ok(()) => run_bytes(alloc, file, bytes, files, out, err),
+        Err(FileFault::Failed) => say_read_fault(alloc, file, out, err),
         Err(FileFault::Memory) => Err(AllocError),
     }
 }
 
 /// Runs `testsolv` with these words, the first of which is the program's name: reads the script that they name from
-/// `files`, and writes what its jobs pick to `out`, or one line on what is wrong to `err`.
+/// `files`, with the files that it names, decides its jobs, and writes what is to be done, or why nothing can be, to `out`; or one line on what is
+/// wrong to `err`.
 ///
 /// Each text is made whole before its first byte is written. The clause `run` says what is asked for, written and
 /// answered; `explained` says of each status when it comes. Want of memory may end a run anywhere.

@@ -1,13 +1,11 @@
 -- Files as they are fetched: with one byte more than a file may have, so that one that is too long is seen to be.
-use Rattle.std.proofs.Common.{◌≡◌, ℕ, ◌<◌, ◌≤◌, ◌+◌, true, false, List, [], ◌++◌, length, take, Option, Some, None, Result, Ok, Err, refl, sym, ap, subst, ◌∙◌, arith}
-use Rattle.std.specs.Prelude.{nat_lt, IfSome, IsSomeAnd, unwrap_or}
+use Rattle.std.proofs.Common.{◌≡◌, ℕ, ◌≤◌, ◌+◌, true, false, List, [], ◌++◌, length, take, Option, Some, None, refl, ap, subst, ◌∙◌, arith}
+use Rattle.std.specs.Prelude.{nat_lt, IsSomeAnd, unwrap_or}
 use Rattle.std.proofs.lemmas.Bool.Decides.{nat_tests}
 use Rattle.std.proofs.lemmas.List.{take_all, length-take-le}
 use Rattle.solv_script.specs.FileRuns.{bytes_in}
-use Rattle.solv_script.specs.Grammar.{Bad, most_file, fetched_given}
-use Rattle.solv_script.specs.Halts.{IsRefusal}
+use Rattle.solv_script.specs.Grammar.{most_file, fetched_given}
 use Rattle.solv_script.specs.States.{State}
-use Rattle.solv_script.specs.declared.scripts.ScriptFault.{ScriptFault}
 
 module _ (script : List ℕ) (s : State) (n : ℕ) (file : List ℕ) where
   cut_same : (most : ℕ) (bytes : List ℕ) → most ≡ most_file → fetched_given script s n file (take (most + 1) bytes) ≡ fetched_given script s n file bytes

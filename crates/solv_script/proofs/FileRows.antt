@@ -1,5 +1,5 @@
 -- The lines of repositories, as pieces of a script.
-use Rattle.std.proofs.Common.{◌≡◌, ℕ, true, false, Bool, List, [], ◌∷◌, ◌++◌, Option, Some, None, Result, Ok, Err, refl, sym, ap, subst, ◌∙◌}
+use Rattle.std.proofs.Common.{◌≡◌, ℕ, true, false, List, [], ◌∷◌, ◌++◌, Option, Some, None, Result, Ok, Err, refl, sym, ap, subst, ◌∙◌}
 use Rattle.std.specs.Prelude.{IfSome, IsSomeAnd, IsOkAnd, IsOk, OnOk, IfErr, codes, take, length}
 use Rattle.std.specs.Option.{option_map}
 use Rattle.std.specs.Str.{bytes_eq, is_utf8, IsUtf8}
@@ -12,9 +12,8 @@ use Rattle.solv_commands.specs.declared.causes.Cause.{Cause}
 use Rattle.solv_commands.specs.declared.causes.Cause.TheVariants.{Compressed, BadFileName}
 use Rattle.solv_script.specs.FileNames.{fetched_name, is_compressed}
 use Rattle.solv_script.specs.FileRuns.{FilesRun, AskedBesides, bytes_in, Piece, HasGiven, IsRead, HasEnded, IsWant, IsReadFault, row_piece, lines_piece, script_piece}
-use Rattle.solv_script.specs.Grammar.{Bad, Row, counted, done, asks, at_line, inline, with_lines, file_named, file_row, lines_row, command_row, said_row, row, fetched_given, lines_given, script_read}
-use Rattle.solv_script.specs.Halts.{IsHalt, IsRefusal}
-use Rattle.solv_script.specs.Items.{own_words}
+use Rattle.solv_script.specs.Grammar.{Bad, counted, done, asks, at_line, inline, with_lines, file_named, file_row, lines_row, command_row, said_row, row, fetched_given, lines_given, script_read}
+use Rattle.solv_script.specs.Halts.{IsRefusal}
 use Rattle.solv_script.specs.Rows.{plain_row}
 use Rattle.solv_script.specs.Reads.{written_script}
 use Rattle.solv_script.specs.ScriptLines.{ScriptLine, script_lines}
@@ -22,9 +21,8 @@ use Rattle.solv_script.specs.States.{State, no_line, script_given}
 use Rattle.solv_script.specs.declared.scripts.Script.{Script}
 use Rattle.solv_script.specs.declared.scripts.ScriptFault.{ScriptFault}
 use Rattle.solv_script.specs.declared.scripts.ScriptFault.TheVariants.{Refused, ReadFault, Memory}
-use Rattle.solv_script.specs.declared.whole.halts.Halt.{Halt}
 use Rattle.solv_script.proofs.FetchedFiles.{file_given}
-use Rattle.solv_script.proofs.PieceRuns.{Contents, Asked, quiet, quiet_given, quiet_ended, quiet_want, fetched_all, fetched_ended, not_fetched, asked_none, if_some, if_all}
+use Rattle.solv_script.proofs.PieceRuns.{Contents, Asked, quiet, quiet_ended, quiet_want, fetched_all, fetched_ended, not_fetched, asked_none, if_some, if_all}
 
 pub on_ok : {T E P Q : Type 0} (r : Result T E) → (P → Q) → OnOk r P → OnOk r Q
 on_ok (Ok x) f h = f h

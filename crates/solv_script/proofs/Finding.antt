@@ -1,13 +1,12 @@
 -- Packages and repositories by their texts: in a task, and in the task as it is written.
-use Rattle.std.proofs.Common.{◌≡◌, ℕ, zero, suc, ◌<◌, ◌≤◌, ◌+◌, Bool, true, false, List, [], ◌∷◌, ◌++◌, map, length, cond, Option, Some, None, refl, sym, ap, ◌∙◌, arith}
-use Rattle.std.specs.Prelude.{codes, find, slice_get, not, nat_le, IfSome}
-use Rattle.std.specs.List.{list_all, range_with_len}
+use Rattle.std.proofs.Common.{◌≡◌, ℕ, zero, suc, ◌≤◌, ◌+◌, Bool, true, false, List, [], ◌∷◌, map, length, cond, Option, Some, None, refl, sym, ap, ◌∙◌, arith}
+use Rattle.std.specs.Prelude.{find, position, slice_get, not, nat_le, IfSome}
+use Rattle.std.specs.List.{list_all, position_or_len, range_with_len}
 use Rattle.std.specs.Option.{option_map, option_map_or}
 use Rattle.std.specs.Str.{bytes_eq}
 use Rattle.std.proofs.lemmas.Bool.Decides.{nat_tests}
 use Rattle.std.proofs.lemmas.List.{length-map}
 use Rattle.std.proofs.lemmas.Option.{slice_get-map}
-use Rattle.solv_pool.specs.Contents.{Contents}
 use Rattle.solv_pool.specs.PackageText.{package_text, written, repo_text, found, repo_found}
 use Rattle.solv_pool.specs.Written.{written_task, written_repo, written_package, WrittenRepo, WrittenPackage}
 use Rattle.solv_pool.specs.declared.packages.Package.{Package}
@@ -15,7 +14,13 @@ use Rattle.solv_pool.specs.declared.packages.Repo.{Repo}
 use Rattle.solv_pool.specs.declared.tasks.Task.{Task}
 use Rattle.solv_pool.proofs.Belongings.{both_left, both_right}
 use Rattle.solv_script.specs.States.{repo_place, repo_name, text_of, text_of_number, package_number}
-use Rattle.solv_script.proofs.SystemLines.{position_map}
+
+place_map : {X Y : Type 0} (p : Y → Bool) (f : X → Y) (xs : List X) → position_or_len p (map f xs) ≡ position_or_len (λ x. p (f x)) xs
+place_map p f [] = refl
+place_map p f (x ∷ xs) = ap (λ n. cond (not (p (f x))) (1 + n) 0) (place_map p f xs)
+
+position_map : {X Y : Type 0} (p : Y → Bool) (f : X → Y) (xs : List X) → position p (map f xs) ≡ position (λ x. p (f x)) xs
+position_map p f xs = rw (place_map p f xs, length-map xs f) refl
 
 find_same : {X : Type 0} (p q : X → Bool) → ((x : X) → p x ≡ q x) → (xs : List X) → find p xs ≡ find q xs
 find_same p q same [] = refl

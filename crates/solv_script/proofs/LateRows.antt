@@ -6,7 +6,7 @@ use Rattle.std.specs.Str.{bytes_eq, is_utf8}
 use Rattle.solv_base.specs.Dependency.{Dep}
 use Rattle.solv_base.specs.Pool.{Held}
 use Rattle.solv_io.specs.Lines.{lines_of, numbered_lines}
-use Rattle.solv_deps.specs.Entering.{Entered, text_entered, dependency_entered}
+use Rattle.solv_deps.specs.Entering.{text_entered, dependency_entered}
 use Rattle.solv_deps.specs.Reading.{dependency}
 use Rattle.solv_deps.specs.declared.fault.DepFault.{DepFault}
 use Rattle.solv_deps.specs.declared.fault.DepFault.TheVariants as of_text
@@ -19,18 +19,17 @@ use Rattle.solv_commands.specs.SolverFlags.{with_words}
 use Rattle.solv_commands.specs.declared.causes.Cause.{Cause}
 use Rattle.solv_commands.specs.declared.causes.Cause.TheVariants as cause
 use Rattle.solv_commands.proofs.LateLines.{command_late}
-use Rattle.solv_tags.specs.Testtags.{Repository, testtags}
+use Rattle.solv_tags.specs.Testtags.{Repository}
 use Rattle.solv_tags.specs.declared.tag_fault.TagCause.{TagCause}
 use Rattle.solv_tags.specs.declared.tag_fault.TagCause.TheVariants as of_tag
 use Rattle.solv_tags.specs.declared.tag_fault.TagFault.{TagFault}
 use Rattle.solv_tags.proofs.OwnCauses.{is_want, is_tag_want, dependency_own, text_own, entered_own, tags_own}
 use Rattle.solv_script.specs.FileNames.{fetched_name, is_compressed}
-use Rattle.solv_script.specs.Grammar.{most_file, most_script, counted, Bad, Row, done, asks, repository_given, with_lines, file_named, inline, answered, then_row, at_line, fetched_given, file_row, lines_row, command_row, said_row, words_row, row, begun, lines_given, script_read}
-use Rattle.solv_script.specs.Items.{own_words}
+use Rattle.solv_script.specs.Grammar.{most_file, most_script, counted, Bad, Row, repository_given, with_lines, file_named, inline, answered, then_row, at_line, fetched_given, file_row, lines_row, command_row, said_row, words_row, row, begun, lines_given, script_read}
 use Rattle.solv_script.specs.LateLines.{are_late, has_late_line, IsLateLine, NotBuiltIsLateLine}
 use Rattle.solv_script.specs.LineCauses.{cause_of_text, cause_of_tag}
-use Rattle.solv_script.specs.Rows.{and_then, or_cause, or_text_cause, with_repo, arch_named, installed_row, system_row, package_numbers, namespace_row, disabled, disable_row, evrcmp_row, Chosen, no_system, one_package, by_dependency, chosen, job_row, flags_row, plain_row}
-use Rattle.solv_script.specs.ScriptLines.{ScriptLine, script_lines}
+use Rattle.solv_script.specs.Rows.{and_then, or_cause, or_text_cause, with_repo, arch_named, installed_row, system_row, package_numbers, namespace_row, disabled, disable_row, no_system, one_package, by_dependency, chosen, flags_row, plain_row}
+use Rattle.solv_script.specs.ScriptLines.{ScriptLine, script_lines, own_words}
 use Rattle.solv_script.specs.States.{State, no_line, repo_place, package_number}
 
 -- is a cause another than `NotBuilt`?

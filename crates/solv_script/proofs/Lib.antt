@@ -1,10 +1,4 @@
-pub mod Entered
-pub mod LinesLeft
 pub mod WrittenTexts
-pub mod ReaderStates
-pub mod NamesById
-pub mod SystemLines
-pub mod JobLines
 pub mod Finding
 pub mod TaskGrowth
 pub mod RowReadings

@@ -1,12 +1,11 @@
 -- Pieces of a script one behind the other, and the files before and after.
-use Rattle.std.proofs.Common.{◌≡◌, ℕ, ◌<◌, ◌≤◌, ◌+◌, List, [], ◌∷◌, ◌++◌, length, take, Option, Some, None, Result, Ok, Err, refl, sym, ap, ◌∙◌, arith, append_assoc}
-use Rattle.std.specs.Prelude.{IfSome, IsSomeAnd, IsOkAnd, ◌⊎◌}
+use Rattle.std.proofs.Common.{◌≡◌, ℕ, List, [], ◌∷◌, ◌++◌, Option, Some, None, Result, Ok, Err, refl, sym, ap, ◌∙◌, append_assoc}
+use Rattle.std.specs.Prelude.{IfSome}
 use Rattle.std.specs.Option.{option_map}
 use Rattle.std.proofs.lemmas.List.{append-nil}
-use Rattle.solv_io.specs.Counters.{Rose, last}
-use Rattle.solv_commands.specs.declared.causes.Cause.{Cause}
-use Rattle.solv_script.specs.FileRuns.{FilesRun, AskedBesides, bytes_in, IsFront, Piece, HasGiven, IsRefused, IsReadFault, IsWant, HasEnded, row_piece, lines_piece}
-use Rattle.solv_script.specs.Grammar.{Bad, Row, done, asks, answered, asked_by, row, lines_given, lines_due, due_behind}
+use Rattle.solv_io.specs.Counters.{Rose}
+use Rattle.solv_script.specs.FileRuns.{FilesRun, AskedBesides, bytes_in, IsFront, Piece, HasGiven, HasEnded, row_piece, lines_piece}
+use Rattle.solv_script.specs.Grammar.{Bad, done, asks, answered, asked_by, row, lines_given, lines_due, due_behind}
 use Rattle.solv_script.specs.Halts.{IsRefusal}
 use Rattle.solv_script.specs.Rows.{and_then}
 use Rattle.solv_script.specs.ScriptLines.{ScriptLine}
@@ -51,17 +50,7 @@ if_all None f = tt
 if_all (Some x) f = f x
 
 module _ (contents : Contents) (asked : Asked) (faults : ℕ) where
-  -- a line that asks for no file
-  pub quiet_given : (given : Result State Bad) (s : State) → given ≡ Ok s → HasGiven (row_piece (done given)) (quiet contents asked faults) s
-  quiet_given given s h = record {
-    names = [];
-    asked = asked_none asked;
-    all_due = if_all contents (λ held. refl);
-    given = if_all contents (λ held. h);
-    no_fault = refl;
-  }
-
-  -- such a line ends for want of memory, or is refused
+  -- a line that asks for no file ends for want of memory, or is refused
   pub quiet_want : (piece : Piece) → HasEnded piece (quiet contents asked faults) Memory
   quiet_want piece = record {
     names = [];
@@ -218,13 +207,3 @@ module _ (script : List ℕ) (all : Piece) (files : FilesRun) (asked : Asked) (f
     due = if_both files.contents (λ held g d. front_there held h.names g d) h.due so_far.due;
     no_fault = h.no_fault ∙ so_far.no_fault;
   }
-
--- all lines were read
-pub all_read : (script : List ℕ) (all : Piece) (files : FilesRun) (s : State) → IsSoFar all (lines_piece script s []) files → HasGiven all files s
-all_read script all files s so_far = record {
-  names = so_far.names;
-  asked = so_far.asked;
-  all_due = if_some files.contents (λ held d. sym (append-nil so_far.names) ∙ d) so_far.due;
-  given = if_some files.contents (λ held g. sym g) so_far.given;
-  no_fault = so_far.no_fault;
-}

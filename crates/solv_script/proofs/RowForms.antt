@@ -1,19 +1,17 @@
 -- The dependencies that lines give have forms that may stand at their places.
-use Rattle.std.proofs.Common.{◌≡◌, ℕ, zero, suc, Bool, true, false, List, [], ◌∷◌, ◌++◌, map, Option, Some, None, Result, Ok, Err, refl, sym, ◌∙◌}
-use Rattle.std.specs.Prelude.{ℤ, codes, is_some, IfOk, if◌then◌else◌}
-use Rattle.std.specs.List.{list_any, list_all}
-use Rattle.std.specs.Str.{bytes_eq}
+use Rattle.std.proofs.Common.{◌≡◌, ℕ, zero, suc, Bool, true, false, List, [], ◌∷◌, Option, Some, None, Result, Ok, Err, refl, sym, ◌∙◌}
+use Rattle.std.specs.Prelude.{ℤ, is_some, IfOk, if◌then◌else◌}
+use Rattle.std.specs.List.{list_all}
 use Rattle.solv_base.specs.Dependency.{Dep}
-use Rattle.solv_base.specs.Pool.{Held, text_tree}
-use Rattle.solv_base.specs.declared.comparison.Cmp.{Cmp}
-use Rattle.solv_deps.specs.Entering.{Entered, text_entered, dependency_entered}
+use Rattle.solv_base.specs.Pool.{Held}
+use Rattle.solv_deps.specs.Entering.{text_entered, dependency_entered}
 use Rattle.solv_deps.specs.Reading.{dependency}
 use Rattle.solv_deps.specs.Table.{is_capability}
 use Rattle.solv_deps.specs.declared.fault.DepFault.{DepFault}
 use Rattle.solv_deps.specs.declared.place.Place.TheVariants.{Plain}
 use Rattle.solv_deps.proofs.Both.{both_true}
 use Rattle.solv_pool.specs.Catalog.{Catalog, catalog_of}
-use Rattle.solv_pool.specs.TaskForms.{HasForms, is_formed, is_formed_choice}
+use Rattle.solv_pool.specs.TaskForms.{HasForms, is_formed_choice}
 use Rattle.solv_pool.specs.Written as written
 use Rattle.solv_pool.specs.Written.{WrittenTask, WrittenChoice, WrittenJob, written_task, written_job, written_choice}
 use Rattle.solv_pool.specs.declared.jobs.Action.{Action}
@@ -21,19 +19,17 @@ use Rattle.solv_pool.specs.declared.jobs.Choice.{Choice}
 use Rattle.solv_pool.specs.declared.jobs.Choice.TheVariants.{Pkg, Name, Provides, OneOf, All, Nothing}
 use Rattle.solv_pool.specs.declared.jobs.Job.{Job}
 use Rattle.solv_pool.specs.declared.tasks.Task.{Task}
-use Rattle.solv_pool.specs.declared.universes.Arch.{Arch}
 use Rattle.solv_commands.specs.Commands.{Asked, pkg, by_name, by_provides, one_of, all, nothing, joined}
-use Rattle.solv_commands.specs.SolverFlags.{with_words}
 use Rattle.solv_commands.specs.declared.causes.Cause.{Cause}
 use Rattle.solv_commands.specs.declared.causes.Cause.TheVariants.{UnknownPackage}
-use Rattle.solv_tags.specs.EntryForms.{is_written_formed}
+use Rattle.solv_tags.specs.EntryForms.{is_written_formed, asks_for_singles}
 use Rattle.solv_tags.specs.Testtags.{Repository, testtags}
 use Rattle.solv_tags.specs.declared.tag_fault.TagFault.{TagFault}
 use Rattle.solv_tags.proofs.EntriesFormed.{read_placed, entries_formed}
-use Rattle.solv_tags.proofs.FormsById.{same_all, written_plain, written_all_formed}
+use Rattle.solv_tags.proofs.FormsById.{same_all, written_plain, all_formed, all_single}
 use Rattle.solv_tags.proofs.Staying.{all_both}
-use Rattle.solv_script.specs.Grammar.{Bad, repository_given}
-use Rattle.solv_script.specs.Rows.{and_then, or_cause, or_text_cause, with_repo, arch_named, installed_row, system_row, package_numbers, namespace_row, disabled, disable_row, evrcmp_row, Chosen, no_system, one_package, by_dependency, chosen, job_row, flags_row}
+use Rattle.solv_script.specs.Grammar.{repository_given}
+use Rattle.solv_script.specs.Rows.{and_then, or_cause, or_text_cause, with_repo, package_numbers, namespace_row, Chosen, no_system, one_package, by_dependency, chosen, job_row}
 use Rattle.solv_script.specs.States.{State, repo_place, package_number}
 use Rattle.solv_script.specs.WrittenForms.{is_written_choice, HasWrittenForms}
 
@@ -124,6 +120,10 @@ pub task_forms : (task : Task) → HasWrittenForms (written_task task) → HasFo
 task_forms task f =
     let catalog = catalog_of task in
     record {
-      packages = sym (written_all_formed catalog task.universe.packages) ∙ f.packages;
+      packages = all_formed catalog task.universe.packages f.packages;
       jobs = sym (same_all {X = Job} {Y = WrittenJob} (λ job. is_formed_choice catalog job.choice) (λ job. is_written_choice job.choice) (written_job task.pool) (λ job. choice_form catalog job.choice) task.jobs) ∙ f.jobs;
     }
+
+-- and its packages ask for single relations
+pub task_singly : (task : Task) → HasWrittenForms (written_task task) → list_all (asks_for_singles (catalog_of task)) task.universe.packages ≡ true
+task_singly task f = all_single (catalog_of task) task.universe.packages f.packages

@@ -4,18 +4,17 @@ use Rattle.std.specs.Prelude.{ℤ, codes, not, is_some, slice_set, nat_le, nat_l
 use Rattle.std.proofs.lemmas.Bool.Decides.{nat_tests}
 use Rattle.std.specs.List.{list_all}
 use Rattle.std.specs.Str.{bytes_eq}
-use Rattle.std.specs.Option.{option_map}
 use Rattle.std.proofs.lemmas.List.{length-map, map-append}
 use Rattle.std.proofs.lemmas.Simd.{map-map}
 use Rattle.solv_base.specs.Pool.{Held, Grows, text_at}
 use Rattle.solv_base.specs.declared.comparison.Cmp.{Cmp}
-use Rattle.solv_deps.specs.Entering.{IsRefusal, Entered, text_entered}
+use Rattle.solv_deps.specs.Entering.{IsRefusal, text_entered}
 use Rattle.solv_deps.specs.declared.fault.DepFault.{DepFault}
 use Rattle.solv_deps.specs.declared.fault.DepFault.TheVariants.{BadOperator, MissingOperand, MixedOperators, UnclosedParenthesis, TooDeep, OperatorNotHere, FullNames, FullRelations, Memory}
-use Rattle.solv_pool.specs.PackageText.{found, repo_found}
+use Rattle.solv_pool.specs.PackageText.{repo_found}
 use Rattle.solv_pool.specs.Belonging.{IsOver}
 use Rattle.solv_pool.specs.Contents.{Contents}
-use Rattle.solv_pool.specs.TaskBelonging.{IsClosed, choice_fits}
+use Rattle.solv_pool.specs.TaskBelonging.{choice_fits}
 use Rattle.solv_pool.specs.Written.{WrittenTask, WrittenPackage, written_task, written_repo, written_package, written_choice, written_job}
 use Rattle.solv_pool.specs.declared.jobs.Action.{Action}
 use Rattle.solv_pool.specs.declared.jobs.Job.{Job}
@@ -41,7 +40,7 @@ use Rattle.solv_script.specs.declared.scripts.EvrCheck.{EvrCheck}
 use Rattle.solv_script.specs.declared.whole.halts.Halt.{Halt}
 use Rattle.solv_script.specs.declared.whole.halts.Halt.TheVariants as halt
 use Rattle.solv_script.specs.declared.whole.reader.Reader.{Reader}
-use Rattle.solv_script.proofs.Finding.{number_is, place_is}
+use Rattle.solv_script.proofs.Finding.{place_is}
 use Rattle.solv_script.proofs.RowForms.{AreFormed, given_passes, repo_forms, namespace_forms, job_forms, repository_forms, packages_forms}
 use Rattle.solv_script.proofs.TaskGrowth.{written_line, stays, closed_grown, closed_repo, closed_system, closed_disabled, closed_flags, closed_namespace, closed_job, closed_packages}
 

@@ -1,14 +1,14 @@
 -- Refusals of a repository's lines, as those of the script.
-use Rattle.std.proofs.Common.{◌≡◌, ℕ, List, Result, Ok, Err, refl, sym, ap, ◌∙◌}
+use Rattle.std.proofs.Common.{◌≡◌, ℕ, List, Result, Err, refl, ap}
 use Rattle.solv_deps.specs.declared.fault.DepFault.{DepFault}
 use Rattle.solv_deps.specs.declared.fault.DepFault.TheVariants as of_text
-use Rattle.solv_tags.specs.RepositoryReading.{IsTagRefusal, IsBadFor, HasOneForm}
+use Rattle.solv_tags.specs.RepositoryReading.{IsTagRefusal, IsBadFor}
 use Rattle.solv_tags.specs.Testtags.{Repository}
 use Rattle.solv_tags.specs.declared.tag_fault.TagFault.{TagFault}
 use Rattle.solv_tags.specs.declared.tag_fault.TagCause.{TagCause}
 use Rattle.solv_tags.specs.declared.tag_fault.TagCause.TheVariants as of_tag
 use Rattle.solv_commands.specs.declared.causes.Cause.{Cause}
-use Rattle.solv_script.specs.Grammar.{Bad, repository_given}
+use Rattle.solv_script.specs.Grammar.{repository_given}
 use Rattle.solv_script.specs.Halts.{halt_of_text, halt_of_tag}
 use Rattle.solv_script.specs.LineCauses.{cause_of_text, cause_of_tag}
 use Rattle.solv_script.specs.States.{State}

@@ -7,8 +7,6 @@ use Rattle.std.proofs.lemmas.Bool.{ltb-true, lt-ltb}
 use Rattle.std.proofs.lemmas.Bool.Decides.{nat_tests}
 use Rattle.std.proofs.lemmas.List.Folds.{list_all-append}
 use Rattle.solv_base.specs.Pool.{Held, Grows, text_at, text_tree}
-use Rattle.solv_base.specs.declared.relation.DepNode.{DepNode}
-use Rattle.solv_base.specs.declared.relation.DepNode.TheVariants.{Simple}
 use Rattle.solv_pool.specs.Belonging.{fits, names_of, relations_of}
 use Rattle.solv_pool.specs.TaskBelonging.{is_pack, choice_fits}
 use Rattle.solv_pool.specs.Written.{WrittenNeed, written_repo, written_package, written_choice, written_job}
@@ -19,7 +17,6 @@ use Rattle.solv_pool.specs.declared.packages.Need.{Need}
 use Rattle.solv_pool.specs.declared.packages.Package.{Package}
 use Rattle.solv_pool.specs.declared.packages.Repo.{Repo}
 use Rattle.solv_pool.proofs.Belongings.{both_left, both_right}
-use Rattle.solv_script.specs.FirstReader.{relation_text, is_name_below}
 
 -- two functions that agree where a test holds
 pub same_map : {X Y : Type 0} (test : X → Bool) (f g : X → Y) → ((x : X) → test x ≡ true → f x ≡ g x) → (xs : List X) → list_all test xs ≡ true → map f xs ≡ map g xs
@@ -38,12 +35,6 @@ all_needs p (need ∷ needs) h =
     rw (both_left (p need.dep) (list_all p (map (λ n. n.dep) needs)) h) (all_needs p needs (both_right (p need.dep) (list_all p (map (λ n. n.dep) needs)) h))
 
 module _ (old new : Held) (grows : Grows old new) where
-  is_old_name : ℕ → Bool
-  is_old_name n = nat_lt n (length old.names)
-
-  is_old_relation : ℕ → Bool
-  is_old_relation d = nat_lt d (length old.nodes)
-
   pub text_stays : (n : ℕ) → nat_lt n (length old.names) ≡ true → text_at new n ≡ text_at old n
   text_stays n h = grows.texts n (ltb-true n (length old.names) h)
 
@@ -59,13 +50,6 @@ module _ (old new : Held) (grows : Grows old new) where
   vendor_stays : (vendor : Option ℕ) → list_all (λ n. nat_lt n (length old.names)) (option_to_list vendor) ≡ true → option_map (text_at new) vendor ≡ option_map (text_at old) vendor
   vendor_stays None h = refl
   vendor_stays (Some n) h = ap Some (text_stays n (both_left (nat_lt n (length old.names)) true h))
-
-  pub relations_stay : (nodes : List DepNode) → list_all (is_name_below (length old.names)) nodes ≡ true → map (relation_text new) nodes ≡ map (relation_text old) nodes
-  relations_stay nodes h = same_map (is_name_below (length old.names)) (relation_text new) (relation_text old) one nodes h
-    where
-      one : (node : DepNode) → is_name_below (length old.names) node ≡ true → relation_text new node ≡ relation_text old node
-      one (Simple n) h = text_stays n h
-      one _ h = refl
 
   pub repos_stay : (repos : List Repo) → list_all (λ repo. nat_lt repo.name (length old.names)) repos ≡ true → map (written_repo new) repos ≡ map (written_repo old) repos
   repos_stay repos h = same_map (λ repo. nat_lt repo.name (length old.names)) (written_repo new) (written_repo old) (λ repo e. rw (text_stays repo.name e) refl) repos h

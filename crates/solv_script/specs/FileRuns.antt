@@ -1,5 +1,5 @@
 -- Files before and after a call, and what pieces of a script ask of them.
-use Rattle.std.specs.Prelude.{ℕ, ◌≡◌, List, [], ◌∷◌, ◌++◌, Option, Some, None, IfSome, Result, Ok, Err, IsOkAnd, unwrap_or}
+use Rattle.std.specs.Prelude.{ℕ, ◌≡◌, List, [], ◌∷◌, ◌++◌, Option, IfSome, Result, Ok, Err, IsOkAnd, unwrap_or}
 use Rattle.std.specs.Option.{option_map}
 use Rattle.solv_io.specs.Counters.{Rose}
 use Rattle.solv_commands.specs.declared.causes.Cause.{Cause}

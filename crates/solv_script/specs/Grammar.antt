@@ -8,10 +8,9 @@ use Rattle.solv_commands.specs.Commands.{Command, repo, command}
 use Rattle.solv_commands.specs.declared.causes.Cause.{Cause}
 use Rattle.solv_commands.specs.declared.causes.Cause.TheVariants.{Compressed, BadFileName, FileTooLong, ScriptTooLong}
 use Rattle.solv_script.specs.FileNames.{fetched_name, is_compressed}
-use Rattle.solv_script.specs.Items.{own_words}
 use Rattle.solv_script.specs.LineCauses.{cause_of_tag}
 use Rattle.solv_script.specs.Rows.{and_then, plain_row}
-use Rattle.solv_script.specs.ScriptLines.{ScriptLine, script_lines}
+use Rattle.solv_script.specs.ScriptLines.{ScriptLine, script_lines, own_words}
 use Rattle.solv_script.specs.States.{State, no_line}
 
 -- the most bytes of one file

@@ -1,5 +1,5 @@
 -- Why the reading of a line halts: the cause that the definition gives, or want of memory, which may come at any line.
-use Rattle.std.specs.Prelude.{◌≡◌, List, ℕ, Result, Err}
+use Rattle.std.specs.Prelude.{◌≡◌, Result, Err}
 use Rattle.solv_deps.specs.declared.fault.DepFault.{DepFault}
 use Rattle.solv_deps.specs.declared.fault.DepFault.TheVariants as of_text
 use Rattle.solv_tags.specs.declared.tag_fault.TagCause.{TagCause}

@@ -5,8 +5,7 @@ use Rattle.solv_io.specs.Lines.{lines_of}
 use Rattle.solv_commands.specs.LateForms.{is_late}
 use Rattle.solv_commands.specs.declared.causes.Cause.TheVariants.{NotBuilt}
 use Rattle.solv_script.specs.Grammar.{Bad, script_read}
-use Rattle.solv_script.specs.Items.{own_words}
-use Rattle.solv_script.specs.ScriptLines.{ScriptLine, script_lines}
+use Rattle.solv_script.specs.ScriptLines.{ScriptLine, script_lines, own_words}
 
 -- words of such a form
 abbrev pub are_late : List (List ℕ) → Bool

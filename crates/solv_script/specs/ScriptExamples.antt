@@ -1,5 +1,5 @@
 -- How examples of scripts are said.
-use Rattle.std.specs.Prelude.{ℕ, List, [], ◌∷◌, ◌++◌, codes, Option, Some, None, Result, Ok, Err, if◌then◌else◌}
+use Rattle.std.specs.Prelude.{ℕ, List, [], ◌++◌, codes, Option, Some, None, Result, Ok, Err, if◌then◌else◌}
 use Rattle.std.specs.Str.{bytes_eq}
 use Rattle.solv_commands.specs.declared.causes.Cause.{Cause}
 use Rattle.solv_script.specs.Grammar.{Bad, script_read, script_due}

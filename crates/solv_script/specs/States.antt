@@ -1,10 +1,10 @@
 -- What the lines of a script so far give.
-use Rattle.std.specs.Prelude.{ℕ, zero, suc, Bool, List, [], ◌∷◌, ◌++◌, codes, length, find, position, Option, Some, None, slice_get}
+use Rattle.std.specs.Prelude.{ℕ, zero, suc, List, [], ◌∷◌, ◌++◌, codes, length, find, position, Option, None, slice_get}
 use Rattle.std.specs.List.{range_with_len}
 use Rattle.std.specs.Option.{option_map_or}
 use Rattle.std.specs.Str.{bytes_eq}
 use Rattle.solv_base.specs.Pool.{Held}
-use Rattle.solv_pool.specs.Written.{WrittenTask, WrittenRepo, WrittenPackage}
+use Rattle.solv_pool.specs.Written.{WrittenTask, WrittenPackage}
 use Rattle.solv_script.specs.Reads.{WrittenCheck, WrittenScript, first_flags, default_kinds}
 
 -- what the lines so far give

@@ -1,7 +1,6 @@
 //! Scripts: libsolv's testcase format.
 //!
 //! - [`read_script`] reads a script and the files that it names.
-//! - [`read_first`] reads scripts of packages without dependencies and jobs that install by name.
 //! - Examples on which the grammar is evaluated: [`lines_of_scripts`], [`repositories`], [`systems`], [`flags_of_scripts`],
 //!   [`packages_of_scripts`], [`comparisons_of_scripts`], [`jobs_of_scripts`], [`files_of_scripts`], [`names_of_files`],
 //!   [`sizes_of_files`].
@@ -9,15 +8,11 @@
 //! - [`Script`] is what is read, [`ScriptFault`] why nothing is, [`Cause`] why a line is refused.
 #![tactic(auto)]
 
-mod first;
-mod first_rows;
 mod laws;
 mod script_rows;
 mod scripts;
 mod whole;
 
-pub use first::read_first;
-pub use first_rows::{read_script_by_example, refused_scripts};
 pub use laws::not_built_is_a_late_line;
 pub use script_rows::{
     comparisons_of_scripts, files_of_scripts, flags_of_scripts, jobs_of_scripts, lines_of_scripts,

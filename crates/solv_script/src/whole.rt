@@ -5,10 +5,13 @@
 //! - `files`: a repository's file, by `file_names`; `blocks`: a repository's inline lines.
 //! - `lines`: the lines of a script in turn.
 //! - `packages`, `choices`: what packages and dependencies of a line select. `halts`, `refusals`: why no more is read.
-ghost use Rattle.std.specs.Prelude.{◌≡◌, IfOk, IfErr};
+ghost use Rattle.std.specs.List.{list_all};
+ghost use Rattle.std.specs.Prelude.{◌≡◌, true, IfOk, IfErr};
+ghost use Rattle.solv_pool.specs.Catalog.{catalog_of};
 ghost use Rattle.solv_pool.specs.TaskBelonging.{IsClosed};
 ghost use Rattle.solv_pool.specs.TaskForms.{HasForms};
 ghost use Rattle.solv_script.specs.FileRuns.{script_piece, IsRead, HasEnded};
+ghost use Rattle.solv_tags.specs.EntryForms.{asks_for_singles};
 
 mod blocks;
 mod choices;
@@ -36,6 +39,9 @@ use std::alloc::Global;
 /// stands up to its last `/`, is put before each file's name that does not begin with `/`. A refusal at a line of the script,
 /// inline lines included, carries this name, and one at a line of another file the name by which that file was fetched.
 ///
+/// Each dependency of the task has a form that may stand at its place, and whatever its packages ask for is simple, versioned
+/// or a namespace.
+///
 /// The first bad line is refused, and nothing is asked for behind it. A file that cannot be read ends the reading, and so does
 /// want of memory, which may come at any line.
 pub fn read_script<F: Files>(
@@ -49,6 +55,7 @@ pub fn read_script<F: Files>(
         script) }
     ensures closed { IfOk result (λ script. IsClosed script.task) }
     ensures forms { IfOk result (λ script. HasForms script.task) }
+    ensures singly { IfOk result (λ script. list_all (asks_for_singles (catalog_of script.task)) script.task.universe.packages ≡ true) }
     ensures ended { IfErr result (λ fault. HasEnded (script_piece name.now bytes.now)
         (record { contents = F.contents files.old; asked_before = F.asked files.old; asked_after = F.asked files.new; faults_before = F.faults files.old; faults_after = F.faults files.new })
         fault) }

@@ -1,16 +1,15 @@
 -- The packages that a testtags file gives have dependencies of forms that may stand at their places.
-use Rattle.std.proofs.Common.{◌≡◌, ℕ, ◌+◌, Bool, true, false, List, [], ◌∷◌, ◌++◌, map, length, Option, Some, None, Result, Ok, Err, refl, ◌∙◌}
+use Rattle.std.proofs.Common.{◌≡◌, ℕ, ◌+◌, Bool, true, false, List, [], ◌∷◌, ◌++◌, map, length, Option, Some, None, Result, Ok, Err, refl}
 use Rattle.std.specs.Prelude.{◌&&◌, ◌||◌, option_to_list, nat_le, is_some, IfOk, if◌then◌else◌}
 use Rattle.std.specs.List.{list_any, list_all}
 use Rattle.std.specs.Str.{bytes_eq}
-use Rattle.std.proofs.lemmas.List.Folds.{list_all-append, list_all-map}
 use Rattle.solv_io.specs.Lines.{numbered_lines}
 use Rattle.solv_io.specs.Words.{words_of}
 use Rattle.solv_base.specs.Dependency.{Dep, one, namespace}
 use Rattle.solv_base.specs.Pool.{Held}
 use Rattle.solv_pool.specs.Written.{WrittenNeed, WrittenPackage}
 use Rattle.solv_pool.specs.Contents.{most_packages}
-use Rattle.solv_deps.specs.Entering.{Entered, text_entered, dependency_entered}
+use Rattle.solv_deps.specs.Entering.{text_entered, dependency_entered}
 use Rattle.solv_deps.specs.Reading.{and_then, dependency, reading}
 use Rattle.solv_deps.specs.Table.{is_capability, stands_at}
 use Rattle.solv_deps.specs.Words.{words}

@@ -1,25 +1,26 @@
--- The forms of dependencies by their ids are the forms of what is written.
-use Rattle.std.proofs.Common.{◌≡◌, ℕ, ◌+◌, Bool, true, false, List, [], ◌∷◌, ◌++◌, map, drop, length, Option, Some, None, Result, Ok, Err, refl, sym, ap, ◌∙◌, add-one}
-use Rattle.std.specs.Prelude.{not, ◌&&◌, nat_le, is_some, slice_get, option_map, unwrap_or, IfOk, IsOkAnd}
+-- Dependencies have by their ids the forms that they have as they are written.
+use Rattle.std.proofs.Common.{◌≡◌, ℕ, Bool, true, false, List, [], ◌∷◌, ◌++◌, map, drop, length, Option, Some, None, Result, Ok, Err, refl, sym, ap, ◌∙◌, add-one}
+use Rattle.std.specs.Prelude.{◌&&◌, nat_le, is_some, slice_get, option_map, unwrap_or, IfOk, IsOkAnd}
 use Rattle.std.specs.List.{list_all}
 use Rattle.std.proofs.lemmas.List.{map-append}
 use Rattle.std.proofs.Math.Seq.{drop-append_seam}
-use Rattle.solv_base.specs.Dependency.{Dep, one, namespace, and, or, with, without, if_then, if_else, unless, unless_else, missing, package_wise, operators, tree, tree_of_node, tree_within, map_dep, capability, capability_of_node}
+use Rattle.solv_base.specs.Dependency.{Dep, one, namespace, and, or, with, without, if_then, if_else, unless, unless_else, missing, package_wise, operators, tree, tree_of_node, tree_within, map_dep, capability_of_node}
 use Rattle.solv_base.specs.Places.{fits_place, unconditional}
 use Rattle.solv_base.specs.Pool.{Held, text_at, text_tree}
 use Rattle.solv_base.specs.declared.relation.DepNode.{DepNode}
 use Rattle.solv_base.specs.declared.relation.DepNode.TheVariants.{Simple, Versioned, Namespace, And, Or, With, Without, If, IfElse, Unless, UnlessElse}
-use Rattle.solv_deps.specs.Table.{is_capability}
+use Rattle.solv_deps.specs.Table.{is_capability, is_single}
 use Rattle.solv_pool.specs.Catalog.{Catalog, alone}
 use Rattle.solv_pool.specs.Contents.{Contents}
 use Rattle.solv_pool.specs.TaskForms.{most_operators, has_form, is_plain_form, is_formed}
-use Rattle.solv_pool.specs.Written.{WrittenNeed, WrittenPackage, written_package}
+use Rattle.solv_pool.specs.Written.{WrittenNeed, written_package}
 use Rattle.solv_pool.specs.declared.packages.Need.{Need}
 use Rattle.solv_pool.specs.declared.packages.Package.{Package}
-use Rattle.solv_tags.specs.EntryForms.{has_written_form, is_written_formed}
+use Rattle.solv_tags.specs.EntryForms.{stands_today, has_written_form, is_written_formed, is_single_relation, asks_for_singles}
 use Rattle.solv_tags.specs.RepositoryReading.{IsTaken}
 use Rattle.solv_tags.specs.Testtags.{Repository}
 use Rattle.solv_tags.specs.declared.tag_fault.TagFault.{TagFault}
+use Rattle.solv_deps.proofs.Both.{both_left, both_right, both_true}
 
 module _ (f : ℕ → List ℕ) where
   wise_mapped : (d : Dep ℕ) → package_wise (map_dep f d) ≡ package_wise d
@@ -74,6 +75,19 @@ module _ (f : ℕ → List ℕ) where
   operators_mapped (unless_else a b c) = rw (operators_mapped a, operators_mapped b, operators_mapped c) refl
   operators_mapped missing = refl
 
+  single_mapped : (d : Dep ℕ) → is_single (map_dep f d) ≡ is_single d
+  single_mapped (one c) = refl
+  single_mapped (namespace n) = refl
+  single_mapped (and a b) = refl
+  single_mapped (or a b) = refl
+  single_mapped (with a b) = refl
+  single_mapped (without a b) = refl
+  single_mapped (if_then a b) = refl
+  single_mapped (if_else a b c) = refl
+  single_mapped (unless a b) = refl
+  single_mapped (unless_else a b c) = refl
+  single_mapped missing = refl
+
   node_mapped : (at : ℕ → Dep ℕ) (node : DepNode) → is_capability (map_dep f (tree_of_node at node)) ≡ is_some (capability_of_node node)
   node_mapped at (Simple n) = refl
   node_mapped at (Versioned n c e) = refl
@@ -97,13 +111,35 @@ pub same_all : {X Y : Type 0} (p : X → Bool) (q : Y → Bool) (h : X → Y) �
 same_all p q h same [] = refl
 same_all p q h same (x ∷ xs) = rw (same x, same_all p q h same xs) refl
 
+-- where a test of what is written says so, each of these passes
+all_from : {X Y : Type 0} (p : X → Bool) (q : Y → Bool) (h : X → Y) → ((x : X) → q (h x) ≡ true → p x ≡ true) → (xs : List X) → list_all q (map h xs) ≡ true → list_all p xs ≡ true
+all_from p q h from [] all = refl
+all_from p q h from (x ∷ xs) all =
+    both_true (p x) (list_all p xs) (from x (both_left (q (h x)) (list_all q (map h xs)) all)) (all_from p q h from xs (both_right (q (h x)) (list_all q (map h xs)) all))
+
+-- four tests that all pass
+four_true : (a b c d : Bool) → (a && (b && (c && d))) ≡ true → (a ≡ true) × (b ≡ true) × (c ≡ true) × (d ≡ true)
+four_true a b c d h =
+    let later = both_right a (b && (c && d)) h in
+    let last = both_right b (c && d) later in
+    (both_left a (b && (c && d)) h, both_left b (c && d) later, both_left c d last, both_right c d last)
+
 module _ (catalog : Catalog) where
-  pub written_form : (at : Bool) (d : ℕ) → has_written_form at (text_tree catalog.pool d) ≡ has_form catalog at d
+  -- a relation whose text has such a form has it, and is single
+  written_form : (at : Bool) (d : ℕ) → has_written_form at (text_tree catalog.pool d) ≡ true → has_form catalog at d ≡ true
   unfolding text_tree
-  written_form at d =
+  written_form at d h =
       let f = text_at catalog.pool in
       let t = tree catalog.pool.nodes d in
-      rw (fits_mapped f at t, operators_mapped f t) refl
+      let own : (fits_place at (map_dep f t) && nat_le (operators (map_dep f t)) most_operators) ≡ has_form catalog at d = rw (fits_mapped f at t, operators_mapped f t) refl in
+      sym own ∙ both_right (stands_today (map_dep f t)) (fits_place at (map_dep f t) && nat_le (operators (map_dep f t)) most_operators) h
+
+  written_single : (at : Bool) (d : ℕ) → has_written_form at (text_tree catalog.pool d) ≡ true → is_single_relation catalog d ≡ true
+  unfolding text_tree
+  written_single at d h =
+      let f = text_at catalog.pool in
+      let t = tree catalog.pool.nodes d in
+      sym (single_mapped f t) ∙ both_left (stands_today (map_dep f t)) (fits_place at (map_dep f t) && nat_le (operators (map_dep f t)) most_operators) h
 
   pub written_plain : (d : ℕ) → is_capability (text_tree catalog.pool d) ≡ is_plain_form catalog d
   unfolding text_tree
@@ -112,37 +148,82 @@ module _ (catalog : Catalog) where
       let nodes = catalog.pool.nodes in
       ap (λ depth. is_capability (map_dep f (tree_within nodes depth d))) (add-one d) ∙ held_mapped f (tree_within nodes d) (slice_get nodes d)
 
-  need_form : (need : Need) → has_written_form true (text_tree catalog.pool need.dep) ≡ has_form catalog true need.dep
-  need_form need = written_form true need.dep
+  -- the weak dependencies of a package, as they are written
+  weak_written : (at : ℕ → Dep (List ℕ)) (a : Package) → map at a.recommends ++ (map at a.suggests ++ (map at a.supplements ++ map at a.enhances)) ≡ map at (a.recommends ++ (a.suggests ++ (a.supplements ++ a.enhances)))
+  weak_written at a =
+      let l2 : map at (a.supplements ++ a.enhances) ≡ map at a.supplements ++ map at a.enhances = map-append at a.supplements a.enhances in
+      let l1 : map at (a.suggests ++ (a.supplements ++ a.enhances)) ≡ map at a.suggests ++ map at (a.supplements ++ a.enhances) = map-append at a.suggests (a.supplements ++ a.enhances) in
+      let l0 : map at (a.recommends ++ (a.suggests ++ (a.supplements ++ a.enhances))) ≡ map at a.recommends ++ map at (a.suggests ++ (a.supplements ++ a.enhances)) = map-append at a.recommends (a.suggests ++ (a.supplements ++ a.enhances)) in
+      rw (l0, l1, l2) refl
 
-  pub written_formed : (a : Package) → is_written_formed (written_package catalog.pool a) ≡ is_formed catalog a
-  written_formed a =
+  -- what the text of a package says of its dependencies
+  record HasParts (a : Package) : Type 0 where
+    needs : list_all (λ (need : WrittenNeed). has_written_form true need.dep) (map (λ (need : Need). record { dep = text_tree catalog.pool need.dep; pre = need.pre }) a.requires_) ≡ true
+    conflicts : list_all (has_written_form false) (map (text_tree catalog.pool) a.conflicts) ≡ true
+    plain : list_all is_capability (map (text_tree catalog.pool) (a.provides ++ a.obsoletes)) ≡ true
+    weak : list_all (has_written_form true) (map (text_tree catalog.pool) (a.recommends ++ (a.suggests ++ (a.supplements ++ a.enhances)))) ≡ true
+
+  parts_of : (a : Package) → is_written_formed (written_package catalog.pool a) ≡ true → HasParts a
+  parts_of a h =
       let at : ℕ → Dep (List ℕ) = text_tree catalog.pool in
-      let needs : list_all (λ (need : WrittenNeed). has_written_form true need.dep) (map (λ (need : Need). record { dep = at need.dep; pre = need.pre }) a.requires_) ≡ list_all (λ (need : Need). has_form catalog true need.dep) a.requires_
-      = same_all {X = Need} {Y = WrittenNeed} (λ need. has_form catalog true need.dep) (λ need. has_written_form true need.dep) (λ need. record { dep = at need.dep; pre = need.pre }) need_form a.requires_ in
-      let conflicts = same_all (has_form catalog false) (has_written_form false) at (written_form false) a.conflicts in
-      let plain : list_all is_capability (map at a.provides ++ map at a.obsoletes) ≡ list_all (is_plain_form catalog) (a.provides ++ a.obsoletes)
-      = ap (list_all is_capability) (sym (map-append at a.provides a.obsoletes)) ∙ same_all (is_plain_form catalog) is_capability at written_plain (a.provides ++ a.obsoletes) in
-      let l2 : map at a.supplements ++ map at a.enhances ≡ map at (a.supplements ++ a.enhances) = sym (map-append at a.supplements a.enhances) in
-      let l1 : map at a.suggests ++ map at (a.supplements ++ a.enhances) ≡ map at (a.suggests ++ (a.supplements ++ a.enhances)) = sym (map-append at a.suggests (a.supplements ++ a.enhances)) in
-      let l0 : map at a.recommends ++ map at (a.suggests ++ (a.supplements ++ a.enhances)) ≡ map at (a.recommends ++ (a.suggests ++ (a.supplements ++ a.enhances))) = sym (map-append at a.recommends (a.suggests ++ (a.supplements ++ a.enhances))) in
-      let weak : list_all (has_written_form true) (map at a.recommends ++ (map at a.suggests ++ (map at a.supplements ++ map at a.enhances))) ≡ list_all (has_form catalog true) (a.recommends ++ (a.suggests ++ (a.supplements ++ a.enhances)))
-      = rw (l2, l1, l0) (same_all (has_form catalog true) (has_written_form true) at (written_form true) (a.recommends ++ (a.suggests ++ (a.supplements ++ a.enhances)))) in
-      rw (needs, conflicts, plain, weak) refl
+      let all = four_true _ _ _ _ h in
+      record {
+        needs = all.0;
+        conflicts = all.1;
+        plain = ap (list_all is_capability) (map-append at a.provides a.obsoletes) ∙ all.2;
+        weak = ap (list_all (has_written_form true)) (sym (weak_written at a)) ∙ all.3;
+      }
 
-  -- a test of packages as they are written is the test of them by their ids
-  pub written_all_formed : (packages : List Package) → list_all is_written_formed (map (written_package catalog.pool) packages) ≡ list_all (is_formed catalog) packages
-  written_all_formed packages = same_all (is_formed catalog) is_written_formed (written_package catalog.pool) written_formed packages
+  -- so whatever follows from such a form holds of all that the package asks for, at a conflict (false) or elsewhere (true)
+  module _ (p : Bool → ℕ → Bool) (from : (at : Bool) (d : ℕ) → has_written_form at (text_tree catalog.pool d) ≡ true → p at d ≡ true) (a : Package) (parts : HasParts a) where
+    needs_pass : list_all (λ need. p true need.dep) a.requires_ ≡ true
+    needs_pass =
+        all_from {X = Need} {Y = WrittenNeed} (λ need. p true need.dep) (λ need. has_written_form true need.dep) (λ need. record { dep = text_tree catalog.pool need.dep; pre = need.pre }) (λ need. from true need.dep) a.requires_ parts.needs
 
--- the packages that were added have such forms where what was read has
-pub taken_formed : (given : Result Repository TagFault) (pool : Held) (old new : Contents) → IfOk given (λ r. list_all is_written_formed r.packages ≡ true) → IsOkAnd given (λ r. IsTaken r pool old new)
-    → list_all (is_formed (alone pool new)) (drop (length old.packages) new.packages) ≡ true
-taken_formed (Err fault) pool old new formed taken = absurd taken
-taken_formed (Ok r) pool old new formed taken =
+    conflicts_pass : list_all (p false) a.conflicts ≡ true
+    conflicts_pass = all_from (p false) (has_written_form false) (text_tree catalog.pool) (from false) a.conflicts parts.conflicts
+
+    weak_pass : list_all (p true) (a.recommends ++ (a.suggests ++ (a.supplements ++ a.enhances))) ≡ true
+    weak_pass = all_from (p true) (has_written_form true) (text_tree catalog.pool) (from true) (a.recommends ++ (a.suggests ++ (a.supplements ++ a.enhances))) parts.weak
+
+  -- a package whose text has such forms has them, and asks for single relations
+  formed : (a : Package) → is_written_formed (written_package catalog.pool a) ≡ true → is_formed catalog a ≡ true
+  formed a h =
+      let parts = parts_of a h in
+      let plain : list_all (is_plain_form catalog) (a.provides ++ a.obsoletes) ≡ true = sym (same_all (is_plain_form catalog) is_capability (text_tree catalog.pool) written_plain (a.provides ++ a.obsoletes)) ∙ parts.plain in
+      let form : (at : Bool) (d : ℕ) → has_written_form at (text_tree catalog.pool d) ≡ true → has_form catalog at d ≡ true = written_form in
+      rw (needs_pass (has_form catalog) form a parts, conflicts_pass (has_form catalog) form a parts, plain, weak_pass (has_form catalog) form a parts) refl
+
+  single : (a : Package) → is_written_formed (written_package catalog.pool a) ≡ true → asks_for_singles catalog a ≡ true
+  single a h =
+      let parts = parts_of a h in
+      let p : Bool → ℕ → Bool = λ at d. is_single_relation catalog d in
+      rw (needs_pass p written_single a parts, conflicts_pass p written_single a parts, weak_pass p written_single a parts) refl
+
+  -- so do packages
+  pub all_formed : (packages : List Package) → list_all is_written_formed (map (written_package catalog.pool) packages) ≡ true → list_all (is_formed catalog) packages ≡ true
+  all_formed packages h = all_from (is_formed catalog) is_written_formed (written_package catalog.pool) formed packages h
+
+  pub all_single : (packages : List Package) → list_all is_written_formed (map (written_package catalog.pool) packages) ≡ true → list_all (asks_for_singles catalog) packages ≡ true
+  all_single packages h = all_from (asks_for_singles catalog) is_written_formed (written_package catalog.pool) single packages h
+
+-- the packages that were added have such forms in their text where what was read has
+taken_text : (given : Result Repository TagFault) (pool : Held) (old new : Contents) → IfOk given (λ r. list_all is_written_formed r.packages ≡ true) → IsOkAnd given (λ r. IsTaken r pool old new)
+    → list_all is_written_formed (map (written_package pool) (drop (length old.packages) new.packages)) ≡ true
+taken_text (Err fault) pool old new formed taken = absurd taken
+taken_text (Ok r) pool old new formed taken =
     let added = taken.packages.added in
     let packages : new.packages ≡ old.packages ++ added = ap (λ (u : Contents). u.packages) taken.packages.universe in
     let behind : drop (length old.packages) new.packages ≡ added = ap (drop (length old.packages)) packages ∙ drop-append_seam old.packages added in
-    ap (list_all (is_formed (alone pool new))) behind
-    ∙ sym (written_all_formed (alone pool new) added)
+    ap (λ l. list_all is_written_formed (map (written_package pool) l)) behind
     ∙ ap (list_all is_written_formed) taken.packages.texts
     ∙ formed
+
+-- so they have them, and ask for single relations
+pub taken_formed : (given : Result Repository TagFault) (pool : Held) (old new : Contents) → IfOk given (λ r. list_all is_written_formed r.packages ≡ true) → IsOkAnd given (λ r. IsTaken r pool old new)
+    → list_all (is_formed (alone pool new)) (drop (length old.packages) new.packages) ≡ true
+taken_formed given pool old new formed taken = all_formed (alone pool new) (drop (length old.packages) new.packages) (taken_text given pool old new formed taken)
+
+pub taken_single : (given : Result Repository TagFault) (pool : Held) (old new : Contents) → IfOk given (λ r. list_all is_written_formed r.packages ≡ true) → IsOkAnd given (λ r. IsTaken r pool old new)
+    → list_all (asks_for_singles (alone pool new)) (drop (length old.packages) new.packages) ≡ true
+taken_single given pool old new formed taken = all_single (alone pool new) (drop (length old.packages) new.packages) (taken_text given pool old new formed taken)

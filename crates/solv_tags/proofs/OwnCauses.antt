@@ -12,7 +12,7 @@ use Rattle.solv_pool.specs.Contents.{most_packages}
 use Rattle.solv_pool.specs.Written.{WrittenPackage}
 use Rattle.solv_deps.specs.Entering.{Entered, is_relation, text_entered, relation_entered, pair_entered, triple_entered, capability_entered, dependency_entered}
 use Rattle.solv_deps.specs.Grammar.{operator, comparison, opens, closes, is_plain}
-use Rattle.solv_deps.specs.Reading.{Hand, Due, operand_due, evr_due, operator_due, Point, goes_on, refused_operator, close, go_on, at_operand, at_evr, at_other, at_operator, comparison_due, step_due, step, end_due, and_then, reading_from, beginning, reading, dependency}
+use Rattle.solv_deps.specs.Reading.{Hand, Due, operand_due, evr_due, operator_due, Point, goes_on, refused_operator, close, go_on, at_operator, comparison_due, step_due, step, end_due, and_then, reading_from, beginning, reading, dependency}
 use Rattle.solv_deps.specs.Table.{stands_at}
 use Rattle.solv_deps.specs.Words.{words}
 use Rattle.solv_deps.specs.declared.fault.DepFault.{DepFault}

@@ -6,8 +6,7 @@ ghost use Rattle.solv_pool.specs.Belonging.{IsOver};
 ghost use Rattle.solv_tags.specs.RepositoryReading.{IsTaken, IsTagRefusal, HasOneForm};
 ghost use Rattle.solv_tags.specs.TagReading.{IsReading, IsReadTo, HasMore, tagged_of};
 ghost use Rattle.solv_tags.specs.Testtags.{lines_read, testtags};
-ghost use Rattle.solv_script.specs.Items.{is_inline};
-ghost use Rattle.solv_script.specs.ScriptLines.{inline_lines};
+ghost use Rattle.solv_script.specs.ScriptLines.{inline_lines, is_inline};
 
 use solv_base::Pool;
 use solv_io::split_line;

@@ -1,5 +1,7 @@
 //! The reader of scripts.
-ghost use Rattle.std.specs.Prelude.{◌≡◌, OnOk, IfErr};
+ghost use Rattle.std.specs.List.{list_all};
+ghost use Rattle.std.specs.Prelude.{◌≡◌, true, OnOk, IfErr};
+ghost use Rattle.solv_pool.specs.Catalog.{catalog_of};
 ghost use Rattle.solv_pool.specs.TaskBelonging.{IsClosed};
 ghost use Rattle.solv_pool.specs.TaskForms.{HasForms};
 ghost use Rattle.solv_script.specs.Grammar.{counted};
@@ -7,6 +9,7 @@ ghost use Rattle.solv_script.specs.Halts.{IsHalt};
 ghost use Rattle.solv_script.specs.Readings.{IsReader, HasRead, state_of};
 ghost use Rattle.solv_script.specs.Reads.{written_script};
 ghost use Rattle.solv_script.specs.States.{no_line, script_given};
+ghost use Rattle.solv_tags.specs.EntryForms.{asks_for_singles};
 
 use crate::scripts::{EvrCheck, Kinds, Script};
 use crate::whole::halts::Halt;
@@ -76,6 +79,7 @@ impl Reader {
         ensures script { written_script result ≡ script_given (state_of self) }
         ensures closed { IsClosed result.task }
         ensures forms { HasForms result.task }
+        ensures singly { list_all (asks_for_singles (catalog_of result.task)) result.task.universe.packages ≡ true }
     {
         Script {
             task: self.task,

@@ -211,6 +211,30 @@ fn files_that_are_not_held_cannot_be_read(rt: HostRuntime) -> Result<(), Fail> {
     Ok(())
 }
 
+/// A script with three files among other lines, and a bad last line.
+const THREE_FILES: &str =
+    "repo a 0 testtags a.repo\nrepo b 0 testtags <inline>\n#>=Pkg: B 1 1 noarch\nrepo c 0 testtags /c.repo\nevrcmp 1 < 2\nrepo d 0 testtags a.repo\nfoo\n";
+
+#[test]
+fn each_fetch_that_fails_ends_the_reading(rt: HostRuntime) -> Result<(), Fail> {
+    let cases = [
+        (1, "cannot read d/a.repo", 1),
+        (2, "cannot read /c.repo", 2),
+        (3, "cannot read d/a.repo", 3),
+        (4, "d/case.t:7: UnknownLine", 3),
+    ];
+    for (call, want, calls) in cases {
+        let package = b"=Pkg: A 1 1 noarch".as_slice();
+        let mut files = mem_files(rt.alloc(), &[("d/a.repo", package), ("/c.repo", package)])?;
+        files.fails.push(call)?;
+        let got = said_of(rt.alloc(), THREE_FILES.as_bytes(), &mut files)?;
+        assert_eq!(rt; got.as_str(), want, "{call}");
+        assert_eq!(rt; (files.calls, files.asked.len() as u64), (calls, calls));
+        assert_eq!(rt; files.faults, (call == calls) as u64);
+    }
+    Ok(())
+}
+
 /// A script of all kinds of lines.
 const ALL_KINDS: &str =
     "repo a -1 testtags <inline>\n#>=Ver: 3.0\r\n#>=Pkg: A 1 - noarch\n#>+Req:\n#>b >= 1\n#>-Req:\nrepo b 2 testtags b.repo\n# comment\nrepo c 0 empty\nsystem i686 rpm a\nsolverflags !allownamechange,allowdowngrade noinfarchcheck\nnamespace namespace:x(y) @SYSTEM B-1-1.noarch@b\ndisable pkg B-1-1.noarch@b\nevrcmp 1.0~rc1 < 1.0\njob install pkg B-1-1.noarch@b [forcebest]\n \t\njob erase name A < 2\njob favor oneof A-1.noarch@a B-1-1.noarch@b\njob verify all packages\njob noop\n";

@@ -1,4 +1,4 @@
-use Rattle.std.proofs.Common.{◌≡◌, ℕ, ◌+◌, length, Result, sym, subst}
+use Rattle.std.proofs.Common.{◌+◌, length, Result, sym, subst}
 use Rattle.solv_io.specs.Lines.{lines_of}
 use Rattle.solv_tags.specs.Testtags.{testtags}
 use Rattle.solv_script.specs.Grammar.{Bad}

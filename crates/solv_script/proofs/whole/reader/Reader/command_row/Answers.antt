@@ -1,6 +1,5 @@
-use Rattle.std.proofs.Common.{◌≡◌, Some, sym}
+use Rattle.std.proofs.Common.{Some, sym}
 use Rattle.solv_commands.specs.Borrowed.{command_of}
-use Rattle.solv_script.specs.Grammar.{command_row, lines_row}
 use Rattle.solv_script.specs.Readings.{state_of, line_before}
 use Rattle.solv_script.specs.Rows.{plain_row}
 use Rattle.solv_script.proofs.FileRows.{on_ok, if_err, command_then, command_halted}

@@ -1,5 +1,4 @@
-use Rattle.std.proofs.Common.{◌≡◌, ℕ, Option, List, ap, sym, ◌∙◌, refl, subst}
-use Rattle.std.specs.Str.{IsUtf8}
+use Rattle.std.proofs.Common.{◌≡◌, ap, sym, ◌∙◌, refl}
 use Rattle.solv_script.specs.FileNames.{fetched_name}
 use Rattle.solv_script.specs.FileRuns.{row_piece}
 use Rattle.solv_script.specs.Grammar.{file_row}

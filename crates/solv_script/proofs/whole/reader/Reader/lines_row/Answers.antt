@@ -1,4 +1,4 @@
-use Rattle.std.proofs.Common.{◌≡◌, ap, sym, ◌∙◌}
+use Rattle.std.proofs.Common.{ap, sym, ◌∙◌}
 use Rattle.std.specs.Str.{bytes_eq}
 use Rattle.solv_script.specs.Readings.{state_of, line_before}
 use Rattle.solv_script.proofs.FileRows.{if_err, inline_ended}

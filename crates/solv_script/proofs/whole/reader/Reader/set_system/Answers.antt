@@ -1,4 +1,4 @@
-use Rattle.std.proofs.Common.{◌≡◌, Bool, List, ℕ, Option, None, Some, true, false, codes, length, map, sym, ap, ◌∙◌, refl}
+use Rattle.std.proofs.Common.{◌≡◌, None, Some, true, false, codes, sym, ap, ◌∙◌, refl}
 use Rattle.std.specs.Prelude.{not}
 use Rattle.std.specs.Option.{option_map}
 use Rattle.std.specs.Str.{bytes_eq}

@@ -1,0 +1,41 @@
+use Rattle.std.proofs.Common.{◌≡◌, ◌++◌, List, ℕ, true, sym, ap, ◌∙◌, subst}
+use Rattle.std.specs.List.{list_all}
+use Rattle.solv_io.specs.Lines.{ended_lines}
+use Rattle.solv_pool.specs.Catalog.{catalog_of}
+use Rattle.solv_pool.specs.RuleMeaning.{HardRule}
+use Rattle.solv_pool.specs.declared.hard_rules.Rules.{Rules}
+use Rattle.solv_rules.specs.Books.{is_bookable}
+use Rattle.solv_lines.specs.Fitting.{asks_singly}
+use Rattle.solv_lines.specs.LineSets.{line_set}
+use Rattle.solv_lines.specs.ResultLines as lines
+use Rattle.solv_run.specs.Checks.{false_lines}
+use Rattle.solv_run.specs.Texts.{answer_lines}
+use Rattle.solv_run.proofs.Bookable.{rules_ask_singly}
+use Rattle.solv_run.proofs.CheckLines.{ended_join}
+use Rattle.solv_run.proofs.AnswerLines.{lines_alike}
+use Rattle.solv_run.proofs.printing.printed.Goals as goal
+
+pub result_lines-requires-clause-single : goal.result_lines-requires-clause-single
+result_lines-requires-clause-single c =
+    let catalog = catalog_of c.args.script.now.task in
+    let R : Rules → Type 0 = λ r. list_all (asks_singly catalog) r.list ≡ true in
+    let B : List HardRule → Type 0 = λ rules. list_all (is_bookable catalog) rules ≡ true in
+    subst R (sym c.rules-rules.ensures) (rules_ask_singly c.tested_rules_ask_singly.ensures catalog c.args.prepared.now.book.rules (subst B (sym c.requires.prepared.rules) c.requires.prepared.bookable))
+
+pub returns : goal.returns
+returns c =
+    let task = c.args.script.now.task in
+    let kinds = c.args.script.now.kinds in
+    let false_ones = false_lines c.args.script.now.checks in
+    let result = line_set (answer_lines task kinds c.args.answer.now) in
+    let made : c.in_ok-lines.lines ≡ result =
+    c.in_ok-lines.ensures
+    ∙ ap line_set (ap (λ r. lines.outcome_lines task r kinds c.in_ok-outcome.outcome) c.rules-rules.ensures
+    ∙ ap (λ o. lines.outcome_lines task c.args.prepared.now.book.rules kinds o) c.in_ok-outcome.ensures
+    ∙ lines_alike task c.args.prepared.now.book.rules c.requires.prepared.rules kinds c.args.answer.now) in
+    let begun : c.append_false.new.text.items ≡ ended_lines false_ones = rw (c.new-text.ensures.items, c.held.ensures) at c.in_ok-append_false.ensures in
+    let behind : c.held-2.result.now ≡ ended_lines result = c.held-2.ensures ∙ c.in_ok-ended.ensures ∙ ap ended_lines made in
+    c.in_ok-extend_from_slice.ensures.items
+    ∙ ap (λ t. t ++ c.held-2.result.now) begun
+    ∙ ap (λ t. ended_lines false_ones ++ t) behind
+    ∙ sym (ended_join false_ones result)

@@ -1,0 +1,8 @@
+use Rattle.std.proofs.Common.{refl, inl, inr}
+use Rattle.solv_run.specs.Runs.{cut_off}
+use Rattle.solv_run.proofs.Reported.{all_prefix, no_prefix}
+use Rattle.solv_run.proofs.saying.say.Goals as goal
+
+pub returns-in-Err-Failed-put : goal.returns-in-Err-Failed-put
+returns-in-Err-Failed-put g c =
+    cut_off refl refl (inr (rw c.in-Err-Failed-put.field-0-is at c.in-Err-Failed-put.ensures.faults)) (all_prefix _ _ c.args.out_text.now c.in-Ok.ensures.whole) c.in-Err-Failed-put.ensures.prefix

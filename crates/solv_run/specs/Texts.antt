@@ -1,0 +1,42 @@
+-- What is printed for an answer.
+use Rattle.std.specs.Prelude.{ℕ, Bool, true, false, List, [], ◌++◌, map, flat_map, codes, slice_get}
+use Rattle.std.specs.Fmt.{decimal}
+use Rattle.std.specs.List.{enumerate_from}
+use Rattle.std.specs.Option.{option_map_or}
+use Rattle.solv_pool.specs.Catalog.{catalog_of}
+use Rattle.solv_pool.specs.HardRules.{hard_rules}
+use Rattle.solv_pool.specs.Words.{when}
+use Rattle.solv_pool.specs.declared.tasks.Task.{Task}
+use Rattle.solv_script.specs.declared.scripts.Kinds.{Kinds}
+use Rattle.solv_script.specs.declared.scripts.Script.{Script}
+use Rattle.solv_answers.specs.declared.answers.Answer.{Answer}
+use Rattle.solv_answers.specs.declared.answers.Answer.TheVariants.{Transaction, Problems, Spent}
+use Rattle.solv_remedy.specs.declared.problems.Problem.{Problem}
+use Rattle.solv_lines.specs.LineSets.{line_set}
+use Rattle.solv_lines.specs.ResultLines.{change_line}
+use Rattle.solv_lines.specs.RuleTexts.{text_of_rule}
+use Rattle.solv_io.specs.Lines.{ended_lines}
+use Rattle.solv_run.specs.Checks.{false_lines}
+
+module _ (task : Task) where
+  -- the text of the hard rule that has this number
+  abbrev pub hard_rule_text : ℕ → List ℕ
+  hard_rule_text number = option_map_or (text_of_rule task) (slice_get (hard_rules task) number) []
+
+  -- the line of a rule that the problem of a number lists
+  abbrev pub info_line : ℕ → ℕ → List ℕ
+  info_line problem rule = codes "problem " ++ (decimal problem ++ (codes " info " ++ hard_rule_text rule))
+
+  -- those of a problem
+  abbrev pub problem_lines : ℕ → Problem → List (List ℕ)
+  problem_lines number problem = map (info_line number) problem.rules
+
+  -- the result lines of an answer, of the kinds that are asked for: those of its changes, or of its problems, which are numbered from 1
+  abbrev pub answer_lines : Kinds → Answer → List (List ℕ)
+  answer_lines kinds (Transaction trail set made ordered) = when kinds.transaction (map (change_line (catalog_of task)) made)
+  answer_lines kinds (Problems problems) = when kinds.problems (flat_map (λ x. problem_lines x.0 x.1) (enumerate_from 1 problems))
+  answer_lines kinds (Spent ledger) = []
+
+-- what is printed: the comparisons that are false, and the result lines, sorted by bytes, each once
+abbrev pub printed : Script → Answer → List ℕ
+printed script answer = ended_lines (false_lines script.checks ++ line_set (answer_lines script.task script.kinds answer))
