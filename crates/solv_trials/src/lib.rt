@@ -13,6 +13,10 @@ mod job_tests;
 #[cfg(test)]
 mod legal_tests;
 #[cfg(test)]
+mod line_tests;
+#[cfg(test)]
+mod order_tests;
+#[cfg(test)]
 mod policy_tests;
 #[cfg(test)]
 mod update_tests;
