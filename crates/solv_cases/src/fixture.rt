@@ -23,7 +23,7 @@ pub(crate) struct Trial {
 }
 
 /// The task of a script. A script that is refused is told as want of memory, which fails a test.
-fn read(alloc: Global, text: &str) -> Result<Task, AllocError>
+pub(crate) fn read(alloc: Global, text: &str) -> Result<Task, AllocError>
     ensures { IfOk result (λ task. IsClosed task) }
 {
     let mut files = AllFiles {

@@ -4,6 +4,8 @@
 #![tactic(auto)]
 
 #[cfg(test)]
+mod answer_tests;
+#[cfg(test)]
 mod fixture;
 #[cfg(test)]
 mod singles;

@@ -106,7 +106,7 @@ job install name A
 ";
 
 /// P (1) needs lib: la (2) needs x (4) and y (5), which conflict, and lb (3) needs nothing.
-const LEARNING: &str = "repo system 0 empty
+pub(crate) const LEARNING: &str = "repo system 0 empty
 repo available 0 testtags <inline>
 #>=Pkg: P 1 1 noarch
 #>=Req: lib
