@@ -268,7 +268,7 @@ held_marks_cut count values places lits reasons marks level h held =
 
 -- without its newest literal
 module _ (count : ℕ) (values places : List ℕ) (lits : List ℤ) (l : ℤ) (reasons : List ℕ) (r : ℕ) (marks : List ℕ) (held : IsHeld count values places (lits ++ l ∷ []) (reasons ++ r ∷ []) marks) where
-  popped_over : (list_all (names_package count) lits ≡ true) × (names_package count l ≡ true)
+  pub popped_over : (list_all (names_package count) lits ≡ true) × (names_package count l ≡ true)
   popped_over =
       let both = and_parts (list_all (names_package count) lits) (names_package count l && true) (sym (list_all-append (names_package count) lits (l ∷ [])) ∙ held.over) in
       (both.0, (and_parts (names_package count l) true both.1).0)
@@ -280,7 +280,7 @@ module _ (count : ℕ) (values places : List ℕ) (lits : List ℤ) (l : ℤ) (r
   popped_place = ap (λ v. get_or places (nat_abs v) 0) (sym (get_or_push lits l (pos 0) (length lits) refl)) ∙ held.there (length lits) (let e = popped_long in omega arith)
 
   -- no other literal is of its package
-  popped_alone : (m : ℤ) → is_fact lits m ≡ true → nat_abs m ≡ nat_abs l → ⊥
+  pub popped_alone : (m : ℤ) → is_fact lits m ≡ true → nat_abs m ≡ nat_abs l → ⊥
   popped_alone m k e =
       let s = known_place lits m k in
       let j : ℕ = s.0 in

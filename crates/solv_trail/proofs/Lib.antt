@@ -7,3 +7,5 @@ pub mod Visits
 pub mod Runs
 pub mod Descent
 pub mod Examples
+pub mod Bits
+pub mod Ins

@@ -1,9 +1,10 @@
 -- What a trail holds.
-use Rattle.std.specs.Prelude.{◌≡◌, ℕ, ℤ, pos, negsuc, ◌+◌, ◌<◌, ◌≤◌, ◌==◌, nat_abs, true, List, length, slice_index, slice_index_or, if◌then◌else◌}
+use Rattle.std.specs.Prelude.{◌≡◌, ℕ, ℤ, pos, negsuc, ◌+◌, ◌<◌, ◌≤◌, ◌==◌, nat_abs, Bool, true, List, length, slice_index, slice_index_or, if◌then◌else◌}
 use Rattle.std.specs.List.{sum_by, list_all}
 use Rattle.solv_trail.specs.declared.questions.Question.{Question}
 use Rattle.solv_pool.specs.Propagation.{is_fact}
 use Rattle.solv_derive.specs.Range.{names_package}
+use Rattle.solv_trail.specs.Numbers.{has, room}
 
 -- the number of packages, the literals in their order, the rule of each, the places of the choices, and what was asked at each
 pub record Held : Type 0 where
@@ -36,3 +37,8 @@ pub record IsHeld (count : ℕ) (values places : List ℕ) (lits : List ℤ) (re
   pub marks_within : (k : ℕ) → k < length marks → slice_index marks k < length lits
   pub marks_rise : (i k : ℕ) → i < k → k < length marks → slice_index marks i < slice_index marks k
   pub marks_few : length marks ≤ length lits
+
+-- a set that has the packages that are known in
+pub record AreIn (count : ℕ) (words : List ℕ) (lits : List ℤ) : Type 0 where
+  pub space : count < room words
+  pub each : (k : ℕ) → has words k ≡ is_fact lits (pos k)

@@ -1,6 +1,7 @@
 pub mod Derivation
 pub mod Walk
 pub mod Held
+pub mod Numbers
 pub mod Asked
 pub mod Looks
 pub mod Propagated

@@ -1,11 +1,14 @@
 //! The literals that are known.
-ghost use Rattle.std.specs.Prelude.{◌≡◌, ◌≤◌, ◌<◌, ◌+◌, ◌==◌, ◌||◌, ◌&&◌, not, ℕ, ℤ, pos, nat_lt, neg_ℤ, true, false, [], ◌∷◌, ◌++◌, List, length, take, slice_index, slice_index_or, IfOk};
+ghost use Rattle.std.specs.Prelude.{◌≡◌, ◌≤◌, ◌<◌, ◌+◌, ◌==◌, ◌||◌, ◌&&◌, not, ℕ, ℤ, pos, nat_abs, nat_lt, neg_ℤ, true, false, [], ◌∷◌, ◌++◌, List, length, take, slice_index, slice_index_or, IfOk};
 ghost use Rattle.std.specs.List.{list_all};
 ghost use Rattle.solv_pool.specs.Propagation.{is_fact, is_refuted};
 ghost use Rattle.solv_derive.specs.Range.{names_package};
 ghost use Rattle.solv_trail.specs.Held.{code};
+ghost use Rattle.solv_trail.specs.Numbers.{has, room, IsFirst};
+ghost use Rattle.std.specs.Ordering.{int_eq};
 ghost use Rattle.solv_trail.specs.declared.questions.Question.{Question};
 
+use crate::numbers::NumberSet;
 use crate::questions::{Ask, Question, keep_question};
 use solv_pack::Lit;
 use solv_pool::PackNo;
@@ -24,6 +27,7 @@ const CHOSEN: u32 = u32::MAX;
 pub struct Known {
     count: u32,
     values: Vec<u8>,
+    ins: NumberSet,
     places: Vec<u32>,
     lits: Vec<Lit>,
     reasons: Vec<u32>,
@@ -33,7 +37,7 @@ pub struct Known {
 
 impl Model for Known {
     ghost use Rattle.std.specs.Prelude.{◌≡◌, ◌≤◌, ◌<◌, length, vec_capacity};
-    ghost use Rattle.solv_trail.specs.Held.{Held, IsHeld};
+    ghost use Rattle.solv_trail.specs.Held.{Held, IsHeld, AreIn};
 
     ghost Value = { Held };
 
@@ -41,6 +45,7 @@ impl Model for Known {
 
     ghost invariant = { λ t. record {
       held : IsHeld t.count t.values.items t.places.items t.lits.items t.reasons.items t.marks.items;
+      ins : AreIn t.count t.ins t.lits.items;
       questions : length t.questions.items ≡ length t.marks.items;
       room : t.count ≤ vec_capacity t.lits;
       reasons_room : t.count ≤ vec_capacity t.reasons;
@@ -56,6 +61,30 @@ fn code_of(lit: Lit) -> u8
     if lit.is_in() { 1 } else { 2 }
 }
 
+/// Puts the package of a literal in, where the literal says so.
+fn mark(ins: &mut NumberSet, lit: Lit)
+    requires some { 0 < nat_abs lit }
+    requires space { nat_abs lit < room ins.old }
+    ensures space { length ins.new ≡ length ins.old }
+    ensures marked { (k : ℕ) → has ins.new k ≡ (int_eq (pos k) lit || has ins.old k) }
+{
+    if lit.is_in() {
+        ins.insert(lit.package());
+    }
+}
+
+/// Takes the package of a literal out, where the literal said that it is in.
+fn unmark(ins: &mut NumberSet, lit: Lit)
+    requires some { 0 < nat_abs lit }
+    requires space { nat_abs lit < room ins.old }
+    ensures space { length ins.new ≡ length ins.old }
+    ensures unmarked { (k : ℕ) → has ins.new k ≡ (not (int_eq (pos k) lit) && has ins.old k) }
+{
+    if lit.is_in() {
+        ins.remove(lit.package());
+    }
+}
+
 impl Known {
     /// Nothing is known of packages from 1 to `count`.
     pub fn new(alloc: Global, count: u32) -> Result<Known, AllocError>
@@ -64,6 +93,7 @@ impl Known {
     {
         let size = count as usize + 1;
         let values = vec![in alloc; 0u8; size]?;
+        let ins = NumberSet::new(alloc, count)?;
         let places = vec![in alloc; 0u32; size]?;
         let lits = Vec::with_capacity(alloc, count as usize)?;
         let reasons = Vec::with_capacity(alloc, count as usize)?;
@@ -72,6 +102,7 @@ impl Known {
         Ok(Known {
             count,
             values,
+            ins,
             places,
             lits,
             reasons,
@@ -122,6 +153,23 @@ impl Known {
         }
     }
 
+    /// The packages that are known in, without the system.
+    pub fn packs_in(&self) -> &NumberSet
+        ensures { (k : ℕ) → has result.now k ≡ is_fact self.now.lits (pos k) }
+    {
+        &self.ins
+    }
+
+    /// The first package from a number on that is known in, without the system.
+    pub fn next_in(&self, from: u32) -> Option<PackNo>
+        ensures { IsFirst (λ k. is_fact self.now.lits (pos k)) from result }
+    {
+        match self.ins.next(from) {
+            Some(number) => Some(PackNo(number)),
+            None => None,
+        }
+    }
+
     /// What holds always: no package is in and out, and each literal names a package.
     pub fn keep_apart(&self)
         ensures small { self.now.count ≤ 1048575 }
@@ -149,6 +197,7 @@ impl Known {
     {
         let pack = lit.package() as usize;
         self.values[pack] = code_of(lit);
+        mark(&mut self.ins, lit);
         self.places[pack] = self.lits.len() as u32;
         let _ = self.lits.push(lit);
         let _ = self.reasons.push(reason);
@@ -221,6 +270,7 @@ impl Known {
         let pack = lit.package() as usize;
         let place = self.lits.len() as u32;
         self.values[pack] = code_of(lit);
+        mark(&mut self.ins, lit);
         self.places[pack] = place;
         let _ = self.marks.push(place);
         let _ = self.lits.push(lit);
@@ -257,6 +307,7 @@ impl Known {
         while self.lits.len() > end {
             if let Some(lit) = self.lits.pop() {
                 self.values[lit.package() as usize] = 0;
+                unmark(&mut self.ins, lit);
                 let _ = self.reasons.pop();
             }
         }

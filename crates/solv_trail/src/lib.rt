@@ -18,12 +18,14 @@ mod descending;
 mod guides;
 mod known;
 mod looking;
+mod numbers;
 mod propagation;
 mod questions;
 
 pub use descending::descend;
 pub use guides::Guide;
 pub use known::Known;
+pub use numbers::NumberSet;
 pub use propagation::{lits_of, propagate};
 pub use questions::{Ask, Question};
 

@@ -5,6 +5,7 @@ use Rattle.std.specs.Prelude.{nat_abs, is_ok}
 use Rattle.solv_pool.specs.Propagation.{is_fact, is_refuted}
 use Rattle.solv_derive.specs.Range.{names_package}
 use Rattle.solv_trail.proofs.Holding.{held_room, held_choose}
+use Rattle.solv_trail.proofs.Ins.{one_more_in, fits_in}
 use Rattle.solv_trail.proofs.known.Known.choose.Goals as goal
 use Rattle.solv_trail.proofs.known.Known.choose.Goals.{After-len-place, After-push-3}
 
@@ -51,6 +52,7 @@ invariant_of-self c =
       room = omega (arith, c.self.invariant.room, c.push-2.ensures.capacity);
       reasons_room = omega (arith, c.self.invariant.reasons_room, c.push-3.ensures.capacity);
       marks_room = omega (arith, c.self.invariant.marks_room, c.push.ensures.capacity);
+      ins = rw lits (one_more_in f.count f.ins c.mark.new.ins f.lits.items c.args.lit c.self.invariant.ins c.mark.ensures.space c.mark.ensures.marked);
       questions = rw (c.keep_question.ensures.items, marks, length_push f.questions.items c.args.ask.question, length_push f.marks.items c.len-place.result, c.self.invariant.questions) refl;
       questions_room = omega (arith, c.self.invariant.questions_room, c.keep_question.ensures.room);
     }
@@ -85,3 +87,9 @@ keep_question-requires c =
     let same : length f.questions.items ≡ length f.marks.items = c.self.invariant.questions in
     let few : length f.marks.items ≤ length f.lits.items = c.self.invariant.held.marks_few in
     omega (arith, c.self.invariant.questions_room)
+
+pub mark-requires-clause-some : goal.mark-requires-clause-some
+mark-requires-clause-some c = let f = c.self.inside in (fits_in f.count f.ins f.lits.items c.args.lit c.self.invariant.ins (rw (← c.self.view_is) at c.requires.over)).0
+
+pub mark-requires-clause-space : goal.mark-requires-clause-space
+mark-requires-clause-space c = let f = c.self.inside in (fits_in f.count f.ins f.lits.items c.args.lit c.self.invariant.ins (rw (← c.self.view_is) at c.requires.over)).1

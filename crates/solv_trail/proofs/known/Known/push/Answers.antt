@@ -4,6 +4,7 @@ use Rattle.std.specs.Prelude.{nat_abs, is_ok}
 use Rattle.solv_pool.specs.Propagation.{is_fact, is_refuted}
 use Rattle.solv_derive.specs.Range.{names_package}
 use Rattle.solv_trail.proofs.Holding.{held_room, held_push}
+use Rattle.solv_trail.proofs.Ins.{one_more_in, fits_in}
 use Rattle.solv_trail.proofs.known.Known.push.Goals as goal
 use Rattle.solv_trail.proofs.known.Known.push.Goals.{After-len, After-push-2}
 
@@ -47,6 +48,7 @@ invariant_of-self c =
       room = omega (arith, c.self.invariant.room, c.push.ensures.capacity);
       reasons_room = omega (arith, c.self.invariant.reasons_room, c.push-2.ensures.capacity);
       marks_room = c.self.invariant.marks_room;
+      ins = rw lits (one_more_in f.count f.ins c.mark.new.ins f.lits.items c.args.lit c.self.invariant.ins c.mark.ensures.space c.mark.ensures.marked);
       questions = c.self.invariant.questions;
       questions_room = c.self.invariant.questions_room;
     }
@@ -67,3 +69,9 @@ returns-clause-added c =
     let lits : c.push.new.self.items ≡ f.lits.items ++ c.args.lit ∷ [] = c.push.ensures.items ∙ cond-true (is_ok c.push.result) (f.lits.items ++ c.args.lit ∷ []) f.lits.items (c.push.ensures.succeeds (omega (arith, c.self.invariant.room))) in
     let reasons : c.push-2.new.self.items ≡ f.reasons.items ++ c.args.reason ∷ [] = c.push-2.ensures.items ∙ cond-true (is_ok c.push-2.result) (f.reasons.items ++ c.args.reason ∷ []) f.reasons.items (c.push-2.ensures.succeeds (omega (arith, c.self.invariant.reasons_room))) in
     rw (← c.self.view_is, lits, reasons) refl
+
+pub mark-requires-clause-some : goal.mark-requires-clause-some
+mark-requires-clause-some c = let f = c.self.inside in (fits_in f.count f.ins f.lits.items c.args.lit c.self.invariant.ins (rw (← c.self.view_is) at c.requires.over)).0
+
+pub mark-requires-clause-space : goal.mark-requires-clause-space
+mark-requires-clause-space c = let f = c.self.inside in (fits_in f.count f.ins f.lits.items c.args.lit c.self.invariant.ins (rw (← c.self.view_is) at c.requires.over)).1

@@ -1,7 +1,8 @@
 use Rattle.std.proofs.Common.{◌≤◌, ◌<◌, ◌≡◌, ◌∙◌, ◌+◌, ◌-◌, ◌++◌, ◌∷◌, [], arith, vec_len, length, refl, ℕ, sym, ap, subst, take, get_or}
 use Rattle.std.proofs.lemmas.List.{take_all, get_or_read, get_or-take, length-take-le, length_push}
-use Rattle.solv_trail.specs.Held.{IsHeld}
+use Rattle.solv_trail.specs.Held.{IsHeld, AreIn}
 use Rattle.solv_trail.proofs.Holding.{held_marks_cut, held_pop, marks_at_least, pop_take, last_split}
+use Rattle.solv_trail.proofs.Ins.{one_less_in}
 use Rattle.solv_trail.proofs.known.Known.take_back.Goals as goal
 
 pub loop-self-init : goal.loop-self-init
@@ -15,6 +16,7 @@ loop-self-init c =
     let some : c.args.level ≤ c.args.end = c.requires.few in
     record {
       held = rw marks (held_marks_cut f.count f.values.items f.places.items f.lits.items f.reasons.items f.marks.items c.args.level level c.self.invariant.held);
+      ins = c.self.invariant.ins;
       room = c.self.invariant.room;
       reasons_room = c.self.invariant.reasons_room;
       marks_room = omega (arith, c.self.invariant.marks_room, c.truncate.ensures.capacity);
@@ -53,6 +55,8 @@ loop-self-preserved-in-Some c =
     record {
       held = rw (c.package.ensures.number, cut) (held_pop f.count f.values.items f.places.items c.pop.new.self.items c.in-Some.lit (take k f.reasons.items) (get_or f.reasons.items k 0) f.marks.items held
           (λ n h. let b : get_or f.marks.items n 0 < c.args.end = i.below n h in omega arith) (let w : length f.marks.items ≤ c.args.end = i.few in omega arith));
+      ins = one_less_in f.count f.values.items f.places.items c.pop.new.self.items c.in-Some.lit (take k f.reasons.items) (get_or f.reasons.items k 0) f.marks.items held f.ins c.unmark.new.ins
+          (let P : _ → Type 0 = λ v. AreIn f.count f.ins v in subst P lits i.ins) c.unmark.ensures.space c.unmark.ensures.unmarked;
       room = omega (arith, i.room, c.in-Some.ensures.capacity);
       reasons_room = omega (arith, i.reasons_room, c.pop-in-Some.ensures.capacity);
       marks_room = i.marks_room;

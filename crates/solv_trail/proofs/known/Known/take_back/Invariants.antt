@@ -1,11 +1,12 @@
 use Rattle.std.proofs.Common.{◌≡◌, ℕ, ◌<◌, ◌≤◌, length, take, get_or}
 use Rattle.std.specs.Prelude.{vec_capacity}
-use Rattle.solv_trail.specs.Held.{IsHeld}
+use Rattle.solv_trail.specs.Held.{IsHeld, AreIn}
 use Rattle.solv_trail.proofs.known.Known.take_back.Given as goal
 
 abbrev pub invariant-loop-self : goal.invariant-loop-self
 invariant-loop-self l = record {
   held : IsHeld l.self-inside.count l.self-inside.values.items l.self-inside.places.items l.self-inside.lits.items l.self-inside.reasons.items l.self-inside.marks.items;
+  ins : AreIn l.self-inside.count l.self-inside.ins l.self-inside.lits.items;
   room : l.self-inside.count ≤ vec_capacity l.self-inside.lits;
   reasons_room : l.self-inside.count ≤ vec_capacity l.self-inside.reasons;
   marks_room : l.self-inside.count ≤ vec_capacity l.self-inside.marks;

@@ -1,0 +1,149 @@
+//! Sets of numbers, as bits.
+ghost use Rattle.std.specs.Prelude.{◌≡◌, ◌≤◌, ◌<◌, ◌+◌, ◌*◌, ◌/◌, ◌==◌, ◌||◌, ◌&&◌, not, ℕ, List, length, slice_index, true, false, IfOk, IfSome};
+ghost use Rattle.std.specs.Int.{bit_at};
+ghost use Rattle.solv_trail.specs.Numbers.{has, room, IsFirst};
+
+use std::alloc::{AllocError, Global};
+use std::marker::Model;
+
+/// Numbers below a bound that it was made with, one bit each. Only making it takes memory.
+#[derive(Drop)]
+pub struct NumberSet {
+    words: Vec<u64>,
+}
+
+impl Model for NumberSet {
+    ghost use Rattle.std.specs.Prelude.{ℕ, List, length, ◌≤◌};
+
+    ghost Value = { List ℕ };
+
+    ghost view = { λ s. s.words.items };
+
+    ghost invariant = { λ s. length s.words.items ≤ 33554432 };
+}
+
+/// A word, where the vector has it.
+fn word_at(words: &[u64], place: usize) -> u64
+    ensures { result ≡ slice_index words.now place }
+{
+    match words.get(place) {
+        Some(word) => *word,
+        None => 0,
+    }
+}
+
+/// The lowest bit of a word from one on.
+fn lowest(word: u64, from: u32) -> Option<u32>
+    requires { from < 64 }
+    ensures first { IsFirst (λ i. bit_at word i == 1) from result }
+    ensures within { IfSome result (λ n. n < 64) }
+{
+    let left = word & (u64::MAX << from);
+    if left == 0 {
+        None
+    } else {
+        Some(left.trailing_zeros())
+    }
+}
+
+/// The bits of a word that the word of the other set has not.
+fn beside(words: &[u64], other: &[u64], place: usize) -> u64
+    ensures { (i : ℕ) → i < 64 → (bit_at result i == 1) ≡ (has words.now (place * 64 + i) && not (has other.now (place * 64 + i))) }
+{
+    word_at(words, place) & !word_at(other, place)
+}
+
+/// The first number in the words from a place on that the other set has not.
+fn first_from(words: &[u64], other: &[u64], start: usize) -> Option<u32>
+    requires { length words.now ≤ 33554432 }
+    ensures { IsFirst (λ k. has words.now k && not (has other.now k)) (start * 64) result }
+{
+    for place in start..words.len() {
+        match lowest(beside(words, other, place), 0) {
+            Some(bit) => return Some(place as u32 * 64 + bit),
+            None => {}
+        }
+    }
+    None
+}
+
+/// The first number from one on that the other set has not.
+fn next_beside(words: &[u64], other: &[u64], from: u32) -> Option<u32>
+    requires { length words.now ≤ 33554432 }
+    ensures { IsFirst (λ k. has words.now k && not (has other.now k)) from result }
+{
+    let place = (from / 64) as usize;
+    match lowest(beside(words, other, place), from % 64) {
+        Some(bit) => Some(place as u32 * 64 + bit),
+        None => first_from(words, other, place + 1),
+    }
+}
+
+impl NumberSet {
+    /// No number, with room for those below `count`.
+    pub fn new(alloc: Global, count: u32) -> Result<NumberSet, AllocError>
+        requires { count ≤ 2147483583 }
+        ensures space { IfOk result (λ set. count < room set) }
+        ensures none { IfOk result (λ set. (k : ℕ) → has set k ≡ false) }
+    {
+        let words = vec![in alloc; 0u64; count as usize / 64 + 1]?;
+        Ok(NumberSet { words })
+    }
+
+    /// All numbers that it has room for, which are those below `count` and some above.
+    pub fn full(alloc: Global, count: u32) -> Result<NumberSet, AllocError>
+        requires { count ≤ 2147483583 }
+        ensures space { IfOk result (λ set. count < room set) }
+        ensures all { IfOk result (λ set. (k : ℕ) → k < room set → has set k ≡ true) }
+    {
+        let words = vec![in alloc; u64::MAX; count as usize / 64 + 1]?;
+        Ok(NumberSet { words })
+    }
+
+    /// The numbers below this one fit in.
+    pub fn room(&self) -> u32
+        ensures { result ≡ room self.now }
+    {
+        self.words.len() as u32 * 64
+    }
+
+    /// Whether the set has the number.
+    pub fn has(&self, number: u32) -> bool
+        ensures { result ≡ has self.now number }
+    {
+        let word = word_at(&self.words, (number / 64) as usize);
+        (word >> (number % 64)) & 1 == 1
+    }
+
+    /// Puts a number in.
+    pub fn insert(&mut self, number: u32)
+        requires { number < room self.old }
+        ensures room { length self.new ≡ length self.old }
+        ensures put { (k : ℕ) → has self.new k ≡ ((k == number) || has self.old k) }
+    {
+        self.words[(number / 64) as usize] |= 1u64 << (number % 64);
+    }
+
+    /// Takes a number out.
+    pub fn remove(&mut self, number: u32)
+        requires { number < room self.old }
+        ensures room { length self.new ≡ length self.old }
+        ensures taken { (k : ℕ) → has self.new k ≡ (not (k == number) && has self.old k) }
+    {
+        self.words[(number / 64) as usize] &= !(1u64 << (number % 64));
+    }
+
+    /// The first number from one on.
+    pub fn next(&self, from: u32) -> Option<u32>
+        ensures { IsFirst (has self.now) from result }
+    {
+        next_beside(&self.words, &[], from)
+    }
+
+    /// The first number from one on that this set has and the other has not.
+    pub fn next_beside(&self, other: &NumberSet, from: u32) -> Option<u32>
+        ensures { IsFirst (λ k. has self.now k && not (has other.now k)) from result }
+    {
+        next_beside(&self.words, &other.words, from)
+    }
+}
