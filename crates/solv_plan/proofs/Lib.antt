@@ -2,3 +2,5 @@ pub mod Joining
 pub mod Supplementing
 pub mod Tables
 pub mod Planned
+pub mod Resting
+pub mod Rising

@@ -1,3 +1,6 @@
+pub mod Wanting
 pub mod Plans
+pub mod Entries
+pub mod Settling
 pub mod PlanOf
 pub mod PlanLaw

@@ -7,6 +7,10 @@
 mod asking;
 pub mod laws;
 mod plans;
+mod settled;
+mod wants;
 
 pub use asking::next;
 pub use plans::{Demand, Keep, Named, Plan, Supplement, Want};
+pub use settled::{Entry, Settled};
+pub use wants::Wants;

@@ -195,3 +195,14 @@ beside_none words k = ap (λ b. has words k && not b) (has_past [] k (omega arit
 pub first_of : (rule test : ℕ → Bool) (same : (k : ℕ) → rule k ≡ test k) (from : ℕ) (o : Option ℕ) → IsFirst rule from o → IsFirst test from o
 first_of rule test same from None first = λ k low. sym (same k) ∙ first k low
 first_of rule test same from (Some n) first = (first.0, sym (same n) ∙ first.1, λ k low high. sym (same k) ∙ first.2 k low high)
+
+-- a number beyond the room is taken out of a set as it is
+pub nothing_removed : (words : List ℕ) (n : ℕ) → 64 * length words ≤ n → (k : ℕ) → has words k ≡ (not (eqb k n) && has words k)
+nothing_removed words n far k = elim (cases_eq k n) [
+  | inl same ↦ let none : has words k ≡ false = has_past words k (omega arith) in none ∙ sym (ap (λ b. not (eqb k n) && b) none ∙ never (not (eqb k n)))
+  | inr differ ↦ sym (ap (λ b. not b && has words k) (ne-eqb k n differ))
+]
+  where
+    never : (b : Bool) → (b && false) ≡ false
+    never true = refl
+    never false = refl

@@ -76,7 +76,6 @@ fn mark(ins: &mut NumberSet, lit: Lit)
 /// Takes the package of a literal out, where the literal said that it is in.
 fn unmark(ins: &mut NumberSet, lit: Lit)
     requires some { 0 < nat_abs lit }
-    requires space { nat_abs lit < room ins.old }
     ensures space { length ins.new ≡ length ins.old }
     ensures unmarked { (k : ℕ) → has ins.new k ≡ (not (int_eq (pos k) lit) && has ins.old k) }
 {

@@ -124,13 +124,15 @@ impl NumberSet {
         self.words[(number / 64) as usize] |= 1u64 << (number % 64);
     }
 
-    /// Takes a number out.
+    /// Takes a number out, if the set has it.
     pub fn remove(&mut self, number: u32)
-        requires { number < room self.old }
         ensures room { length self.new ≡ length self.old }
         ensures taken { (k : ℕ) → has self.new k ≡ (not (k == number) && has self.old k) }
     {
-        self.words[(number / 64) as usize] &= !(1u64 << (number % 64));
+        let place = (number / 64) as usize;
+        if place < self.words.len() {
+            self.words[place] &= !(1u64 << (number % 64));
+        }
     }
 
     /// The first number from one on.
