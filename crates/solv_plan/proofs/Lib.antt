@@ -4,3 +4,4 @@ pub mod Tables
 pub mod Planned
 pub mod Resting
 pub mod Rising
+pub mod Recalled

@@ -5,9 +5,10 @@ ghost use Rattle.solv_pool.specs.Words.{when};
 ghost use Rattle.solv_trail.specs.Asked.{is_enabled};
 ghost use Rattle.solv_trail.specs.declared.questions.Question.TheVariants.{Requires, Recommends};
 ghost use Rattle.solv_questions.specs.Questions.{first_ask, first_possible};
-ghost use Rattle.solv_plan.specs.Plans.{some_enabled, some_inside, demand_queries, keep_query, keep_queries, row_at, want_queries, is_supplementing, named_query, plan_asks};
+ghost use Rattle.solv_plan.specs.Plans.{some_enabled, some_inside, demand_queries, keep_query, keep_queries, row_at, question_of, want_queries, is_supplementing, named_query, plan_asks};
 
 use crate::plans::{Demand, Keep, Named, Plan, Supplement, Want};
+use crate::wants::Wants;
 use solv_base::DepId;
 use solv_list::Items;
 use solv_pool::PackNo;
@@ -55,7 +56,7 @@ fn is_some_on(enabled: &[bool], rules: &[usize]) -> bool
 }
 
 /// One of a rule's packages, where the rule is enabled and none of them is in.
-fn ask_demand(known: &Known, enabled: &[bool], demand: &Demand) -> Option<Ask>
+pub(crate) fn ask_demand(known: &Known, enabled: &[bool], demand: &Demand) -> Option<Ask>
     ensures { result ≡ first_ask (is_fact known.now.lits) (demand_queries (is_fact known.now.lits) enabled.now demand.now) }
 {
     if !is_on(enabled, demand.rule) {
@@ -134,7 +135,7 @@ fn ask_keep(known: &Known, enabled: &[bool], keep: &Keep) -> Option<Ask>
 }
 
 /// What is asked for of an installed package.
-fn ask_installed(known: &Known, enabled: &[bool], keep: &Keep) -> Option<Ask>
+pub(crate) fn ask_installed(known: &Known, enabled: &[bool], keep: &Keep) -> Option<Ask>
     ensures { result ≡ first_ask (is_fact known.now.lits) (keep_queries (is_fact known.now.lits) enabled.now keep.now) }
 {
     let best = ask_demands(known, enabled, keep.best.held());
@@ -161,7 +162,7 @@ fn ask_keeps(known: &Known, enabled: &[bool], keeps: &[Keep]) -> Option<Ask>
 }
 
 /// The row of a dependency.
-fn row(rows: &[Items<PackNo>], dep: DepId) -> &[PackNo]
+pub(crate) fn row(rows: &[Items<PackNo>], dep: DepId) -> &[PackNo]
     ensures { result.now ≡ row_at rows.now dep }
 {
     match rows.get(dep.0 as usize) {
@@ -170,9 +171,26 @@ fn row(rows: &[Items<PackNo>], dep: DepId) -> &[PackNo]
     }
 }
 
-/// A requirement, where the package is in.
-fn ask_required(known: &Known, rows: &[Items<PackNo>], want: &Want) -> Option<Ask>
-    ensures { result ≡ first_ask (is_fact known.now.lits) (want_queries (is_fact known.now.lits) rows.now Requires want.now) }
+/// Why a package asks for others.
+#[derive(Clone, Copy, PartialEq, Eq, Debug)]
+pub enum Asking {
+    Requires,
+    Recommends,
+}
+
+/// Why a package is asked for that meets a dependency of another one.
+fn question(asking: Asking, want: &Want) -> Question
+    ensures { result ≡ question_of asking want.now.pack want.now.dep }
+{
+    match asking {
+        Asking::Requires => Question::Requires(want.pack, want.dep),
+        Asking::Recommends => Question::Recommends(want.pack, want.dep),
+    }
+}
+
+/// What a package asks for, where it is in.
+fn ask_want(known: &Known, rows: &[Items<PackNo>], want: &Want, asking: Asking) -> Option<Ask>
+    ensures { result ≡ first_ask (is_fact known.now.lits) (want_queries (is_fact known.now.lits) rows.now (question_of asking) want.now) }
 {
     if !known.is_in(want.pack) {
         return None;
@@ -181,35 +199,20 @@ fn ask_required(known: &Known, rows: &[Items<PackNo>], want: &Want) -> Option<As
     if is_some_in(known, packs) {
         return None;
     }
-    ask_for(
-        first_not_out(known, packs),
-        Question::Requires(want.pack, want.dep),
-    )
+    ask_for(first_not_out(known, packs), question(asking, want))
 }
 
-/// What a package recommends, where it is in.
-fn ask_recommended(known: &Known, rows: &[Items<PackNo>], want: &Want) -> Option<Ask>
-    ensures { result ≡ first_ask (is_fact known.now.lits) (want_queries (is_fact known.now.lits) rows.now Recommends want.now) }
-{
-    if !known.is_in(want.pack) {
-        return None;
-    }
-    let packs = row(rows, want.dep);
-    if is_some_in(known, packs) {
-        return None;
-    }
-    ask_for(
-        first_not_out(known, packs),
-        Question::Recommends(want.pack, want.dep),
-    )
-}
-
-/// What the first of these requirements asks for.
-fn ask_all_required(known: &Known, rows: &[Items<PackNo>], wants: &[Want]) -> Option<Ask>
-    ensures { result ≡ first_ask (is_fact known.now.lits) (flat_map (want_queries (is_fact known.now.lits) rows.now Requires) wants.now) }
+/// What the first of these asks for.
+pub(crate) fn ask_each(
+    known: &Known,
+    rows: &[Items<PackNo>],
+    wants: &[Want],
+    asking: Asking,
+) -> Option<Ask>
+    ensures { result ≡ first_ask (is_fact known.now.lits) (flat_map (want_queries (is_fact known.now.lits) rows.now (question_of asking)) wants.now) }
 {
     for want in wants {
-        let ask = ask_required(known, rows, want);
+        let ask = ask_want(known, rows, want, asking);
         if ask.is_some() {
             return ask;
         }
@@ -217,17 +220,11 @@ fn ask_all_required(known: &Known, rows: &[Items<PackNo>], wants: &[Want]) -> Op
     None
 }
 
-/// What the first of these recommendations asks for.
-fn ask_all_recommended(known: &Known, rows: &[Items<PackNo>], wants: &[Want]) -> Option<Ask>
-    ensures { result ≡ first_ask (is_fact known.now.lits) (flat_map (want_queries (is_fact known.now.lits) rows.now Recommends) wants.now) }
+/// What the packages that are in ask for.
+fn ask_wants(known: &Known, rows: &[Items<PackNo>], wants: &Wants, asking: Asking) -> Option<Ask>
+    ensures { result ≡ first_ask (is_fact known.now.lits) (flat_map (want_queries (is_fact known.now.lits) rows.now (question_of asking)) wants.now) }
 {
-    for want in wants {
-        let ask = ask_recommended(known, rows, want);
-        if ask.is_some() {
-            return ask;
-        }
-    }
-    None
+    ask_each(known, rows, wants.held(), asking)
 }
 
 /// Whether a supplement of the package holds.
@@ -269,7 +266,7 @@ fn ask_named(known: &Known, rows: &[Items<PackNo>], named: &Named) -> Option<Ask
 }
 
 /// What the first of these names asks for.
-fn ask_all_named(known: &Known, rows: &[Items<PackNo>], names: &[Named]) -> Option<Ask>
+pub(crate) fn ask_all_named(known: &Known, rows: &[Items<PackNo>], names: &[Named]) -> Option<Ask>
     ensures { result ≡ first_ask (is_fact known.now.lits) (map (named_query (is_fact known.now.lits) rows.now) names.now) }
 {
     for named in names {
@@ -286,11 +283,11 @@ fn ask_dependencies(known: &Known, plan: &Plan) -> Option<Ask>
     ensures { result ≡ first_ask (is_fact known.now.lits) (flat_map (want_queries (is_fact known.now.lits) plan.now.rows Requires) plan.now.required ++ (flat_map (want_queries (is_fact known.now.lits) plan.now.rows Recommends) plan.now.recommended ++ map (named_query (is_fact known.now.lits) plan.now.rows) plan.now.supplements)) }
 {
     let rows = plan.rows.held();
-    let required = ask_all_required(known, rows, plan.required.held());
+    let required = ask_wants(known, rows, &plan.required, Asking::Requires);
     if required.is_some() {
         return required;
     }
-    let recommended = ask_all_recommended(known, rows, plan.recommended.held());
+    let recommended = ask_wants(known, rows, &plan.recommended, Asking::Recommends);
     if recommended.is_some() {
         return recommended;
     }

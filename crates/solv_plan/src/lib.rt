@@ -6,11 +6,15 @@
 
 mod asking;
 pub mod laws;
+mod memory;
 mod plans;
+mod recalling;
 mod settled;
 mod wants;
 
-pub use asking::next;
+pub use asking::{Asking, next};
+pub use memory::Memory;
 pub use plans::{Demand, Keep, Named, Plan, Supplement, Want};
+pub use recalling::next_recalling;
 pub use settled::{Entry, Settled};
 pub use wants::Wants;

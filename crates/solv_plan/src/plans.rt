@@ -1,4 +1,5 @@
 //! The questions of a task as they are kept, each with its candidates in their order.
+use crate::wants::Wants;
 use solv_base::{DepId, NameId};
 use solv_list::Items;
 use solv_pool::PackNo;
@@ -57,7 +58,7 @@ pub struct Plan {
     pub demands: Items<Demand>,
     pub keeps: Items<Keep>,
     pub rows: Items<Items<PackNo>>,
-    pub required: Items<Want>,
-    pub recommended: Items<Want>,
+    pub required: Wants,
+    pub recommended: Wants,
     pub supplements: Items<Named>,
 }

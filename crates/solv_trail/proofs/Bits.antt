@@ -206,3 +206,14 @@ nothing_removed words n far k = elim (cases_eq k n) [
     never : (b : Bool) → (b && false) ≡ false
     never true = refl
     never false = refl
+
+-- what a set has is below its room
+pub has_small : (words : List ℕ) (n : ℕ) → length words ≤ 33554432 → has words n ≡ true → n < 2147483648
+has_small words n few h = elim (cases_lt n (64 * length words)) [
+  | inl small ↦ omega arith
+  | inr large ↦ absurd (let none : has words n ≡ false = has_past words n large in let both : true ≡ false = sym h ∙ none in cc)
+]
+
+pub and_left : (a b : Bool) → (a && b) ≡ true → a ≡ true
+and_left true b h = refl
+and_left false b h = cc

@@ -1,5 +1,5 @@
 //! The literals that are known.
-ghost use Rattle.std.specs.Prelude.{◌≡◌, ◌≤◌, ◌<◌, ◌+◌, ◌==◌, ◌||◌, ◌&&◌, not, ℕ, ℤ, pos, nat_abs, nat_lt, neg_ℤ, true, false, [], ◌∷◌, ◌++◌, List, length, take, slice_index, slice_index_or, IfOk};
+ghost use Rattle.std.specs.Prelude.{◌≡◌, ◌≤◌, ◌<◌, ◌+◌, ◌==◌, ◌||◌, ◌&&◌, not, ℕ, ℤ, pos, nat_abs, nat_lt, neg_ℤ, true, false, [], ◌∷◌, ◌++◌, List, length, take, slice_index, slice_index_or, IfOk, IfSome};
 ghost use Rattle.std.specs.List.{list_all};
 ghost use Rattle.solv_pool.specs.Propagation.{is_fact, is_refuted};
 ghost use Rattle.solv_derive.specs.Range.{names_package};
@@ -161,7 +161,8 @@ impl Known {
 
     /// The first package from a number on that is known in, without the system.
     pub fn next_in(&self, from: u32) -> Option<PackNo>
-        ensures { IsFirst (λ k. is_fact self.now.lits (pos k)) from result }
+        ensures first { IsFirst (λ k. is_fact self.now.lits (pos k)) from result }
+        ensures small { IfSome result (λ n. n < 2147483648) }
     {
         match self.ins.next(from) {
             Some(number) => Some(PackNo(number)),

@@ -56,7 +56,8 @@ fn beside(words: &[u64], other: &[u64], place: usize) -> u64
 /// The first number in the words from a place on that the other set has not.
 fn first_from(words: &[u64], other: &[u64], start: usize) -> Option<u32>
     requires { length words.now ≤ 33554432 }
-    ensures { IsFirst (λ k. has words.now k && not (has other.now k)) (start * 64) result }
+    ensures small { IfSome result (λ n. n < 2147483648) }
+    ensures first { IsFirst (λ k. has words.now k && not (has other.now k)) (start * 64) result }
 {
     for place in start..words.len() {
         match lowest(beside(words, other, place), 0) {
@@ -70,7 +71,8 @@ fn first_from(words: &[u64], other: &[u64], start: usize) -> Option<u32>
 /// The first number from one on that the other set has not.
 fn next_beside(words: &[u64], other: &[u64], from: u32) -> Option<u32>
     requires { length words.now ≤ 33554432 }
-    ensures { IsFirst (λ k. has words.now k && not (has other.now k)) from result }
+    ensures small { IfSome result (λ n. n < 2147483648) }
+    ensures first { IsFirst (λ k. has words.now k && not (has other.now k)) from result }
 {
     let place = (from / 64) as usize;
     match lowest(beside(words, other, place), from % 64) {
@@ -137,14 +139,16 @@ impl NumberSet {
 
     /// The first number from one on.
     pub fn next(&self, from: u32) -> Option<u32>
-        ensures { IsFirst (has self.now) from result }
+        ensures first { IsFirst (has self.now) from result }
+        ensures small { IfSome result (λ n. n < 2147483648) }
     {
         next_beside(&self.words, &[], from)
     }
 
     /// The first number from one on that this set has and the other has not.
     pub fn next_beside(&self, other: &NumberSet, from: u32) -> Option<u32>
-        ensures { IsFirst (λ k. has self.now k && not (has other.now k)) from result }
+        ensures first { IsFirst (λ k. has self.now k && not (has other.now k)) from result }
+        ensures small { IfSome result (λ n. n < 2147483648) }
     {
         next_beside(&self.words, &other.words, from)
     }

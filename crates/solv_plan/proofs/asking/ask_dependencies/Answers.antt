@@ -15,8 +15,8 @@ returns-then-is_some c =
     let known : ℤ → Bool = is_fact c.args.known.now.lits in
     let plan = c.args.plan.now in
     asked_first known (flat_map (want_queries known plan.rows question.Requires) plan.required) (flat_map (want_queries known plan.rows question.Recommends) plan.recommended ++ map (named_query known plan.rows) plan.supplements)
-    c.ask_all_required-required.result
-    (c.ask_all_required-required.ensures ∙ ap (λ rows. first_ask known (flat_map (want_queries known rows question.Requires) c.held.result.now)) c.held-rows.ensures ∙ ap (λ xs. first_ask known (flat_map (want_queries known plan.rows question.Requires) xs)) c.held.ensures)
+    c.ask_wants-required.result
+    (c.ask_wants-required.ensures ∙ ap (λ rows. first_ask known (flat_map (want_queries known rows question.Requires) plan.required)) c.held-rows.ensures)
     (sym c.is_some.ensures ∙ c.if-is_some.true)
 
 pub returns-then-is_some-2 : goal.returns-then-is_some-2
@@ -24,11 +24,11 @@ returns-then-is_some-2 c =
     let known : ℤ → Bool = is_fact c.args.known.now.lits in
     let plan = c.args.plan.now in
     asked_later known (flat_map (want_queries known plan.rows question.Requires) plan.required) (flat_map (want_queries known plan.rows question.Recommends) plan.recommended ++ map (named_query known plan.rows) plan.supplements)
-    c.ask_all_required-required.result c.ask_all_recommended-recommended.result
-    (c.ask_all_required-required.ensures ∙ ap (λ rows. first_ask known (flat_map (want_queries known rows question.Requires) c.held.result.now)) c.held-rows.ensures ∙ ap (λ xs. first_ask known (flat_map (want_queries known plan.rows question.Requires) xs)) c.held.ensures)
+    c.ask_wants-required.result c.ask_wants-recommended.result
+    (c.ask_wants-required.ensures ∙ ap (λ rows. first_ask known (flat_map (want_queries known rows question.Requires) plan.required)) c.held-rows.ensures)
     (sym c.is_some.ensures ∙ c.if-is_some.false)
-    (asked_first known (flat_map (want_queries known plan.rows question.Recommends) plan.recommended) (map (named_query known plan.rows) plan.supplements) c.ask_all_recommended-recommended.result
-    (c.ask_all_recommended-recommended.ensures ∙ ap (λ rows. first_ask known (flat_map (want_queries known rows question.Recommends) c.held-2.result.now)) c.held-rows.ensures ∙ ap (λ xs. first_ask known (flat_map (want_queries known plan.rows question.Recommends) xs)) c.held-2.ensures)
+    (asked_first known (flat_map (want_queries known plan.rows question.Recommends) plan.recommended) (map (named_query known plan.rows) plan.supplements) c.ask_wants-recommended.result
+    (c.ask_wants-recommended.ensures ∙ ap (λ rows. first_ask known (flat_map (want_queries known rows question.Recommends) plan.recommended)) c.held-rows.ensures)
     (sym c.is_some-2.ensures ∙ c.if-is_some-2.true))
 
 pub returns : goal.returns
@@ -36,10 +36,10 @@ returns c =
     let known : ℤ → Bool = is_fact c.args.known.now.lits in
     let plan = c.args.plan.now in
     asked_later known (flat_map (want_queries known plan.rows question.Requires) plan.required) (flat_map (want_queries known plan.rows question.Recommends) plan.recommended ++ map (named_query known plan.rows) plan.supplements)
-    c.ask_all_required-required.result c.ask_all_named.result
-    (c.ask_all_required-required.ensures ∙ ap (λ rows. first_ask known (flat_map (want_queries known rows question.Requires) c.held.result.now)) c.held-rows.ensures ∙ ap (λ xs. first_ask known (flat_map (want_queries known plan.rows question.Requires) xs)) c.held.ensures)
+    c.ask_wants-required.result c.ask_all_named.result
+    (c.ask_wants-required.ensures ∙ ap (λ rows. first_ask known (flat_map (want_queries known rows question.Requires) plan.required)) c.held-rows.ensures)
     (sym c.is_some.ensures ∙ c.if-is_some.false)
-    (asked_later known (flat_map (want_queries known plan.rows question.Recommends) plan.recommended) (map (named_query known plan.rows) plan.supplements) c.ask_all_recommended-recommended.result c.ask_all_named.result
-    (c.ask_all_recommended-recommended.ensures ∙ ap (λ rows. first_ask known (flat_map (want_queries known rows question.Recommends) c.held-2.result.now)) c.held-rows.ensures ∙ ap (λ xs. first_ask known (flat_map (want_queries known plan.rows question.Recommends) xs)) c.held-2.ensures)
+    (asked_later known (flat_map (want_queries known plan.rows question.Recommends) plan.recommended) (map (named_query known plan.rows) plan.supplements) c.ask_wants-recommended.result c.ask_all_named.result
+    (c.ask_wants-recommended.ensures ∙ ap (λ rows. first_ask known (flat_map (want_queries known rows question.Recommends) plan.recommended)) c.held-rows.ensures)
     (sym c.is_some-2.ensures ∙ c.if-is_some-2.false)
-    (c.ask_all_named.ensures ∙ ap (λ rows. first_ask known (map (named_query known rows) c.held-3.result.now)) c.held-rows.ensures ∙ ap (λ xs. first_ask known (map (named_query known plan.rows) xs)) c.held-3.ensures))
+    (c.ask_all_named.ensures ∙ ap (λ rows. first_ask known (map (named_query known rows) c.held.result.now)) c.held-rows.ensures ∙ ap (λ xs. first_ask known (map (named_query known plan.rows) xs)) c.held.ensures))

@@ -11,8 +11,8 @@ overflow_add-result c =
     let long : c.loop-place.place < length c.args.words.now = search rules in
     search rules
 
-pub returns-in-Some : goal.returns-in-Some
-returns-in-Some c =
+pub returns-in-Some-clause-first : goal.returns-in-Some-clause-first
+returns-in-Some-clause-first c =
     let test : ℕ → Bool = λ k. has c.args.words.now k && not (has c.args.other.now k) in
     let first = first_in_word test c.loop-place.place c.beside.result c.beside.ensures 0 c.in-Some.bit c.in-Some.ensures.within c.in-Some.ensures.first in
     let auto = c.loop-place.auto in (
@@ -32,8 +32,8 @@ loop-place-preserved c =
       | inr after ↦ none_in_word test c.loop-place.place c.beside.result c.beside.ensures 0 c.in-None.ensures.first k (omega arith) high
     ]
 
-pub returns : goal.returns
-returns c = λ k low. elim (cases_lt k (c.loop-place.place * 64)) [
+pub returns-clause-first : goal.returns-clause-first
+returns-clause-first c = λ k low. elim (cases_lt k (c.loop-place.place * 64)) [
   | inl before ↦ c.loop-place.invariant k low before
   | inr after ↦ ap (λ b. b && not (has c.args.other.now k)) (has_past c.args.words.now k (let end = c.loop-place-test.false in omega arith))
 ]
