@@ -1,5 +1,5 @@
 //! What the first open question of a plan asks for. Nothing here takes memory.
-ghost use Rattle.std.specs.Prelude.{◌≡◌, ◌++◌, ◌∷◌, [], flat_map, map, filter, option_map, not, ◌&&◌, ◌||◌};
+ghost use Rattle.std.specs.Prelude.{◌≡◌, ◌++◌, ◌∷◌, [], flat_map, map, filter, nat_le, option_map, not, ◌&&◌, ◌||◌};
 ghost use Rattle.solv_pool.specs.Propagation.{is_fact};
 ghost use Rattle.solv_pool.specs.Words.{when};
 ghost use Rattle.solv_trail.specs.Asked.{is_enabled};
@@ -220,11 +220,37 @@ pub(crate) fn ask_each(
     None
 }
 
-/// What the packages that are in ask for.
+/// What the packages that are in ask for, without the system.
+fn ask_wants_from(
+    known: &Known,
+    rows: &[Items<PackNo>],
+    wants: &Wants,
+    asking: Asking,
+) -> Option<Ask>
+    ensures { result ≡ first_ask (is_fact known.now.lits) (flat_map (want_queries (is_fact known.now.lits) rows.now (question_of asking)) (filter (λ w. nat_le 1 w.pack) wants.now)) }
+{
+    wants.rise();
+    let mut from = 1;
+    while let Some(number) = known.packs_in().next(from) {
+        let ask = ask_each(known, rows, wants.of(PackNo(number)), asking);
+        if ask.is_some() {
+            return ask;
+        }
+        from = number + 1;
+    }
+    None
+}
+
+/// What the system asks for, and the packages that are in.
 fn ask_wants(known: &Known, rows: &[Items<PackNo>], wants: &Wants, asking: Asking) -> Option<Ask>
     ensures { result ≡ first_ask (is_fact known.now.lits) (flat_map (want_queries (is_fact known.now.lits) rows.now (question_of asking)) wants.now) }
 {
-    ask_each(known, rows, wants.held(), asking)
+    wants.rise();
+    let ask = ask_each(known, rows, wants.of(PackNo(0)), asking);
+    if ask.is_some() {
+        return ask;
+    }
+    ask_wants_from(known, rows, wants, asking)
 }
 
 /// Whether a supplement of the package holds.

@@ -1,10 +1,10 @@
 //! The literals that are known.
-ghost use Rattle.std.specs.Prelude.{◌≡◌, ◌≤◌, ◌<◌, ◌+◌, ◌==◌, ◌||◌, ◌&&◌, not, ℕ, ℤ, pos, nat_abs, nat_lt, neg_ℤ, true, false, [], ◌∷◌, ◌++◌, List, length, take, slice_index, slice_index_or, IfOk, IfSome};
+ghost use Rattle.std.specs.Prelude.{◌≡◌, ◌≤◌, ◌<◌, ◌+◌, ◌==◌, ◌||◌, ◌&&◌, not, ℕ, ℤ, pos, nat_abs, nat_lt, neg_ℤ, true, false, [], ◌∷◌, ◌++◌, List, length, take, slice_index, slice_index_or, IfOk};
 ghost use Rattle.std.specs.List.{list_all};
 ghost use Rattle.solv_pool.specs.Propagation.{is_fact, is_refuted};
 ghost use Rattle.solv_derive.specs.Range.{names_package};
 ghost use Rattle.solv_trail.specs.Held.{code};
-ghost use Rattle.solv_trail.specs.Numbers.{has, room, IsFirst};
+ghost use Rattle.solv_trail.specs.Numbers.{has, room};
 ghost use Rattle.std.specs.Ordering.{int_eq};
 ghost use Rattle.solv_trail.specs.declared.questions.Question.{Question};
 
@@ -157,17 +157,6 @@ impl Known {
         ensures { (k : ℕ) → has result.now k ≡ is_fact self.now.lits (pos k) }
     {
         &self.ins
-    }
-
-    /// The first package from a number on that is known in, without the system.
-    pub fn next_in(&self, from: u32) -> Option<PackNo>
-        ensures first { IsFirst (λ k. is_fact self.now.lits (pos k)) from result }
-        ensures small { IfSome result (λ n. n < 2147483648) }
-    {
-        match self.ins.next(from) {
-            Some(number) => Some(PackNo(number)),
-            None => None,
-        }
     }
 
     /// What holds always: no package is in and out, and each literal names a package.
