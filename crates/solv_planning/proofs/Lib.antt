@@ -4,3 +4,4 @@ pub mod Lines
 pub mod Requirements
 pub mod Packs
 pub mod First
+mod Order

@@ -13,7 +13,7 @@ use crate::keeps::keeps;
 use crate::rows::rows;
 use crate::supplements::supplements;
 use crate::wants::{recommended, required};
-use solv_plan::Plan;
+use solv_plan::{Plan, Wants};
 use solv_pool::{Marks, Rules, Task};
 use solv_prov::Providers;
 use std::alloc::{AllocError, Global};
@@ -36,8 +36,10 @@ pub fn make_plan(
     let demands = demands(alloc, task, prov, marks, rules)?;
     let keeps = keeps(alloc, task, prov, marks, rules)?;
     let rows = rows(alloc, task, prov, marks)?;
-    let required = required(alloc, rules)?;
-    let recommended = recommended(alloc, task)?;
+    let list = required(alloc, rules)?;
+    let required = Wants::new(alloc, list)?;
+    let listed = recommended(alloc, task)?;
+    let recommended = Wants::new(alloc, listed)?;
     let supplements = supplements(alloc, task, prov, marks)?;
     Ok(Plan {
         demands,
