@@ -11,6 +11,7 @@
 
 mod deciding;
 mod phases;
+mod recalling;
 mod sets;
 mod solving;
 

@@ -1,5 +1,5 @@
 //! The questions of a task, as a guide of the search.
-ghost use Rattle.std.specs.Prelude.{◌≡◌, length, IfOk};
+ghost use Rattle.std.specs.Prelude.{◌≡◌, true, length, IfOk};
 ghost use Rattle.solv_pool.specs.Catalog.{catalog_of};
 ghost use Rattle.solv_pool.specs.TaskBelonging.{IsClosed};
 ghost use Rattle.solv_prov.specs.Index.{IsIndexOf};
@@ -8,11 +8,12 @@ ghost use Rattle.solv_rules.specs.Books.{read_rules};
 ghost use Rattle.solv_questions.specs.Questions.{rules_of, request_of};
 ghost use Rattle.solv_plan.specs.Plans.{plan_asks};
 ghost use Rattle.solv_plan.specs.PlanOf.{plan_of};
+ghost use Rattle.solv_plan.specs.Settling.{is_right_for};
 ghost use Rattle.solv_decide.specs.Deciding.{IsLawful};
 ghost use Rattle.solv_decide.specs.GuideLaw.{lawful};
 
 use solv_core::{Ask, Guide, Known};
-use solv_plan::{Plan, next};
+use solv_plan::{Memory, Plan, next};
 use solv_planning::make_plan;
 use solv_pool::{Marks, Task};
 use solv_prov::Providers;
@@ -23,6 +24,7 @@ use std::marker::Model;
 /// The questions of a task in their order, over the rules of a book. Contracts see the plan of the questions, and the number of packages.
 #[derive(Drop)]
 pub struct Phases {
+    alloc: Global,
     plan: Plan,
     packages: u32,
 }
@@ -52,9 +54,24 @@ impl Phases {
     {
         let plan = make_plan(alloc, task, prov, marks, book.rules())?;
         Ok(Phases {
+            alloc,
             plan,
             packages: task.universe.count(),
         })
+    }
+
+    /// The plan of the questions.
+    pub(crate) fn plan(&self) -> &Plan
+        ensures { result.now ≡ self.now.plan }
+    {
+        &self.plan
+    }
+
+    /// Room for what is settled of the questions.
+    pub(crate) fn memory(&self) -> Result<Memory, AllocError>
+        ensures { IfOk result (λ memory. is_right_for self.now.plan memory ≡ true) }
+    {
+        Memory::new(self.alloc, &self.plan, self.packages)
     }
 }
 

@@ -7,12 +7,14 @@ ghost use Rattle.solv_questions.specs.Questions.{Request, asks};
 ghost use Rattle.solv_decide.specs.Deciding.{IsAskedFor, IsDecided};
 
 use crate::phases::Phases;
+use crate::recalling::run_recalling;
 use solv_core::{Core, Ledger, Verdict};
 use solv_derive::laws::good_logs_refute;
 use solv_plan::laws::plans_ask_the_questions;
 use solv_pool::laws::clauses_say_the_rule;
 use solv_questions::questions_keep_the_law;
 use std::alloc::AllocError;
+use std::marker::Brand;
 
 /// Looks for a set that meets the enabled rules: as the questions of the task ask, with what follows from each choice, and with what is learnt where
 /// choices clash. `enabled` has an entry for each rule of the core. The ledger gets this run, and what it learnt.
@@ -45,5 +47,6 @@ pub fn solve(
     questions_keep_the_law();
     plans_ask_the_questions();
     good_logs_refute();
-    core.run(enabled, phases, ledger)
+    let memory = phases.memory()?;
+    run_recalling::<Brand>(phases, memory, core, enabled, ledger)
 }

@@ -1,0 +1,102 @@
+//! The questions of a task as a guide that remembers what is settled.
+ghost use Rattle.std.specs.Prelude.{◌≡◌, ◌⊎◌, ◌≤◌, ◌+◌, ◌==◌, ◌++◌, ◌∷◌, [], true, length, take, drop, nat_lt, IfOk, OnOk, OnErr};
+ghost use Rattle.std.specs.List.{list_all};
+ghost use Rattle.solv_core.specs.Ledgers.{are_of_run, IsGoodLedger};
+ghost use Rattle.solv_core.specs.Running.{IsFound, IsRefutation, is_log_over, is_spent_verdict};
+ghost use Rattle.solv_plan.specs.Plans.{plan_asks};
+ghost use Rattle.solv_plan.specs.Settling.{is_right_for};
+ghost use Rattle.solv_plan.specs.declared.plans.Plan.{Plan};
+ghost use Rattle.solv_decide.specs.Deciding.{IsLawful};
+ghost use Rattle.solv_decide.specs.GuideLaw.{lawful};
+
+use crate::phases::Phases;
+use solv_core::{Ask, Core, Guide, Known, Ledger, Verdict};
+use solv_plan::{Memory, next_recalling};
+use std::alloc::AllocError;
+use std::cell::Cell;
+use std::marker::{Brand, PhantomData};
+
+/// Stands for one plan, so that what is remembered of it is not taken for what is remembered of another one.
+pub trait Planned {
+    ghost plan: { Plan };
+}
+
+impl Planned for Brand {
+    ghost plan = { record { demands = []; keeps = []; rows = []; required = []; recommended = []; supplements = [] } };
+}
+
+/// What is settled of the plan.
+#[derive(Drop)]
+struct Remembered<K: Planned> {
+    memory: Memory,
+    of: PhantomData<K>,
+    ghost right: { is_right_for K.plan memory ≡ true },
+}
+
+/// The questions of a task, and what is settled of them. While it is asked, it lends out what it remembers.
+#[derive(Drop)]
+struct Recalling<'a, K: Planned> {
+    phases: &'a Phases,
+    remembered: Cell<Option<Remembered<K>>>,
+    ghost own: { phases.now.plan ≡ K.plan },
+}
+
+impl<'a, K: Planned> Guide for Recalling<'a, K> {
+    ghost is_for = { λ guide clauses owners. IsLawful guide.phases.now clauses owners };
+
+    ghost is_for_packages = { λ guide count. guide.phases.now.packages ≡ count };
+
+    ghost asks = { λ guide known enabled. plan_asks guide.phases.now.plan known enabled };
+
+    fn next(&self, known: &Known, enabled: &[bool]) -> Option<Ask> {
+        let Some(remembered) = self.remembered.take() else {
+            return self.phases.next(known, enabled);
+        };
+        let Remembered { mut memory, of } = remembered;
+        let ask = next_recalling(self.phases.plan(), &mut memory, known, enabled);
+        self.remembered.set(Some(Remembered { memory, of }));
+        ask
+    }
+
+    ghost keeps_law = { λ guide count clauses owners enabled law few. lawful guide.phases.now count clauses owners enabled law few };
+}
+
+/// A run in which what is settled of the questions is remembered.
+pub(crate) fn run_recalling<K: Planned>(
+    phases: &Phases,
+    memory: Memory,
+    core: &mut Core,
+    enabled: &[bool],
+    ledger: &mut Ledger,
+) -> Result<Verdict, AllocError>
+    requires plan { phases.now.plan ≡ K.plan }
+    requires right { is_right_for phases.now.plan memory ≡ true }
+    requires enabled { list_all (λ o. nat_lt o (length enabled.now)) core.old.owners ≡ true }
+    requires lawful { IsLawful phases.now core.old.clauses core.old.owners }
+    requires packages { phases.now.packages ≡ core.old.packages }
+    requires budget { ledger.old.budget ≤ 1000000 }
+    requires few { length ledger.old.entries ≤ ledger.old.budget + 1 }
+    ensures core { core.new ≡ core.old }
+    ensures budget { ledger.new.budget ≡ ledger.old.budget }
+    ensures few { length ledger.new.entries ≤ ledger.new.budget + 1 }
+    ensures run { OnOk result (ledger.new.runs ≡ ledger.old.runs ++ (record { enabled = enabled.now; kept = [] }) ∷ []) }
+    ensures runs { OnErr result ((ledger.new ≡ ledger.old) ⊎ (ledger.new.runs ≡ ledger.old.runs ++ (record { enabled = enabled.now; kept = [] }) ∷ [])) }
+    ensures earlier_runs { take (length ledger.old.runs) ledger.new.runs ≡ ledger.old.runs }
+    ensures earlier_entries { take (length ledger.old.entries) ledger.new.entries ≡ ledger.old.entries }
+    ensures own_entries { are_of_run (length ledger.old.runs) (drop (length ledger.old.entries) ledger.new.entries) ≡ true }
+    ensures good { IsGoodLedger core.old.clauses core.old.owners core.old.packages (plan_asks phases.now.plan) ledger.old → IsGoodLedger core.old.clauses core.old.owners core.old.packages (plan_asks phases.now.plan) ledger.new }
+    ensures spent { IfOk result (λ v. is_spent_verdict v ≡ (length ledger.new.entries == ledger.new.budget + 1)) }
+    ensures refutation { IfOk result (IsRefutation core.old.clauses core.old.owners enabled.now) }
+    ensures log_over { IfOk result (λ v. is_log_over core.old.packages v ≡ true) }
+    ensures found { IfOk result (IsFound core.old.packages core.old.clauses core.old.owners enabled.now (λ facts. plan_asks phases.now.plan facts enabled.now)) }
+{
+    let remembered = Remembered::<K> {
+        memory,
+        of: PhantomData,
+    };
+    let guide = Recalling::<K> {
+        phases,
+        remembered: Cell::new(Some(remembered)),
+    };
+    core.run(enabled, &guide, ledger)
+}
