@@ -11,4 +11,4 @@ mod listing;
 mod problems;
 
 pub use listing::problem_of;
-pub use problems::{Problem, Solution};
+pub use problems::{Problem, Remedies, Solution};
