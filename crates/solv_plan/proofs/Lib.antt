@@ -5,3 +5,4 @@ pub mod Planned
 pub mod Resting
 pub mod Rising
 pub mod Recalled
+mod Laid

@@ -5,12 +5,11 @@ ghost use Rattle.solv_pool.specs.Words.{when};
 ghost use Rattle.solv_trail.specs.Asked.{is_enabled};
 ghost use Rattle.solv_trail.specs.declared.questions.Question.TheVariants.{Requires, Recommends};
 ghost use Rattle.solv_questions.specs.Questions.{first_ask, first_possible};
-ghost use Rattle.solv_plan.specs.Plans.{some_enabled, some_inside, demand_queries, keep_query, keep_queries, row_at, question_of, want_queries, is_supplementing, named_query, plan_asks};
+ghost use Rattle.solv_plan.specs.Plans.{some_enabled, some_inside, demand_queries, keep_query, keep_queries, question_of, want_queries, is_supplementing, named_query, plan_asks};
 
 use crate::plans::{Demand, Keep, Named, Plan, Supplement, Want};
+use crate::rows::Rows;
 use crate::wants::Wants;
-use solv_base::DepId;
-use solv_list::Items;
 use solv_pool::PackNo;
 use solv_trail::{Ask, Known, Question};
 
@@ -161,16 +160,6 @@ fn ask_keeps(known: &Known, enabled: &[bool], keeps: &[Keep]) -> Option<Ask>
     None
 }
 
-/// The row of a dependency.
-pub(crate) fn row(rows: &[Items<PackNo>], dep: DepId) -> &[PackNo]
-    ensures { result.now ≡ row_at rows.now dep }
-{
-    match rows.get(dep.0 as usize) {
-        Some(packs) => packs.held(),
-        None => &[],
-    }
-}
-
 /// Why a package asks for others.
 #[derive(Clone, Copy, PartialEq, Eq, Debug)]
 pub enum Asking {
@@ -189,13 +178,13 @@ fn question(asking: Asking, want: &Want) -> Question
 }
 
 /// What a package asks for, where it is in.
-fn ask_want(known: &Known, rows: &[Items<PackNo>], want: &Want, asking: Asking) -> Option<Ask>
+fn ask_want(known: &Known, rows: &Rows, want: &Want, asking: Asking) -> Option<Ask>
     ensures { result ≡ first_ask (is_fact known.now.lits) (want_queries (is_fact known.now.lits) rows.now (question_of asking) want.now) }
 {
     if !known.is_in(want.pack) {
         return None;
     }
-    let packs = row(rows, want.dep);
+    let packs = rows.row(want.dep);
     if is_some_in(known, packs) {
         return None;
     }
@@ -203,12 +192,7 @@ fn ask_want(known: &Known, rows: &[Items<PackNo>], want: &Want, asking: Asking) 
 }
 
 /// What the first of these asks for.
-pub(crate) fn ask_each(
-    known: &Known,
-    rows: &[Items<PackNo>],
-    wants: &[Want],
-    asking: Asking,
-) -> Option<Ask>
+pub(crate) fn ask_each(known: &Known, rows: &Rows, wants: &[Want], asking: Asking) -> Option<Ask>
     ensures { result ≡ first_ask (is_fact known.now.lits) (flat_map (want_queries (is_fact known.now.lits) rows.now (question_of asking)) wants.now) }
 {
     for want in wants {
@@ -221,12 +205,7 @@ pub(crate) fn ask_each(
 }
 
 /// What the packages that are in ask for, without the system.
-fn ask_wants_from(
-    known: &Known,
-    rows: &[Items<PackNo>],
-    wants: &Wants,
-    asking: Asking,
-) -> Option<Ask>
+fn ask_wants_from(known: &Known, rows: &Rows, wants: &Wants, asking: Asking) -> Option<Ask>
     ensures { result ≡ first_ask (is_fact known.now.lits) (flat_map (want_queries (is_fact known.now.lits) rows.now (question_of asking)) (filter (λ w. nat_le 1 w.pack) wants.now)) }
 {
     wants.rise();
@@ -242,7 +221,7 @@ fn ask_wants_from(
 }
 
 /// What the system asks for, and the packages that are in.
-fn ask_wants(known: &Known, rows: &[Items<PackNo>], wants: &Wants, asking: Asking) -> Option<Ask>
+fn ask_wants(known: &Known, rows: &Rows, wants: &Wants, asking: Asking) -> Option<Ask>
     ensures { result ≡ first_ask (is_fact known.now.lits) (flat_map (want_queries (is_fact known.now.lits) rows.now (question_of asking)) wants.now) }
 {
     wants.rise();
@@ -254,22 +233,18 @@ fn ask_wants(known: &Known, rows: &[Items<PackNo>], wants: &Wants, asking: Askin
 }
 
 /// Whether a supplement of the package holds.
-fn supplements(known: &Known, rows: &[Items<PackNo>], supplement: &Supplement) -> bool
+fn supplements(known: &Known, rows: &Rows, supplement: &Supplement) -> bool
     ensures { result ≡ is_supplementing (is_fact known.now.lits) rows.now supplement.now }
 {
     supplement
         .deps
         .held()
         .iter()
-        .any(|dep| is_some_in(known, row(rows, *dep)))
+        .any(|dep| is_some_in(known, rows.row(*dep)))
 }
 
 /// The first of these packages of which a supplement holds and that is not out.
-fn first_supplementing(
-    known: &Known,
-    rows: &[Items<PackNo>],
-    candidates: &[Supplement],
-) -> Option<PackNo>
+fn first_supplementing(known: &Known, rows: &Rows, candidates: &[Supplement]) -> Option<PackNo>
     ensures { result ≡ first_possible (is_fact known.now.lits) (map (λ s. s.pack) (filter (is_supplementing (is_fact known.now.lits) rows.now) candidates.now)) }
 {
     for candidate in candidates {
@@ -281,7 +256,7 @@ fn first_supplementing(
 }
 
 /// A package of a name, where none is in and a supplement holds.
-fn ask_named(known: &Known, rows: &[Items<PackNo>], named: &Named) -> Option<Ask>
+fn ask_named(known: &Known, rows: &Rows, named: &Named) -> Option<Ask>
     ensures { result ≡ first_ask (is_fact known.now.lits) (named_query (is_fact known.now.lits) rows.now named.now ∷ []) }
 {
     if is_some_in(known, named.packs.held()) {
@@ -292,7 +267,7 @@ fn ask_named(known: &Known, rows: &[Items<PackNo>], named: &Named) -> Option<Ask
 }
 
 /// What the first of these names asks for.
-pub(crate) fn ask_all_named(known: &Known, rows: &[Items<PackNo>], names: &[Named]) -> Option<Ask>
+pub(crate) fn ask_all_named(known: &Known, rows: &Rows, names: &[Named]) -> Option<Ask>
     ensures { result ≡ first_ask (is_fact known.now.lits) (map (named_query (is_fact known.now.lits) rows.now) names.now) }
 {
     for named in names {
@@ -308,7 +283,7 @@ pub(crate) fn ask_all_named(known: &Known, rows: &[Items<PackNo>], names: &[Name
 fn ask_dependencies(known: &Known, plan: &Plan) -> Option<Ask>
     ensures { result ≡ first_ask (is_fact known.now.lits) (flat_map (want_queries (is_fact known.now.lits) plan.now.rows Requires) plan.now.required ++ (flat_map (want_queries (is_fact known.now.lits) plan.now.rows Recommends) plan.now.recommended ++ map (named_query (is_fact known.now.lits) plan.now.rows) plan.now.supplements)) }
 {
-    let rows = plan.rows.held();
+    let rows = &plan.rows;
     let required = ask_wants(known, rows, &plan.required, Asking::Requires);
     if required.is_some() {
         return required;

@@ -9,6 +9,7 @@ pub mod laws;
 mod memory;
 mod plans;
 mod recalling;
+mod rows;
 mod settled;
 mod wants;
 
@@ -16,5 +17,6 @@ pub use asking::{Asking, next};
 pub use memory::Memory;
 pub use plans::{Demand, Keep, Named, Plan, Supplement, Want};
 pub use recalling::next_recalling;
+pub use rows::Rows;
 pub use settled::{Entry, Settled};
 pub use wants::Wants;

@@ -12,6 +12,7 @@ ghost use Rattle.solv_planning.specs.Readiness.{IsReady};
 use crate::ordering::in_order;
 use solv_base::DepId;
 use solv_list::Items;
+use solv_plan::Rows;
 use solv_policy::Asked;
 use solv_pool::{Marks, PackNo, Task};
 use solv_prov::Providers;
@@ -63,15 +64,16 @@ pub(crate) fn rows(
     task: &Task,
     prov: &Providers,
     marks: &Marks,
-) -> Result<Items<Items<PackNo>>, AllocError>
+) -> Result<Rows, AllocError>
     requires { IsReady task.now prov.now marks.now }
     ensures { IfOk result (λ rows. rows ≡ rows_of (request_of task.now marks.now)) }
 {
     let count = task.pool.relation_count();
     task.pool.holds_each_once();
-    let mut made = Vec::new(alloc);
+    let mut made = Rows::new(alloc);
     for id in 0..count {
-        made.push(row(alloc, task, prov, marks, DepId(id as u32))?)?;
+        let row = row(alloc, task, prov, marks, DepId(id as u32))?;
+        made.push(row.held())?;
     }
-    Ok(Items::wrap(made))
+    Ok(made)
 }
