@@ -11,3 +11,5 @@ mod fixture;
 mod singles;
 #[cfg(test)]
 mod solve_tests;
+#[cfg(test)]
+mod switch_tests;
