@@ -1,8 +1,9 @@
 //! A core, and its runs.
-ghost use Rattle.std.specs.Prelude.{◌≡◌, ◌⊎◌, ◌^◌, ◌≤◌, ◌+◌, ◌==◌, ◌++◌, ◌∷◌, [], ℤ, true, List, length, take, drop, nat_lt, IfOk, OnOk, OnErr};
+ghost use Rattle.std.specs.Prelude.{◌≡◌, ◌⊎◌, ◌^◌, ◌≤◌, ◌+◌, ◌*◌, ◌==◌, ◌++◌, ◌∷◌, [], ℤ, true, List, length, take, drop, nat_lt, IfOk, OnOk, OnErr};
 ghost use Rattle.std.specs.List.{list_all};
 ghost use Rattle.solv_derive.specs.Range.{are_over};
 ghost use Rattle.solv_trail.specs.Propagated.{in_use};
+ghost use Rattle.solv_watch.specs.Watching.{AreChained, AreHeads, AreNarrow};
 ghost use Rattle.solv_core.specs.Ledgers.{are_of_run, IsGoodLedger};
 ghost use Rattle.solv_core.specs.Settling.{HasLearnt};
 ghost use Rattle.solv_core.specs.Running.{is_spent_verdict, is_log_over, IsRefutation, IsFound};
@@ -18,6 +19,7 @@ use solv_learn::Search;
 use solv_list::Items;
 use solv_pack::{RuleMem, RuleNo};
 use solv_trail::{Guide, Known};
+use solv_watch::Watches;
 use std::alloc::{AllocError, Global};
 use std::marker::Model;
 
@@ -27,12 +29,14 @@ pub struct Core {
     packages: u32,
     book: RuleMem,
     owners: Vec<usize>,
+    watches: Watches,
     known: Known,
     search: Search,
 }
 
 impl Model for Core {
-    ghost use Rattle.std.specs.Prelude.{◌≡◌, ◌≤◌, ◌^◌, true, length};
+    ghost use Rattle.std.specs.Prelude.{◌≡◌, ◌≤◌, ◌+◌, ◌*◌, ◌^◌, true, length};
+    ghost use Rattle.solv_watch.specs.Watching.{AreChained, AreHeads, AreNarrow};
     ghost use Rattle.solv_derive.specs.Range.{are_over};
     ghost use Rattle.solv_core.specs.Cores.{CoreOf};
 
@@ -46,6 +50,9 @@ impl Model for Core {
       over : are_over c.packages c.book.rules ≡ true;
       known : c.known.count ≡ c.packages;
       marked : c.search.marked.count ≡ c.packages;
+      chained : AreChained c.packages c.book.rules c.watches.book.heads.items c.book.links c.watches.book.watched.items;
+      narrow : AreNarrow c.book.rules c.watches.narrow.items;
+      heads : AreHeads c.packages c.watches.learnt.heads.items c.watches.learnt.watched.items;
     } };
 }
 
@@ -82,20 +89,24 @@ fn run_over<G: Guide>(
     alloc: Global,
     known: &mut Known,
     search: &mut Search,
-    book: &RuleMem,
+    book: &mut RuleMem,
     owners: &[usize],
+    watches: &mut Watches,
     enabled: &[bool],
     guide: &G,
     ledger: &mut Ledger,
     run: usize,
 ) -> Result<Verdict, AllocError>
-    requires over { are_over known.old.count book.now.rules ≡ true }
-    requires each { length owners.now ≡ length book.now.rules }
+    requires over { are_over known.old.count book.old.rules ≡ true }
+    requires each { length owners.now ≡ length book.old.rules }
     requires owners { list_all (λ o. nat_lt o (length enabled.now)) owners.now ≡ true }
-    requires book { length book.now.rules ≤ 2 ^ 27 }
+    requires book { length book.old.rules ≤ 2 ^ 27 }
     requires marked { search.old.marked.count ≡ known.old.count }
-    requires guide { G.is_for guide.now book.now.rules owners.now }
+    requires guide { G.is_for guide.now book.old.rules owners.now }
     requires packages { G.is_for_packages guide.now known.old.count }
+    requires chained { AreChained known.old.count book.old.rules watches.old.book.heads.items book.old.links watches.old.book.watched.items }
+    requires narrow { AreNarrow book.old.rules watches.old.narrow.items }
+    requires heads { AreHeads known.old.count watches.old.learnt.heads.items watches.old.learnt.watched.items }
     requires budget { ledger.old.budget ≤ 1000000 }
     requires unspent { length ledger.old.entries ≤ ledger.old.budget }
     ensures count { known.new.count ≡ known.old.count }
@@ -103,15 +114,20 @@ fn run_over<G: Guide>(
     ensures budget { ledger.new.budget ≡ ledger.old.budget }
     ensures runs { ledger.new.runs ≡ ledger.old.runs }
     ensures few { length ledger.new.entries ≤ ledger.new.budget + 1 }
-    ensures learnt { (new : List Entry) × ((learnt : List (List ℤ)) × HasLearnt book.now.rules (in_use owners.now enabled.now) (λ facts. G.asks guide.now facts enabled.now) (length ledger.old.entries) known.old.count run ledger.old.entries ledger.new.entries learnt new) }
+    ensures learnt { (new : List Entry) × ((learnt : List (List ℤ)) × HasLearnt book.old.rules (in_use owners.now enabled.now) (λ facts. G.asks guide.now facts enabled.now) (length ledger.old.entries) known.old.count run ledger.old.entries ledger.new.entries learnt new) }
     ensures spent { IfOk result (λ v. is_spent_verdict v ≡ (length ledger.new.entries == ledger.new.budget + 1)) }
-    ensures refutation { IfOk result (IsRefutation book.now.rules owners.now enabled.now) }
+    ensures refutation { IfOk result (IsRefutation book.old.rules owners.now enabled.now) }
     ensures log_over { IfOk result (λ v. is_log_over known.old.count v ≡ true) }
-    ensures found { IfOk result (IsFound known.old.count book.now.rules owners.now enabled.now (λ facts. G.asks guide.now facts enabled.now)) }
+    ensures found { IfOk result (IsFound known.old.count book.old.rules owners.now enabled.now (λ facts. G.asks guide.now facts enabled.now)) }
+    ensures rules { book.new.rules ≡ book.old.rules }
+    ensures chained { AreChained known.old.count book.old.rules watches.new.book.heads.items book.new.links watches.new.book.watched.items }
+    ensures narrow { AreNarrow book.old.rules watches.new.narrow.items }
+    ensures heads { AreHeads known.old.count watches.new.learnt.heads.items watches.new.learnt.watched.items }
 {
     let first = ledger.entries.len();
     known.clear();
     let mut learnt = RuleMem::new(alloc);
+    watches.learnt.forget();
     match settle(
         alloc,
         known,
@@ -119,6 +135,7 @@ fn run_over<G: Guide>(
         book,
         owners,
         &mut learnt,
+        watches,
         enabled,
         guide,
         ledger,
@@ -154,9 +171,12 @@ impl Core {
         requires packages { packages ≤ 1048575 }
         ensures { IfOk result (λ core. core ≡ record { clauses = memory.now.rules; owners = owners.now; packages = packages }) }
     {
+        let mut book = copy_of(alloc, memory)?;
+        let watches = Watches::over(alloc, &mut book, packages)?;
         Ok(Core {
             packages,
-            book: copy_of(alloc, memory)?,
+            book,
+            watches,
             owners: Vec::from_slice(alloc, owners)?,
             known: Known::new(alloc, packages)?,
             search: Search::for_packages(alloc, packages)?,
@@ -203,8 +223,9 @@ impl Core {
             alloc,
             &mut self.known,
             &mut self.search,
-            &self.book,
+            &mut self.book,
             &self.owners,
+            &mut self.watches,
             enabled,
             guide,
             ledger,

@@ -1,14 +1,13 @@
 -- The packages that are known in, as a set.
-use Rattle.std.proofs.Common.{◌≡◌, ℕ, zero, suc, ◌+◌, ◌*◌, ◌/◌, ◌<◌, ◌≤◌, Bool, true, false, not, ◌&&◌, ◌||◌, List, [], ◌∷◌, ◌++◌, length, eqb, ◌⊎◌, inl, inr, refl, eq-eqb, sym, ap, ◌∙◌, arith}
-use Rattle.std.specs.Prelude.{ℤ, pos, negsuc, nat_abs, replicate, int_lt}
+use Rattle.std.proofs.Common.{◌≡◌, ℕ, ◌*◌, ◌<◌, ◌≤◌, Bool, true, false, not, ◌&&◌, ◌||◌, List, [], ◌∷◌, ◌++◌, length, eqb, ◌⊎◌, inl, inr, refl, eq-eqb, sym, ap, ◌∙◌, arith}
+use Rattle.std.specs.Prelude.{ℤ, pos, negsuc, nat_abs, int_lt}
 use Rattle.std.specs.Ordering.{int_eq}
 use Rattle.std.proofs.lemmas.Bool.{cases_Bool, cases_eq, ltb-false}
-use Rattle.std.proofs.lemmas.List.{length-replicate}
 use Rattle.solv_pool.specs.Propagation.{is_fact}
 use Rattle.solv_derive.specs.Range.{names_package}
 use Rattle.solv_derive.proofs.Facts.{same, same_self}
 use Rattle.solv_derive.proofs.Tables.{names_parts, known_push}
-use Rattle.solv_trail.specs.Numbers.{has, room}
+use Rattle.solv_trail.specs.Numbers.{has}
 use Rattle.solv_trail.specs.Held.{IsHeld, AreIn}
 use Rattle.solv_trail.proofs.Bits.{ne-eqb}
 use Rattle.solv_trail.proofs.Holding.{popped_alone, popped_over}

@@ -3,9 +3,8 @@ pub mod Unit
 pub mod Walk
 pub mod Trails
 pub mod Holding
-pub mod Visits
+pub mod Growth
 pub mod Runs
 pub mod Descent
-pub mod Examples
 pub mod Bits
 pub mod Ins

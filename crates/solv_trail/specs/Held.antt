@@ -1,5 +1,5 @@
 -- What a trail holds.
-use Rattle.std.specs.Prelude.{◌≡◌, ℕ, ℤ, pos, negsuc, ◌+◌, ◌<◌, ◌≤◌, ◌==◌, nat_abs, Bool, true, List, length, slice_index, slice_index_or, if◌then◌else◌}
+use Rattle.std.specs.Prelude.{◌≡◌, ℕ, ℤ, pos, negsuc, ◌+◌, ◌<◌, ◌≤◌, ◌==◌, nat_abs, true, List, length, slice_index, slice_index_or, if◌then◌else◌}
 use Rattle.std.specs.List.{sum_by, list_all}
 use Rattle.solv_trail.specs.declared.questions.Question.{Question}
 use Rattle.solv_pool.specs.Propagation.{is_fact}

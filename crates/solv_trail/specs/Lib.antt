@@ -3,7 +3,6 @@ pub mod Walk
 pub mod Held
 pub mod Numbers
 pub mod Asked
-pub mod Looks
 pub mod Propagated
 pub mod Used
 pub mod Descends

@@ -1,10 +1,7 @@
 -- What propagation does to a trail.
-use Rattle.std.specs.Prelude.{◌≡◌, ℕ, ℤ, pos, ◌<◌, ◌≤◌, Bool, true, false, List, [], ◌∷◌, ◌++◌, length, take, slice_get, slice_index, slice_index_or, Option, Some, None}
+use Rattle.std.specs.Prelude.{◌≡◌, ℕ, ℤ, pos, ◌<◌, ◌≤◌, Bool, true, false, List, length, take, slice_get, slice_index, slice_index_or, Option, Some, None}
 use Rattle.solv_derive.specs.Forced.{is_falsified, forced}
-use Rattle.solv_derive.specs.Range.{names_package}
 use Rattle.solv_trail.specs.Held.{Held}
-use Rattle.solv_trail.specs.declared.propagation.Visit.{Visit}
-use Rattle.solv_trail.specs.declared.propagation.Visit.TheVariants.{Falsified, Grew, Quiet}
 
 -- a rule with an owner is in use where the owner is enabled; the learnt rules have none
 abbrev pub in_use : List ℕ → List Bool → ℕ → Bool
@@ -29,13 +26,6 @@ pub record IsReasoned (rules : List (List ℤ)) (used : ℕ → Bool) (held : He
 pub record IsAtRest (rules : List (List ℤ)) (used : ℕ → Bool) (lits : List ℤ) (rule : ℕ) : Type 0 where
   pub forces_none : (c : List ℤ) → IsUsed rules used rule c → forced lits c ≡ None
   pub not_false : (c : List ℤ) → IsUsed rules used rule c → is_falsified lits c ≡ false
-
--- what came of a visit to a rule
-pub data Visited (rules : List (List ℤ)) (used : ℕ → Bool) (rule : ℕ) (old new : Held) : Visit → Type 0 where
-  falsified : (c : List ℤ) → IsUsed rules used rule c → is_falsified old.lits c ≡ true → new ≡ old → Visited rules used rule old new Falsified
-  grew : (c : List ℤ) (x : ℤ) → IsUsed rules used rule c → forced old.lits c ≡ Some x → names_package old.count x ≡ true → length old.lits < old.count
-      → new ≡ record old { lits = old.lits ++ x ∷ []; reasons = old.reasons ++ rule ∷ [] } → Visited rules used rule old new Grew
-  quiet : IsAtRest rules used old.lits rule → new ≡ old → Visited rules used rule old new Quiet
 
 -- the trail grew at its end by what rules in use force
 pub record IsGrown (rules : List (List ℤ)) (used : ℕ → Bool) (old new : Held) : Type 0 where

@@ -1,33 +1,30 @@
-//! The literals that are known, unit propagation and choices.
+//! The trail: the literals that are known, in the order in which they came to be.
 //!
-//! The search knows literals, in the order in which they came to be: each was chosen, as a guide asked for it, or is forced
-//! by a rule and those before it. Its rules are those of a book, each with an owner that is enabled or not, and learnt ones
-//! behind them.
+//! Each literal was chosen, as a guide asked for its package, or is forced by a rule and the literals before it. The rules are
+//! those of a book, each with an owner that is enabled or not, and learnt ones behind them. `solv_watch` finds what is forced;
+//! this crate holds it, and says what is owed for it.
 //!
 //! - [`Known`]: the literals, with the rule of each and the choices. Nothing in it takes memory once it is made.
-//! - [`Guide`]: who chooses; [`Ask`] and [`Question`]: what it asks for, and why.
-//! - [`propagate`]: adds what is forced. Its clause is all that the rest knows of it.
-//! - [`descend`]: propagation and choices in turn, until a rule is falsified or nothing is asked.
+//! - [`NumberSet`]: the packages that are known in, as a set of numbers.
+//! - [`Guide`]: who chooses; [`Ask`] and [`Question`]: what it asks for, and why; [`taken`]: the literal of what is asked for.
+//! - [`lits_of`], [`is_in_use`]: a rule by its number, in the book or behind it, and whether it is in use.
 //!
 //! `specs/Held` says what is held, `specs/Derivation` and `specs/Propagated` how literals come to be known, `specs/Used` which
 //! clauses are in use, `specs/Asked` what a guide owes, `specs/Descends` what holds between conflicts, and `specs/Walk`
 //! which packages a guide takes from nothing, by `solv_pool`'s unit propagation.
 #![tactic(auto)]
 
-mod descending;
 mod guides;
 mod known;
-mod looking;
 mod numbers;
-mod propagation;
 mod questions;
+mod rules;
 
-pub use descending::descend;
 pub use guides::Guide;
 pub use known::Known;
 pub use numbers::NumberSet;
-pub use propagation::{lits_of, propagate};
-pub use questions::{Ask, Question};
+pub use questions::{Ask, Question, taken};
+pub use rules::{is_in_use, lits_of};
 
 #[cfg(test)]
 mod tests;

@@ -24,7 +24,7 @@ pub struct Ask {
     pub question: Question,
 }
 
-/// That a package is in.
+/// The literal that a package is in.
 pub fn taken(pack: PackNo) -> Lit
     requires some { 0 < pack }
     requires few { pack ≤ 1048575 }

@@ -1,5 +1,5 @@
-ghost use Rattle.std.specs.Prelude.{◌≡◌, ◌∷◌, [], pos, negsuc, length, IfOk};
-ghost use Rattle.solv_trail.specs.Examples.{chain, four, asks_for_one, IsNone};
+ghost use Rattle.std.specs.Prelude.{◌≡◌, ◌∷◌, [], pos, negsuc, IfOk};
+ghost use Rattle.solv_trail.specs.Examples.{four};
 ghost use Rattle.solv_trail.specs.declared.questions.Question.TheVariants.{Keep};
 
 use crate::*;
@@ -117,17 +117,6 @@ fn choices_are_taken_back(rt: HostRuntime) -> Result<(), Fail> {
     Ok(())
 }
 
-fn book_of_chain(alloc: Global) -> Result<RuleMem, PackFault>
-    ensures { IfOk result (λ book. book.rules ≡ chain) }
-{
-    let mut book = RuleMem::new(alloc);
-    book.push(&[Lit::new(1)])?;
-    book.push(&[Lit::new(-1), Lit::new(2)])?;
-    book.push(&[Lit::new(-2), Lit::new(3)])?;
-    book.push(&[Lit::new(-3), Lit::new(-1)])?;
-    Ok(book)
-}
-
 fn book_of_four(alloc: Global) -> Result<RuleMem, PackFault>
     ensures { IfOk result (λ book. book.rules ≡ four) }
 {
@@ -159,93 +148,12 @@ fn learnt_rules_stand_behind_the_book(rt: HostRuntime) -> Result<(), Fail> {
     Ok(())
 }
 
-/// Propagates from nothing, and says whether a rule is falsified.
-fn propagates(known: &mut Known, book: &RuleMem, learnt: &RuleMem, enabled: &[bool]) -> bool
-    requires count { known.old.count ≡ 3 }
-    requires book { book.now.rules ≡ chain }
-    requires learnt { learnt.now.rules ≡ [] }
-    requires each { length enabled.now ≡ 4 }
-{
-    propagate(known, book, learnt, &[0, 1, 2, 3], enabled).is_some()
-}
-
 #[test]
-fn literals_are_forced(rt: HostRuntime) -> Result<(), Fail> {
-    let book = book_of_chain(rt.alloc())?;
-    let learnt = RuleMem::new(rt.alloc());
-    let table: [(&[bool], &[i32]); 4] = [
-        (&[true, true, true, false], &[1, 2, 3]),
-        (&[false, true, true, true], &[]),
-        (&[true, false, true, true], &[1, -3, -2]),
-        (&[true, true, false, true], &[1, 2, -3]),
-    ];
-    for (enabled, wanted) in table {
-        assert!(rt; enabled.len() == 4);
-        let mut known = Known::new(rt.alloc(), 3)?;
-        assert_eq!(rt; propagates(&mut known, &book, &learnt, enabled), false);
-        assert!(rt; knows(&known, wanted));
+fn rules_are_in_use_where_their_owner_is_enabled(rt: HostRuntime) -> Result<(), Fail> {
+    let table = [(0, false), (1, true), (2, false), (3, true)];
+    for (rule, wanted) in table {
+        assert_eq!(rt; is_in_use(&[1, 0, 1], &[true, false], rule), wanted);
     }
-    let mut known = Known::new(rt.alloc(), 3)?;
-    assert!(rt; propagates(&mut known, &book, &learnt, &[true, true, true, true]));
-    Ok(())
-}
-
-/// Asks for package 1, and then for nothing. It is for no number of packages, so its law says nothing.
-struct OnePackage;
-
-impl Guide for OnePackage {
-    ghost is_for = { λ guide clauses owners. IsNone clauses };
-
-    ghost is_for_packages = { λ guide count. ⊥ };
-
-    ghost asks = { λ guide known enabled. asks_for_one known };
-
-    fn next(&self, known: &Known, enabled: &[bool]) -> Option<Ask> {
-        let _ = enabled;
-        if known.is_in(PackNo(1)) || known.is_out(PackNo(1)) {
-            return None;
-        }
-        Some(keep(1))
-    }
-
-    ghost keeps_law = { λ guide count clauses owners enabled none some. absurd some };
-}
-
-/// Goes on from nothing until a rule is falsified, or nothing is asked.
-fn descends(known: &mut Known, book: &RuleMem, learnt: &RuleMem, enabled: &[bool]) -> bool
-    requires nothing { known.old ≡ record { count = 3; lits = []; reasons = []; marks = []; questions = [] } }
-    requires book { book.now.rules ≡ four }
-    requires learnt { learnt.now.rules ≡ [] }
-    requires each { length enabled.now ≡ 4 }
-{
-    descend(known, book, learnt, &[0, 1, 2, 3], enabled, &OnePackage).is_some()
-}
-
-/// Where the first choice stands, and what was asked.
-fn first_choice(known: &Known) -> Option<(usize, Question)> {
-    if known.choices() == 0 {
-        return None;
-    }
-    Some((known.mark_at(0), known.question_at(0)))
-}
-
-#[test]
-fn one_package_is_taken(rt: HostRuntime) -> Result<(), Fail> {
-    let book = book_of_four(rt.alloc())?;
-    let learnt = RuleMem::new(rt.alloc());
-    let table: [(&[bool], bool, &[i32]); 4] = [
-        (&[true, true, true, true], true, &[]),
-        (&[false, false, true, true], true, &[]),
-        (&[true, true, true, false], false, &[1, 3]),
-        (&[false, true, false, false], false, &[1]),
-    ];
-    for (enabled, clash, wanted) in table {
-        assert!(rt; enabled.len() == 4);
-        let mut known = Known::new(rt.alloc(), 3)?;
-        assert_eq!(rt; descends(&mut known, &book, &learnt, enabled), clash);
-        assert!(rt; clash || knows(&known, wanted));
-        assert!(rt; known.is_in(PackNo(1)));
-        assert_eq!(rt; first_choice(&known), Some((0, Question::Keep(PackNo(1)))));
-    }
+    assert_eq!(rt; taken(PackNo(7)), Lit::new(7));
     Ok(())
 }

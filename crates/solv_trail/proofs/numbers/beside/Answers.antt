@@ -1,4 +1,4 @@
-use Rattle.std.proofs.Common.{rules, ◌≡◌, ◌∙◌, ◌*◌, ◌+◌, ◌<◌, sym, ap, not, Bool, ◌&&◌, get_or, eqb, List, ℕ}
+use Rattle.std.proofs.Common.{◌≡◌, ◌∙◌, ◌*◌, ◌+◌, sym, ap, not, ◌&&◌, get_or, eqb}
 use Rattle.std.specs.Int.{bit_at}
 use Rattle.solv_trail.specs.Numbers.{has}
 use Rattle.solv_trail.proofs.Bits.{without, has_at}

@@ -1,4 +1,4 @@
-use Rattle.std.proofs.Common.{rules, ◌<◌, ◌^◌, refl, arith}
+use Rattle.std.proofs.Common.{rules, refl, arith}
 use Rattle.solv_trail.proofs.Bits.{none_from, first_from}
 use Rattle.solv_trail.proofs.numbers.lowest.Goals as goal
 

@@ -1,7 +1,7 @@
 use Rattle.std.proofs.Common.{◌≡◌, ◌<◌, ◌∙◌, ◌++◌, ◌∷◌, [], List, length, take, get_or, sym, ap, subst, Some, true, arith, ℕ}
 use Rattle.std.specs.Prelude.{ℤ, pos, slice_get, reverse}
 use Rattle.solv_derive.specs.Forced.{forced}
-use Rattle.solv_trail.proofs.Visits.{rule_over}
+use Rattle.solv_trail.proofs.Growth.{rule_over}
 use Rattle.solv_learn.specs.Marks.{has}
 use Rattle.solv_learn.proofs.Steps.{HasReason, reason_of, get_within, same_clause, step_passes, step_resolves, hints_used}
 use Rattle.solv_learn.proofs.search.Search.resolve.Goals as goal

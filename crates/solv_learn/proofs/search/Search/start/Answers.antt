@@ -2,7 +2,7 @@ use Rattle.std.proofs.Common.{◌≡◌, ◌∙◌, ◌++◌, ◌∷◌, [], len
 use Rattle.solv_pool.specs.Propagation.{is_fact, is_refuted}
 use Rattle.solv_derive.specs.Forced.{is_falsified}
 use Rattle.solv_derive.proofs.Facts.{all_member}
-use Rattle.solv_trail.proofs.Visits.{rule_over}
+use Rattle.solv_trail.proofs.Growth.{rule_over}
 use Rattle.solv_learn.specs.Marks.{has}
 use Rattle.solv_learn.specs.Refuting.{hint_for}
 use Rattle.solv_learn.proofs.Steps.{start_refutes, same_clause}

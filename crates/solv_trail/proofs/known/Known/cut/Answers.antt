@@ -1,4 +1,4 @@
-use Rattle.std.proofs.Common.{◌≡◌, ◌≤◌, ◌<◌, ◌∙◌, ℕ, arith, length, get_or, sym, ap}
+use Rattle.std.proofs.Common.{◌≡◌, ◌≤◌, ◌<◌, arith, length, get_or}
 use Rattle.std.proofs.lemmas.List.{get_or_read}
 use Rattle.solv_trail.proofs.Holding.{marks_at_least}
 use Rattle.solv_trail.proofs.known.Known.cut.Goals as goal

@@ -1,4 +1,4 @@
-use Rattle.std.proofs.Common.{rules, ◌∙◌, ◌%◌, ◌/◌, ap, eqb, sym, get_or}
+use Rattle.std.proofs.Common.{◌∙◌, ◌%◌, ◌/◌, ap, eqb, sym, get_or}
 use Rattle.std.specs.Int.{bit_at}
 use Rattle.std.proofs.lemmas.Nat.Bits.{shr_and_one}
 use Rattle.solv_trail.proofs.Bits.{has_is}

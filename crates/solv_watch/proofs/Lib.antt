@@ -1,0 +1,11 @@
+pub mod Hanging
+pub mod Pairs
+pub mod Guards
+pub mod Walks
+pub mod Keeping
+pub mod Adding
+pub mod Learning
+pub mod Chained
+pub mod Forgetting
+pub mod Entered
+pub mod Examples

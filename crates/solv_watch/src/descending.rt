@@ -1,0 +1,53 @@
+//! Propagation and choices in turn.
+ghost use Rattle.std.specs.Prelude.{◌≡◌, ◌<◌, ◌≤◌, ◌^◌, ◌++◌, ℕ, ℤ, true, List, length, nat_lt};
+ghost use Rattle.std.specs.List.{list_all};
+ghost use Rattle.solv_derive.specs.Range.{are_over};
+ghost use Rattle.solv_trail.specs.Propagated.{in_use};
+ghost use Rattle.solv_trail.specs.Descends.{AsksUnknown, Ended, IsKept};
+ghost use Rattle.solv_watch.specs.Propagating.{AreWatched, AreKeptAtChoices, AreReady};
+
+use crate::chains::Watches;
+use crate::propagation::propagate;
+use solv_pack::RuleMem;
+use solv_trail::{Guide, Known, taken};
+
+/// Propagates and takes what the guide asks for, until a rule is falsified (which it names) or nothing is asked. It takes no memory.
+pub fn descend<G: Guide>(
+    known: &mut Known,
+    book: &mut RuleMem,
+    learnt: &mut RuleMem,
+    watches: &mut Watches,
+    owners: &[usize],
+    enabled: &[bool],
+    guide: &G,
+) -> Option<u32>
+    requires over { are_over known.old.count (book.old.rules ++ learnt.old.rules) ≡ true }
+    requires owners { list_all (λ o. nat_lt o (length enabled.now)) owners.now ≡ true }
+    requires each { length owners.now ≡ length book.old.rules }
+    requires rules { length (book.old.rules ++ learnt.old.rules) ≤ 2 ^ 28 }
+    requires next { (clauses : List (List ℤ)) × ((all : List ℕ) × (G.is_for guide.now clauses all × (list_all (λ o. nat_lt o (length enabled.now)) all ≡ true))) }
+    requires asks { AsksUnknown known.old.count (book.old.rules ++ learnt.old.rules) (in_use owners.now enabled.now) (λ facts. G.asks guide.now facts enabled.now) }
+    requires kept { IsKept (book.old.rules ++ learnt.old.rules) (in_use owners.now enabled.now) (λ facts. G.asks guide.now facts enabled.now) known.old }
+    requires watched { AreWatched known.old.count book.old learnt.old watches.old }
+    requires choices { AreKeptAtChoices book.old.rules learnt.old.rules (in_use owners.now enabled.now) watches.old known.old }
+    requires ready { AreReady book.old.rules learnt.old.rules (in_use owners.now enabled.now) watches.old known.old }
+    ensures count { known.new.count ≡ known.old.count }
+    ensures rules { book.new.rules ≡ book.old.rules }
+    ensures learnt_rules { learnt.new.rules ≡ learnt.old.rules }
+    ensures kept { IsKept (book.old.rules ++ learnt.old.rules) (in_use owners.now enabled.now) (λ facts. G.asks guide.now facts enabled.now) known.new }
+    ensures ended { Ended (book.old.rules ++ learnt.old.rules) (in_use owners.now enabled.now) (λ facts. G.asks guide.now facts enabled.now) known.new.lits result }
+    ensures watched { AreWatched known.old.count book.new learnt.new watches.new }
+    ensures choices { AreKeptAtChoices book.old.rules learnt.old.rules (in_use owners.now enabled.now) watches.new known.new }
+{
+    loop {
+        if let Some(rule) = propagate(known, book, learnt, watches, owners, enabled) {
+            known.keep_apart();
+            return Some(rule);
+        }
+        known.keep_apart();
+        match guide.next(known, enabled) {
+            None => return None,
+            Some(ask) => known.choose(taken(ask.pack), ask),
+        }
+    }
+}

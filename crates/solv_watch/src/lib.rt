@@ -1,0 +1,34 @@
+//! Unit propagation by two watches for each rule.
+//!
+//! Each rule with two literals or more watches two of them, and is looked at only when one of these becomes false. Then it
+//! watches another that is not false, if it has one; else it forces the literal beside, or is falsified. So all rules are
+//! never gone through, and what is taken back from the trail changes no watch. Clauses keep the order of their literals.
+//!
+//! It stands on `solv_pack`, whose memory holds two links for each rule, and on `solv_trail`, which holds what is known and says
+//! what is owed for it.
+//!
+//! - [`Watches`]: the watches of a book and of learnt rules; `Watches::over` makes those of a book.
+//! - [`Chains`]: the watches of one memory. `add` hangs a rule that was learnt, `pass` passes one with fewer than two
+//!   literals, and `forget` lets all go.
+//! - [`propagate`]: adds what is forced, until a rule is falsified or nothing more is forced.
+//! - [`descend`]: propagation and choices in turn, until a rule is falsified or nothing is asked.
+//!
+//! None of these takes memory but `Watches::over`.
+//!
+//! `specs/Propagating` says what propagation needs of the watches and keeps, `specs/Watching` what the watches of one memory
+//! keep, `specs/Chains` how watches are linked, and `specs/Spares` which literals a rule may watch.
+#![tactic(auto)]
+
+mod chaining;
+mod chains;
+mod descending;
+mod propagation;
+mod spares;
+mod walking;
+
+pub use chains::{Chains, Watches};
+pub use descending::descend;
+pub use propagation::propagate;
+
+#[cfg(test)]
+mod tests;

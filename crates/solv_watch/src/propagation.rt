@@ -1,0 +1,210 @@
+//! Unit propagation.
+ghost use Rattle.std.specs.Prelude.{◌≡◌, ◌<◌, ◌≤◌, ◌+◌, ◌-◌, ◌*◌, ◌^◌, ◌++◌, ℕ, ℤ, Bool, [], List, Some, None, true, false, length, take, nat_lt, slice_get, slice_index, Option, IfSome};
+ghost use Rattle.std.specs.List.{list_all};
+ghost use Rattle.solv_derive.specs.Range.{are_over};
+ghost use Rattle.solv_derive.specs.Forced.{is_falsified};
+ghost use Rattle.solv_trail.specs.Propagated.{in_use, IsUsed, IsGrown, Propagated};
+ghost use Rattle.solv_pool.specs.Propagation.{is_fact};
+ghost use Rattle.solv_derive.specs.Forced.{is_satisfied};
+ghost use Rattle.solv_watch.specs.Watching.{AreChained, AreNarrow, AreNarrowTrue, AreGuards, AreGuardsAtChoices, Each, IsPart, always, IsKeptAtChoices, IsKeptUpto};
+ghost use Rattle.solv_watch.specs.Propagating.{AreWatched, AreKeptAtChoices, AreReady, AreSeen};
+
+use crate::chains::{Chains, Watches};
+use crate::walking::walk;
+use solv_pack::{RuleMem, RuleNo};
+use solv_trail::{Known, is_in_use};
+
+/// Walks through the rules of a memory that watch the negation of the literal at a place.
+fn walk_in(
+    known: &mut Known,
+    rules: &mut RuleMem,
+    chains: &mut Chains,
+    owners: &[usize],
+    enabled: &[bool],
+    base: u32,
+    at: usize,
+) -> Option<u32>
+    requires over { are_over known.old.count rules.old.rules ≡ true }
+    requires owners { list_all (λ o. nat_lt o (length enabled.now)) owners.now ≡ true }
+    requires base { base + length rules.old.rules ≤ 2 ^ 28 }
+    requires at { at < length known.old.lits }
+    requires chained { AreChained known.old.count rules.old.rules chains.old.heads.items rules.old.links chains.old.watched.items }
+    requires guards { AreGuards rules.old.rules (in_use owners.now enabled.now) chains.old.watched.items Each (take at known.old.lits) known.old.lits }
+    requires choices { AreGuardsAtChoices rules.old.rules (in_use owners.now enabled.now) chains.old.watched.items known.old.lits known.old.marks }
+    ensures rules { rules.new.rules ≡ rules.old.rules }
+    ensures grown { (all : List (List ℤ)) (used : ℕ → Bool) → IsPart all used base rules.old.rules (in_use owners.now enabled.now) → IsGrown all used known.old known.new }
+    ensures chained { AreChained known.old.count rules.old.rules chains.new.heads.items rules.new.links chains.new.watched.items }
+    ensures choices { AreGuardsAtChoices rules.old.rules (in_use owners.now enabled.now) chains.new.watched.items known.new.lits known.new.marks }
+    ensures guards { result ≡ None → AreGuards rules.old.rules (in_use owners.now enabled.now) chains.new.watched.items Each (take (at + 1) known.new.lits) known.new.lits }
+    ensures clash { IfSome result (λ rule. (all : List (List ℤ)) (used : ℕ → Bool) → IsPart all used base rules.old.rules (in_use owners.now enabled.now) → (c : List ℤ) × IsUsed all used rule c × (is_falsified known.new.lits c ≡ true)) }
+{
+    walk(
+        known,
+        rules,
+        chains.heads.as_mut_slice(),
+        chains.watched.as_mut_slice(),
+        owners,
+        enabled,
+        base,
+        at,
+    )
+}
+
+/// Follows what the literals from a place on force, until a rule is falsified (which it names) or nothing more is forced.
+fn follow(
+    known: &mut Known,
+    book: &mut RuleMem,
+    learnt: &mut RuleMem,
+    watches: &mut Watches,
+    owners: &[usize],
+    enabled: &[bool],
+    from: usize,
+) -> Option<u32>
+    requires over { are_over known.old.count (book.old.rules ++ learnt.old.rules) ≡ true }
+    requires owners { list_all (λ o. nat_lt o (length enabled.now)) owners.now ≡ true }
+    requires each { length owners.now ≡ length book.old.rules }
+    requires rules { length (book.old.rules ++ learnt.old.rules) ≤ 2 ^ 28 }
+    requires from { from ≤ length known.old.lits }
+    requires book { AreChained known.old.count book.old.rules watches.old.book.heads.items book.old.links watches.old.book.watched.items }
+    requires learnt { AreChained known.old.count learnt.old.rules watches.old.learnt.heads.items learnt.old.links watches.old.learnt.watched.items }
+    requires book_choices { IsKeptAtChoices book.old.rules (in_use owners.now enabled.now) watches.old.book.watched.items known.old.lits known.old.marks }
+    requires learnt_choices { IsKeptAtChoices learnt.old.rules always watches.old.learnt.watched.items known.old.lits known.old.marks }
+    requires book_kept { IsKeptUpto book.old.rules (in_use owners.now enabled.now) watches.old.book.watched.items known.old.lits from }
+    requires learnt_kept { IsKeptUpto learnt.old.rules always watches.old.learnt.watched.items known.old.lits from }
+    ensures rules { book.new.rules ≡ book.old.rules }
+    ensures learnt_rules { learnt.new.rules ≡ learnt.old.rules }
+    ensures narrow { watches.new.narrow ≡ watches.old.narrow }
+    ensures grown { IsGrown (book.old.rules ++ learnt.old.rules) (in_use owners.now enabled.now) known.old known.new }
+    ensures done { Propagated (book.old.rules ++ learnt.old.rules) (in_use owners.now enabled.now) known.new.lits result }
+    ensures book { AreChained known.old.count book.old.rules watches.new.book.heads.items book.new.links watches.new.book.watched.items }
+    ensures learnt { AreChained known.old.count learnt.old.rules watches.new.learnt.heads.items learnt.new.links watches.new.learnt.watched.items }
+    ensures book_choices { IsKeptAtChoices book.old.rules (in_use owners.now enabled.now) watches.new.book.watched.items known.new.lits known.new.marks }
+    ensures learnt_choices { IsKeptAtChoices learnt.old.rules always watches.new.learnt.watched.items known.new.lits known.new.marks }
+    ensures book_kept { result ≡ None → IsKeptUpto book.old.rules (in_use owners.now enabled.now) watches.new.book.watched.items known.new.lits (length known.new.lits) }
+    ensures learnt_kept { result ≡ None → IsKeptUpto learnt.old.rules always watches.new.learnt.watched.items known.new.lits (length known.new.lits) }
+{
+    let base = book.len() as u32;
+    let mut at = from;
+    while at < known.len() {
+        if let Some(rule) = walk_in(known, book, &mut watches.book, owners, enabled, 0, at) {
+            return Some(rule);
+        }
+        if let Some(rule) = walk_in(known, learnt, &mut watches.learnt, &[], &[], base, at) {
+            return Some(rule);
+        }
+        at += 1;
+    }
+    known.keep_apart();
+    None
+}
+
+/// Looks at a rule with fewer than two literals, and adds what it forces. Answers whether it is not falsified.
+fn visit_narrow(
+    known: &mut Known,
+    rules: &RuleMem,
+    owners: &[usize],
+    enabled: &[bool],
+    rule: u32,
+) -> bool
+    requires over { are_over known.old.count rules.now.rules ≡ true }
+    requires owners { list_all (λ o. nat_lt o (length enabled.now)) owners.now ≡ true }
+    requires rule { rule < length rules.now.rules }
+    requires narrow { (c : List ℤ) → slice_get rules.now.rules rule ≡ Some c → length c < 2 }
+    ensures grown { (all : List (List ℤ)) (used : ℕ → Bool) → IsPart all used 0 rules.now.rules (in_use owners.now enabled.now) → IsGrown all used known.old known.new }
+    ensures satisfied { result ≡ true → (c : List ℤ) → IsUsed rules.now.rules (in_use owners.now enabled.now) rule c → is_satisfied known.new.lits c ≡ true }
+    ensures falsified { result ≡ false → (c : List ℤ) × IsUsed rules.now.rules (in_use owners.now enabled.now) rule c × (is_falsified known.new.lits c ≡ true) }
+{
+    if !is_in_use(owners, enabled, rule as usize) {
+        return true;
+    }
+    let clause = rules.lits(RuleNo(rule));
+    if clause.is_empty() {
+        return false;
+    }
+    let lit = clause[0];
+    if known.is_fact(lit) {
+        return true;
+    }
+    if known.is_fact(lit.negated()) {
+        return false;
+    }
+    known.push(lit, rule);
+    true
+}
+
+/// Looks at all rules of the book with fewer than two literals, until one is falsified, which it names.
+fn look_at_narrow(
+    known: &mut Known,
+    rules: &RuleMem,
+    narrow: &[u32],
+    owners: &[usize],
+    enabled: &[bool],
+) -> Option<u32>
+    requires over { are_over known.old.count rules.now.rules ≡ true }
+    requires owners { list_all (λ o. nat_lt o (length enabled.now)) owners.now ≡ true }
+    requires narrow { AreNarrow rules.now.rules narrow.now }
+    ensures grown { (all : List (List ℤ)) (used : ℕ → Bool) → IsPart all used 0 rules.now.rules (in_use owners.now enabled.now) → IsGrown all used known.old known.new }
+    ensures satisfied { result ≡ None → AreNarrowTrue rules.now.rules (in_use owners.now enabled.now) known.new.lits }
+    ensures clash { IfSome result (λ rule. (c : List ℤ) × IsUsed rules.now.rules (in_use owners.now enabled.now) rule c × (is_falsified known.new.lits c ≡ true)) }
+{
+    for rule in narrow {
+        if !visit_narrow(known, rules, owners, enabled, *rule) {
+            return Some(*rule);
+        }
+    }
+    None
+}
+
+/// Looks at the rules with fewer than two literals, where nothing is known yet.
+fn begin(
+    known: &mut Known,
+    rules: &RuleMem,
+    narrow: &[u32],
+    owners: &[usize],
+    enabled: &[bool],
+) -> Option<u32>
+    requires over { are_over known.old.count rules.now.rules ≡ true }
+    requires owners { list_all (λ o. nat_lt o (length enabled.now)) owners.now ≡ true }
+    requires narrow { AreNarrow rules.now.rules narrow.now }
+    requires satisfied { 0 < length known.old.lits → AreNarrowTrue rules.now.rules (in_use owners.now enabled.now) known.old.lits }
+    ensures grown { (all : List (List ℤ)) (used : ℕ → Bool) → IsPart all used 0 rules.now.rules (in_use owners.now enabled.now) → IsGrown all used known.old known.new }
+    ensures satisfied { result ≡ None → AreNarrowTrue rules.now.rules (in_use owners.now enabled.now) known.new.lits }
+    ensures clash { IfSome result (λ rule. (c : List ℤ) × IsUsed rules.now.rules (in_use owners.now enabled.now) rule c × (is_falsified known.new.lits c ≡ true)) }
+{
+    if known.len() > 0 {
+        return None;
+    }
+    look_at_narrow(known, rules, narrow, owners, enabled)
+}
+
+/// Adds what the rules in use force, until one is falsified (which it names) or nothing more is forced. All literals but the last are to have
+/// been looked at. It takes no memory.
+pub fn propagate(
+    known: &mut Known,
+    book: &mut RuleMem,
+    learnt: &mut RuleMem,
+    watches: &mut Watches,
+    owners: &[usize],
+    enabled: &[bool],
+) -> Option<u32>
+    requires over { are_over known.old.count (book.old.rules ++ learnt.old.rules) ≡ true }
+    requires owners { list_all (λ o. nat_lt o (length enabled.now)) owners.now ≡ true }
+    requires each { length owners.now ≡ length book.old.rules }
+    requires rules { length (book.old.rules ++ learnt.old.rules) ≤ 2 ^ 28 }
+    requires watched { AreWatched known.old.count book.old learnt.old watches.old }
+    requires kept { AreKeptAtChoices book.old.rules learnt.old.rules (in_use owners.now enabled.now) watches.old known.old }
+    requires ready { AreReady book.old.rules learnt.old.rules (in_use owners.now enabled.now) watches.old known.old }
+    ensures rules { book.new.rules ≡ book.old.rules }
+    ensures learnt_rules { learnt.new.rules ≡ learnt.old.rules }
+    ensures grown { IsGrown (book.old.rules ++ learnt.old.rules) (in_use owners.now enabled.now) known.old known.new }
+    ensures done { Propagated (book.old.rules ++ learnt.old.rules) (in_use owners.now enabled.now) known.new.lits result }
+    ensures watched { AreWatched known.old.count book.new learnt.new watches.new }
+    ensures kept { AreKeptAtChoices book.old.rules learnt.old.rules (in_use owners.now enabled.now) watches.new known.new }
+    ensures seen { result ≡ None → AreSeen book.old.rules learnt.old.rules (in_use owners.now enabled.now) watches.new known.new }
+{
+    let from = known.len().saturating_sub(1);
+    if let Some(rule) = begin(known, book, &watches.narrow, owners, enabled) {
+        return Some(rule);
+    }
+    follow(known, book, learnt, watches, owners, enabled, from)
+}

@@ -1,0 +1,109 @@
+//! A walk through the watches of a literal that became false.
+ghost use Rattle.std.specs.Prelude.{◌≡◌, ◌<◌, ◌≤◌, ◌+◌, ◌*◌, ◌/◌, ◌%◌, ◌^◌, ℕ, ℤ, pos, neg_ℤ, Bool, true, List, Some, None, length, take, nat_lt, slice_get, slice_index, slice_index_or, slice_set, Option, IfSome};
+ghost use Rattle.std.specs.List.{list_all};
+ghost use Rattle.solv_pool.specs.Propagation.{is_fact};
+ghost use Rattle.solv_pack.specs.Literals.{place_of};
+ghost use Rattle.solv_pack.specs.Packing.{no_link, link_place};
+ghost use Rattle.solv_derive.specs.Range.{is_over, are_over, names_package};
+ghost use Rattle.solv_derive.specs.Forced.{is_falsified};
+ghost use Rattle.solv_trail.specs.Propagated.{in_use, IsUsed, IsGrown};
+ghost use Rattle.solv_watch.specs.Chains.{other, heads_past, links_past};
+ghost use Rattle.solv_watch.specs.Watching.{literal_of, AreChained, AreGuards, AreGuardsAtChoices, Each, IsPart, Looked};
+
+use crate::chains::{NOWHERE, beside, link_of, rewatch};
+use crate::spares::spare;
+use solv_pack::{Lit, RuleMem, RuleNo};
+use solv_trail::{Known, is_in_use};
+
+/// What a look at a rule finds, beside one of its watched literals: nothing has to change; it is falsified; it forces that literal; or
+/// another is to be watched.
+#[derive(Clone, Copy)]
+pub enum Visit {
+    Stays,
+    Falsified,
+    Forces,
+    Moves(Lit),
+}
+
+/// Looks at a rule, beside one of its watched literals.
+fn look(
+    known: &Known,
+    rules: &RuleMem,
+    owners: &[usize],
+    enabled: &[bool],
+    rule: u32,
+    beside: Lit,
+) -> Visit
+    requires over { are_over known.now.count rules.now.rules ≡ true }
+    requires owners { list_all (λ o. nat_lt o (length enabled.now)) owners.now ≡ true }
+    requires rule { rule < length rules.now.rules }
+    requires beside { (c : List ℤ) → slice_get rules.now.rules rule ≡ Some c → is_fact c beside ≡ true }
+    ensures { Looked rules.now.rules (in_use owners.now enabled.now) known.now.lits rule beside result }
+{
+    let clause = rules.lits(RuleNo(rule));
+    known.keep_apart();
+    if known.is_fact(beside) {
+        return Visit::Stays;
+    }
+    if !is_in_use(owners, enabled, rule as usize) {
+        return Visit::Stays;
+    }
+    match spare(known, clause, beside) {
+        Some(lit) => Visit::Moves(lit),
+        None => {
+            if known.is_fact(beside.negated()) {
+                Visit::Falsified
+            } else {
+                Visit::Forces
+            }
+        }
+    }
+}
+
+/// Walks through the rules that watch a literal whose negation stands at a place of what is known, and adds what they force, until one is
+/// falsified, which it names, by its number among all rules, where these begin at base. It takes no memory.
+pub fn walk(
+    known: &mut Known,
+    rules: &mut RuleMem,
+    heads: &mut [u32],
+    watched: &mut [Lit],
+    owners: &[usize],
+    enabled: &[bool],
+    base: u32,
+    at: usize,
+) -> Option<u32>
+    requires over { are_over known.old.count rules.old.rules ≡ true }
+    requires owners { list_all (λ o. nat_lt o (length enabled.now)) owners.now ≡ true }
+    requires base { base + length rules.old.rules ≤ 2 ^ 28 }
+    requires at { at < length known.old.lits }
+    requires chained { AreChained known.old.count rules.old.rules heads.old rules.old.links watched.old }
+    requires guards { AreGuards rules.old.rules (in_use owners.now enabled.now) watched.old Each (take at known.old.lits) known.old.lits }
+    requires choices { AreGuardsAtChoices rules.old.rules (in_use owners.now enabled.now) watched.old known.old.lits known.old.marks }
+    ensures rules { rules.new.rules ≡ rules.old.rules }
+    ensures grown { (all : List (List ℤ)) (used : ℕ → Bool) → IsPart all used base rules.old.rules (in_use owners.now enabled.now) → IsGrown all used known.old known.new }
+    ensures chained { AreChained known.old.count rules.old.rules heads.new rules.new.links watched.new }
+    ensures choices { AreGuardsAtChoices rules.old.rules (in_use owners.now enabled.now) watched.new known.new.lits known.new.marks }
+    ensures guards { result ≡ None → AreGuards rules.old.rules (in_use owners.now enabled.now) watched.new Each (take (at + 1) known.new.lits) known.new.lits }
+    ensures clash { IfSome result (λ rule. (all : List (List ℤ)) (used : ℕ → Bool) → IsPart all used base rules.old.rules (in_use owners.now enabled.now) → (c : List ℤ) × IsUsed all used rule c × (is_falsified known.new.lits c ≡ true)) }
+{
+    let place = known.lit_at(at).negated().place();
+    let mut last = NOWHERE;
+    let mut watch = heads[place];
+    while watch != NOWHERE {
+        let rule = watch / 2;
+        let next = link_of(rules, watch);
+        let other = watched[beside(watch) as usize];
+        known.keep_apart();
+        match look(known, rules, owners, enabled, rule, other) {
+            Visit::Falsified => return Some(base + rule),
+            Visit::Stays => last = watch,
+            Visit::Forces => {
+                known.push(other, base + rule);
+                last = watch;
+            }
+            Visit::Moves(to) => rewatch(rules, heads, watched, place, last, watch, to),
+        }
+        watch = next;
+    }
+    None
+}
