@@ -1,5 +1,5 @@
 -- Answers from what the calls below say.
-use Rattle.std.proofs.Common.{◌≡◌, ◌+◌, ℕ, Bool, true, List, [], ◌∷◌, refl, sym, ap, ◌∙◌, subst}
+use Rattle.std.proofs.Common.{◌≡◌, ◌+◌, ℕ, Bool, true, List, [], ◌∷◌, sym, ap, ◌∙◌, subst}
 use Rattle.std.specs.Prelude.{ℤ, ◌==◌, filter, flat_map, length, replicate}
 use Rattle.std.specs.List.{list_all, range_with_len}
 use Rattle.std.proofs.lemmas.Bool.{and_parts, eqb-true}
@@ -17,6 +17,7 @@ use Rattle.solv_pool.specs.declared.packages.Need.{Need}
 use Rattle.solv_pool.specs.declared.job_marks.Marks.{Marks}
 use Rattle.solv_derive.specs.Leaves.{leaves}
 use Rattle.solv_derive.specs.Logs.{is_good_log}
+use Rattle.solv_derive.specs.Range.{steps_over}
 use Rattle.solv_derive.specs.declared.logs.Log.{Log}
 use Rattle.solv_rules.specs.Books.{is_bookable, owners_from}
 use Rattle.solv_rules.specs.Making.{asks_singly, is_single}
@@ -38,12 +39,12 @@ use Rattle.solv_trans.specs.Readiness.{needs_singly}
 use Rattle.solv_trans.specs.declared.ordering.Ordered.{Ordered}
 use Rattle.solv_remedy.specs.Problems.{owning, meets_listed, GoodLogsRefuteTheirRules}
 use Rattle.solv_remedy.specs.declared.problems.Problem.{Problem}
-use Rattle.solv_answers.specs.Answers.{request, all_enabled, hard_clauses, hard_owners, asked, meets_hard_rules, IsPrepared, IsTransaction, AreProblems, IsSpent}
+use Rattle.solv_answers.specs.Answers.{request, all_enabled, hard_clauses, hard_owners, asked, meets_hard_rules, ClausesAgree, IsPrepared, IsTransaction, AreProblems, IsSpent}
 use Rattle.solv_answers.specs.declared.preparing.Prepared.{Prepared}
 use Rattle.solv_answers.proofs.Enabled.{all_rules}
-use Rattle.solv_answers.proofs.Chosen.{same_test, within, member_list}
+use Rattle.solv_answers.proofs.Chosen.{same_test, member_list}
 
-module _ (task : Task) (trail : Trail) (found : IsSolution (request task) (all_enabled task) trail) (set : List ℕ) (of_trail : IsSetOf trail.events set) where
+module _ (task : Task) (trail : Trail) (agree : ClausesAgree task) (found : IsSolution (request task) (all_enabled task) trail) (set : List ℕ) (of_trail : IsSetOf trail.events set) where
   abbrev all_of : List HardRule → Type 0
   all_of rules = IsGoodTrail (length task.universe.packages) (flat_map (rule_clauses (catalog_of task)) rules) (λ known. asked task known (all_enabled task)) trail.events
 
@@ -70,6 +71,7 @@ module _ (task : Task) (trail : Trail) (found : IsSolution (request task) (all_e
       → IsTransaction task trail set made ordered
   made_transaction made ordered changed leaves in_order = record {
     good = good_trail;
+    agree = agree;
     of_trail = of_trail;
     members = set_members;
     meets = set_meets;
@@ -108,6 +110,7 @@ problem_made task log problem problems law bookable refuted same listed unsolved
       one = one;
       good = record {
         good = ap (λ (l : Log). is_good_log (hard_clauses task) l.steps) same ∙ refuted.good;
+        over = ap (λ (l : Log). steps_over (length task.universe.packages) l.steps) same ∙ refuted.over;
         listed = listed ∙ ap (λ (l : Log). owning (hard_owners task) (leaves l.steps)) (sym same);
         none = subst R (sym listed) (law (catalog_of task) (hard_rules task) log.steps bookable refuted.over refuted.good);
       };

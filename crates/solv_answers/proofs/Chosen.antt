@@ -1,8 +1,8 @@
 -- The set of a trail as a list, and as a test.
-use Rattle.std.proofs.Common.{◌≡◌, ◌<◌, ◌≤◌, ◌+◌, ℕ, zero, suc, Bool, true, false, ◌&&◌, ◌||◌, List, [], ◌∷◌, inl, inr, refl, sym, ap, ◌∙◌, subst, arith, length}
+use Rattle.std.proofs.Common.{◌≡◌, ◌+◌, ℕ, zero, suc, Bool, true, false, ◌||◌, List, [], ◌∷◌, inl, inr, refl, sym, ap, ◌∙◌, subst, arith, length}
 use Rattle.std.proofs.Math.Path.{fun_ext}
 use Rattle.std.specs.Prelude.{ℤ, pos, nat_lt, nat_le, ◌==◌, filter}
-use Rattle.std.specs.List.{list_any, list_all, range_with_len}
+use Rattle.std.specs.List.{list_all, range_with_len}
 use Rattle.std.specs.List.Sorted.{IsStrictlyIncreasing}
 use Rattle.std.specs.Ordering.{int_eq}
 use Rattle.std.proofs.lemmas.Bool.{and_parts, le-leb, false≢true}
@@ -14,7 +14,7 @@ use Rattle.solv_pool.specs.Words.{is_among}
 use Rattle.solv_derive.specs.Range.{names_package, is_over}
 use Rattle.solv_trail.specs.Asked.{set_of}
 use Rattle.solv_changes.specs.Effects.{IsMemberList}
-use Rattle.solv_trans.proofs.Lists.{or_cases, or_left, or_right, both_ways, in_filter, filter_in, in_range, range_in, all_members}
+use Rattle.solv_trans.proofs.Lists.{or_cases, or_right, both_ways, in_filter, filter_in, in_range, range_in, all_members}
 
 fact_over : (count : ℕ) (l : ℤ) (facts : List ℤ) → is_over count facts ≡ true → is_fact facts l ≡ true → names_package count l ≡ true
 fact_over count l [] o h = absurd (false≢true h)

@@ -1,3 +1,6 @@
 mod Enabled
 mod Chosen
 mod Answered
+mod Walks
+mod Meeting
+mod Solved

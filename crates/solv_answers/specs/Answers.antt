@@ -1,16 +1,20 @@
 -- What the answers to a task are.
-use Rattle.std.specs.Prelude.{◌≡◌, ◌+◌, ℕ, ℤ, Bool, true, List, [], ◌∷◌, Option, None, flat_map, length, replicate}
+use Rattle.std.specs.Prelude.{◌≡◌, ◌+◌, ℕ, ℤ, pos, Bool, true, false, List, [], ◌∷◌, Option, None, map, flat_map, length, replicate}
 use Rattle.std.specs.List.{list_all}
 use Rattle.solv_pool.specs.Catalog.{catalog_of}
-use Rattle.solv_pool.specs.Clauses.{rule_clauses}
+use Rattle.solv_pool.specs.Clauses.{rule_clauses, clause_true}
 use Rattle.solv_pool.specs.HardRules.{hard_rules}
 use Rattle.solv_pool.specs.JobMarks.{marks_of}
+use Rattle.solv_pool.specs.Propagation.{unit, clashes}
 use Rattle.solv_pool.specs.RuleMeaning.{meets_rule}
+use Rattle.solv_pool.specs.TaskForms.{HasForms}
 use Rattle.solv_pool.specs.Words.{is_among}
 use Rattle.solv_pool.specs.declared.tasks.Task.{Task}
 use Rattle.solv_prov.specs.Index.{IsIndexOf}
 use Rattle.solv_jobs.specs.Marking.{HasMarks}
 use Rattle.solv_rules.specs.Books.{IsBook, first_fault, is_bookable, owners_from, read_rules}
+use Rattle.solv_trail.specs.Descends.{asked_pack}
+use Rattle.solv_trail.specs.Walk.{walk}
 use Rattle.solv_trail.specs.declared.questions.Ask.{Ask}
 use Rattle.solv_core.specs.GoodTrails.{IsGoodTrail}
 use Rattle.solv_core.specs.Ledgers.{IsGoodLedger}
@@ -31,6 +35,12 @@ use Rattle.solv_trans.specs.declared.ordering.Ordered.{Ordered}
 use Rattle.solv_answers.specs.declared.answers.Answer.{Answer}
 use Rattle.solv_answers.specs.declared.answers.Answer.TheVariants as answer
 use Rattle.solv_answers.specs.declared.preparing.Prepared.{Prepared}
+
+-- the answer is a transaction
+abbrev pub is_transaction : Answer → Bool
+is_transaction (answer.Transaction trail set made ordered) = true
+is_transaction (answer.Problems problems) = false
+is_transaction (answer.Spent ledger) = false
 
 module _ (task : Task) where
   -- what a task asks for, by the marks that its jobs give
@@ -57,6 +67,10 @@ module _ (task : Task) where
   abbrev pub meets_hard_rules : (ℕ → Bool) → Bool
   meets_hard_rules set = list_all (λ r. meets_rule (catalog_of task) r set) (hard_rules task)
 
+  -- in each set that holds the system all clauses of the hard rules are true exactly where the set meets each hard rule
+  abbrev pub ClausesAgree : Type 0
+  ClausesAgree = (set : ℕ → Bool) → set 0 ≡ true → list_all (clause_true set) hard_clauses ≡ meets_hard_rules set
+
   -- the index, the marks and the book of a task, whose hard rules give a book without a fault
   pub record IsPrepared (prepared : Prepared) : Type 0 where
     pub index : IsIndexOf prepared.prov (catalog_of task)
@@ -68,10 +82,12 @@ module _ (task : Task) where
     pub fits : first_fault (catalog_of task) 0 (hard_rules task) ≡ None
 
   -- A transaction. Each package of the trail follows from the hard rules and the packages taken before, or is the first candidate
-  -- not known out of the first open question, and at the end none is open; the set is the trail's, ascending, and meets each hard
-  -- rule; the changes are those of the set, and what is there after them is the set; the order is a good one.
+  -- not known out of the first open question, and at the end none is open; the trail speaks of the rules by their clauses, which say
+  -- what the rules say; the set is the trail's, ascending, and meets each hard rule; the changes are those of the set, and what is
+  -- there after them is the set; the order is a good one.
   pub record IsTransaction (trail : Trail) (set : List ℕ) (made : List Change) (ordered : Ordered) : Type 0 where
     pub good : IsGoodTrail (length task.universe.packages) hard_clauses (λ known. asked known all_enabled) trail.events
+    pub agree : ClausesAgree
     pub of_trail : IsSetOf trail.events set
     pub members : IsMemberList (length task.universe.packages) set
     pub meets : meets_hard_rules (is_among set) ≡ true
@@ -99,7 +115,25 @@ module _ (task : Task) where
     pub runs : ledger.runs ≡ whole_run ∷ []
     pub spent : length ledger.entries ≡ budget + 1
 
+  -- one of the three, with what holds of it
   abbrev pub IsAnswer : ℕ → Answer → Type 0
   IsAnswer budget (answer.Transaction trail set made ordered) = IsTransaction trail set made ordered
   IsAnswer budget (answer.Problems problems) = AreProblems problems
   IsAnswer budget (answer.Spent ledger) = IsSpent budget ledger
+
+  -- the packages that the questions take from nothing: each is the first candidate not known out of the first open question that unit
+  -- propagation leaves after those before it; the list ends at a conflict, or where no question is open
+  abbrev pub choices : List ℕ
+  choices = walk (length task.universe.packages) hard_clauses (asked_pack (λ known. asked known all_enabled))
+
+  -- unit propagation of the clauses of the hard rules and of these packages meets a conflict
+  abbrev pub choices_clash : Bool
+  choices_clash = clashes hard_clauses (unit (length task.universe.packages) hard_clauses (map pos choices))
+
+  -- where it meets none the answer is a transaction, whatever the budget, 0 included: there is nothing to learn
+  abbrev pub IsTransactionUnlessChoicesClash : Answer → Type 0
+  IsTransactionUnlessChoicesClash given = choices_clash ≡ false → is_transaction given ≡ true
+
+-- the clauses agree with the hard rules of each task whose dependencies have forms that may stand at their places
+abbrev pub HardClausesAgree : Type 0
+HardClausesAgree = (task : Task) → HasForms task → ClausesAgree task

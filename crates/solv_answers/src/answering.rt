@@ -9,7 +9,7 @@ ghost use Rattle.solv_rules.specs.Books.{is_bookable};
 ghost use Rattle.solv_rules.specs.Making.{asks_singly};
 ghost use Rattle.solv_plan.specs.PlanOf.{wants_singly};
 ghost use Rattle.solv_decide.specs.Deciding.{IsSolution, IsRefuted};
-ghost use Rattle.solv_answers.specs.Answers.{IsPrepared, IsAnswer, request, all_enabled, hard_clauses, hard_owners};
+ghost use Rattle.solv_answers.specs.Answers.{ClausesAgree, IsPrepared, IsAnswer, IsTransactionUnlessChoicesClash, request, all_enabled, hard_clauses, hard_owners};
 
 use crate::answers::Answer;
 use crate::preparing::Prepared;
@@ -19,7 +19,9 @@ use solv_decide::{Decided, decide, set_of};
 use solv_derive::Log;
 use solv_list::Items;
 use solv_pool::Task;
+use solv_pool::laws::{clauses_name_packages, clauses_say_the_rule};
 use solv_prov::Providers;
+use solv_questions::questions_keep_the_law;
 use solv_remedy::laws::good_logs_refute_their_rules;
 use solv_remedy::problem_of;
 use solv_rules::Book;
@@ -36,6 +38,7 @@ fn transaction_of(
     requires closed { IsClosed task.now }
     requires singly { list_all (asks_singly (catalog_of task.now)) task.now.universe.packages ≡ true }
     requires index { IsIndexOf prov.now (catalog_of task.now) }
+    requires agree { ClausesAgree task.now }
     requires found { IsSolution (request task.now) (all_enabled task.now) trail }
     ensures { (budget : ℕ) → IfOk result (IsAnswer task.now budget) }
 {
@@ -68,7 +71,8 @@ fn problems_of(alloc: Global, task: &Task, book: &Book, log: Log) -> Result<Answ
 /// The answer to a task by what it was prepared with, with a budget of learnt rules, by one run of the search.
 ///
 /// A task that some set meets is never given problems, nor one that none meets a transaction; either may be spent instead where the
-/// budget is too small for it.
+/// budget is too small for it. Where the choices of the task's questions meet no conflict, no budget is too small, and the answer is a
+/// transaction.
 pub fn answer(
     alloc: Global,
     task: &Task,
@@ -80,8 +84,12 @@ pub fn answer(
     requires wants { list_all (wants_singly (catalog_of task.now)) task.now.universe.packages ≡ true }
     requires prepared { IsPrepared task.now prepared.now }
     requires budget { budget ≤ 1000000 }
-    ensures { IfOk result (IsAnswer task.now budget) }
+    ensures good { IfOk result (IsAnswer task.now budget) }
+    ensures direct { IfOk result (IsTransactionUnlessChoicesClash task.now) }
 {
+    questions_keep_the_law();
+    clauses_name_packages();
+    clauses_say_the_rule();
     let (prov, marks, book) = (&prepared.prov, &prepared.marks, &prepared.book);
     let Decided { verdict, ledger } = decide(alloc, task, prov, marks, book, budget)?;
     match verdict {

@@ -3,11 +3,14 @@
 //! - [`prepare`]: the index, the marks and the book of clauses of a task.
 //! - [`answer`]: the answer to a task.
 //!
-//! `specs/Answers` says what each answer is.
+//! `specs/Answers` says what each answer is, and when it has to be a transaction. [`laws`] has what holds of the hard rules and their
+//! clauses, and [`examples`] tasks whose choices can be followed by hand.
 #![tactic(auto)]
 
 mod answering;
 mod answers;
+pub mod examples;
+pub mod laws;
 mod preparing;
 
 pub use answering::answer;

@@ -1,5 +1,5 @@
 -- A set that meets the rules whose clauses a log rests on makes its leaves true.
-use Rattle.std.proofs.Common.{◌≡◌, ◌⊎◌, ◌+◌, add-one, ℕ, zero, suc, Bool, true, false, ◌&&◌, ◌||◌, eq-eqb, List, [], ◌∷◌, ◌++◌, map, Option, Some, None, inl, inr, refl, sym, ap, ◌∙◌, subst}
+use Rattle.std.proofs.Common.{◌≡◌, ◌⊎◌, ◌+◌, add-one, ℕ, zero, suc, Bool, true, false, eq-eqb, List, [], ◌∷◌, ◌++◌, Option, Some, None, inl, inr, refl, sym, ap, ◌∙◌, subst}
 use Rattle.std.specs.Prelude.{ℤ, ◌==◌, filter, flat_map, fold, length, replicate, slice_get, option_to_list, unwrap_or}
 use Rattle.std.specs.BTreeSet.{insert_key}
 use Rattle.std.specs.List.{list_all, enumerate_from}
@@ -17,13 +17,13 @@ use Rattle.solv_derive.specs.Laws.{GoodLogsRefute}
 use Rattle.solv_derive.specs.Logs.{is_good_log}
 use Rattle.solv_derive.specs.Range.{steps_over}
 use Rattle.solv_derive.specs.declared.logs.Step.{Step}
-use Rattle.solv_derive.specs.Leaves.{leaves, leaves_true, rule_true, is_one_of}
+use Rattle.solv_derive.specs.Leaves.{leaves, leaves_true, rule_true}
 use Rattle.solv_rules.specs.Books.{is_bookable, has_form, owners_from}
 use Rattle.solv_rules.specs.Making.{is_single}
 use Rattle.solv_questions.proofs.Members.{Has, has_filtered, has_mapped, has_flat, all_by, all_at, any_at}
 use Rattle.solv_questions.proofs.Placed.{is_one, one_fits}
 use Rattle.solv_decide.proofs.Whole.{clauses_over}
-use Rattle.solv_remedy.specs.Problems.{owners_of, owning, listed_rules, rested_on, meets_listed, GoodLogsRefuteTheirRules}
+use Rattle.solv_remedy.specs.Problems.{owners_of, listed_rules, rested_on, meets_listed, GoodLogsRefuteTheirRules}
 
 -- a clause of the first rule has its number, and one behind them is a clause of the others
 abbrev IsOfFirst : (k : ℕ) (cs : List (List ℤ)) (owners : List ℕ) (n : ℕ) (c : List ℤ) → Type 0
@@ -69,7 +69,7 @@ module _ (catalog : Catalog) where
       has_flat (λ clause. option_to_list (slice_get owners clause)) clauses n i h (subst O (sym e) (inl refl))
 
   -- a rule of which a book can be made is well placed
-  well_placed : (r : HardRule) → is_bookable catalog r ≡ true → IsWellPlaced catalog r
+  pub well_placed : (r : HardRule) → is_bookable catalog r ≡ true → IsWellPlaced catalog r
   well_placed (req p d) h = one_fits true (dependency catalog d) (is_one (dependency catalog d) (and_parts _ (is_single catalog d) (and_parts (names_packages catalog (req p d)) (has_form catalog (req p d)) h).1).1)
   well_placed (rich_con p d) h = one_fits false (dependency catalog d) (is_one (dependency catalog d) (and_parts _ (is_single catalog d) (and_parts (names_packages catalog (rich_con p d)) (has_form catalog (rich_con p d)) h).1).1)
   well_placed (not_installable p) h = tt

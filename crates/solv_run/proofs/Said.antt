@@ -8,11 +8,11 @@ use Rattle.solv_rules.specs.declared.fault.BookFault.{BookFault}
 use Rattle.solv_script.specs.FileRuns.{FilesRun, IsRead, HasEnded, script_piece}
 use Rattle.solv_script.specs.declared.scripts.Script.{Script}
 use Rattle.solv_script.specs.declared.scripts.ScriptFault.{ScriptFault}
-use Rattle.solv_answers.specs.Answers.{IsAnswer}
+use Rattle.solv_answers.specs.Answers.{IsAnswer, IsTransactionUnlessChoicesClash}
 use Rattle.solv_answers.specs.declared.answers.Answer.{Answer}
 use Rattle.solv_run.specs.Cases.{IsSaidFor, passes, answered}
 use Rattle.solv_run.specs.Dues.{limit_due, limit_line, line_due, answer_due, budget}
-use Rattle.solv_run.specs.Phases.{IsRunOfBytes, IsReportedFault, read, ended}
+use Rattle.solv_run.specs.Phases.{HasAskedFrontOf, IsRunOfBytes, IsReportedFault, read, ended}
 use Rattle.solv_run.specs.Runs.{SinkRun, IsReported}
 use Rattle.solv_run.specs.declared.reports.Report.{Report}
 
@@ -23,8 +23,8 @@ said_limit script fault line report out err passed same h =
     record { due = limit_due script.task fault; is_due = passes fault passed; reported = subst P same h }
 
 pub said_answer : (script : Script) (answer : Answer) (report : Report) (out err : SinkRun) → first_fault (catalog_of script.task) 0 (hard_rules script.task) ≡ None
-    → IsAnswer script.task budget answer → IsReported (answer_due script answer) report out err → IsSaidFor script report out err
-said_answer script answer report out err fits is h = record { due = answer_due script answer; is_due = answered answer fits is; reported = h }
+    → IsAnswer script.task budget answer → IsTransactionUnlessChoicesClash script.task answer → IsReported (answer_due script answer) report out err → IsSaidFor script report out err
+said_answer script answer report out err fits is direct h = record { due = answer_due script answer; is_due = answered answer fits is direct; reported = h }
 
 pub bytes_read : (file lent bytes : List ℕ) (files : FilesRun) (script : Script) (report : Report) (out err : SinkRun) → lent ≡ bytes
     → IsRead (script_piece file lent) files script → IsSaidFor script report out err → IsRunOfBytes (script_piece file bytes) files report out err
@@ -37,3 +37,6 @@ pub bytes_ended : (file lent bytes : List ℕ) (files : FilesRun) (fault : Scrip
 bytes_ended file lent bytes files fault report out err same is h =
     let P : List ℕ → Type 0 = λ b. HasEnded (script_piece file b) files fault in
     ended fault (subst P same is) h
+
+pub front_lent : (file lent bytes : List ℕ) (files : FilesRun) → lent ≡ bytes → HasAskedFrontOf (script_piece file lent) files → HasAskedFrontOf (script_piece file bytes) files
+front_lent file lent bytes files same h = let P : List ℕ → Type 0 = λ b. HasAskedFrontOf (script_piece file b) files in subst P same h

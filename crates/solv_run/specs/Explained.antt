@@ -1,5 +1,5 @@
 -- Why a run ends with its status.
-use Rattle.std.specs.Prelude.{ℕ, ◌≡◌, ◌<◌, ◌⊎◌, Bool, true, false, List, [], ◌∷◌, ◌++◌, Option, Some, None, IfSome, Ok, Err}
+use Rattle.std.specs.Prelude.{ℕ, ◌≡◌, ◌<◌, ◌⊎◌, Bool, true, false, List, [], ◌∷◌, ◌++◌, map, Option, Some, None, Result, Ok, Err}
 use Rattle.solv_io.specs.Counters.{Rose}
 use Rattle.solv_io.specs.declared.status.Status.TheVariants as status
 use Rattle.solv_pool.specs.Catalog.{catalog_of}
@@ -7,11 +7,11 @@ use Rattle.solv_pool.specs.HardRules.{hard_rules}
 use Rattle.solv_rules.specs.Books.{first_fault}
 use Rattle.solv_rules.specs.declared.fault.BookFault.{BookFault}
 use Rattle.solv_script.specs.FileRuns.{FilesRun, AskedBesides, bytes_in}
-use Rattle.solv_script.specs.Grammar.{Bad, script_read}
-use Rattle.solv_script.specs.Reads.{written_script}
-use Rattle.solv_script.specs.States.{State, script_given}
+use Rattle.solv_script.specs.Grammar.{Bad, script_due, script_read}
+use Rattle.solv_script.specs.ScriptsOf.{IsScriptOf}
+use Rattle.solv_script.specs.States.{State}
 use Rattle.solv_script.specs.declared.scripts.Script.{Script}
-use Rattle.solv_answers.specs.Answers.{IsAnswer}
+use Rattle.solv_answers.specs.Answers.{IsAnswer, is_transaction, choices_clash}
 use Rattle.solv_answers.specs.declared.answers.Answer.{Answer}
 use Rattle.solv_answers.specs.declared.answers.Answer.TheVariants.{Spent}
 use Rattle.solv_core.specs.declared.ledger.Ledger.{Ledger}
@@ -22,14 +22,20 @@ use Rattle.solv_run.specs.Runs.{SinkRun, WroteAll, HasWriteFault}
 use Rattle.solv_run.specs.Texts.{printed}
 use Rattle.solv_run.specs.declared.reports.Report.{Report}
 
+-- the files hold a script with these bytes, and these bytes under the names that are due by it
+pub record HoldScript (held : List ℕ → Option (List ℕ)) (file bytes : List ℕ) (fetched : List (List ℕ)) : Type 0 where
+  pub script : held file ≡ Some bytes
+  pub others : fetched ≡ map (bytes_in held) (script_due file fetched bytes)
+
 module _ (form : Option (List ℕ)) (files : FilesRun) (report : Report) (out err : SinkRun) where
   -- a script that was read whole
   pub record WasRead (script : Script) : Type 0 where
     pub file : List ℕ
     pub bytes : List ℕ
+    pub fetched : List (List ℕ)
     pub named : IsNamed form files file bytes
-    pub asked : HasAskedAll form files file bytes
-    pub read : HasScript form files file bytes script
+    pub asked : HasAskedAll form files file bytes fetched
+    pub read : HasScript file bytes fetched script
 
   -- it has this answer, which is reported, and printed whole
   pub record HasAnswer (script : Script) (answer : Answer) : Type 0 where
@@ -65,10 +71,11 @@ module _ (form : Option (List ℕ)) (files : FilesRun) (report : Report) (out er
   pub record IsBad : Type 0 where
     pub file : List ℕ
     pub bytes : List ℕ
+    pub fetched : List (List ℕ)
     pub bad : Bad
     pub named : IsNamed form files file bytes
-    pub asked : HasAskedAll form files file bytes
-    pub first_bad : IfSome files.contents (λ held. script_read file (bytes_in held) bytes ≡ Err bad)
+    pub asked : HasAskedAll form files file bytes fetched
+    pub first_bad : script_read file fetched bytes ≡ Err bad
     pub line : WroteAll err (bad_line bad)
 
   -- the first limit that the clauses of a script's task pass, which is the one line on `err`
@@ -92,12 +99,33 @@ module _ (form : Option (List ℕ)) (files : FilesRun) (report : Report) (out er
     pub files_calm : Rose files.faults_before files.faults_after → ⊥
     pub sinks_calm : HasWriteFault out err → ⊥
 
-  -- what becomes of a script that the grammar accepts: an answer, unless its clauses pass a limit
+  -- the answer is a transaction
+  pub record GaveTransaction : Type 0 where
+    pub answer : Answer
+    pub answers : report.answers ≡ answer ∷ []
+    pub is : is_transaction answer ≡ true
+
+  -- What becomes of a script that the grammar accepts: an answer, unless its clauses pass a limit. Where the choices of its questions meet no conflict
+  -- it is a transaction.
   pub record IsComplete (state : State) : Type 0 where
     pub script : Script
-    pub of_state : written_script script ≡ script_given state
+    pub of_state : IsScriptOf state script
     pub answered : first_fault (catalog_of script.task) 0 (hard_rules script.task) ≡ None → (report.status ≡ status.Done) ⊎ ((report.status ≡ status.Differs) ⊎ (report.status ≡ status.Spent))
+    pub direct : first_fault (catalog_of script.task) 0 (hard_rules script.task) ≡ None → choices_clash script.task ≡ false → GaveTransaction
     pub limited : (fault : BookFault) → first_fault (catalog_of script.task) 0 (hard_rules script.task) ≡ Some fault → report.status ≡ status.Refused
+
+  -- what the grammar says of a script, where files with these bytes are fetched, decides
+  pub record IsDecidedBy (given : Result State Bad) : Type 0 where
+    pub bad_line : (bad : Bad) → given ≡ Err bad → report.status ≡ status.Refused
+    pub complete : (state : State) → given ≡ Ok state → IsComplete state
+
+  -- so it is for the bytes that were fetched, whether the files tell what they hold or not
+  pub record IsDecided (file : List ℕ) : Type 0 where
+    pub bytes : List ℕ
+    pub fetched : List (List ℕ)
+    pub named : IsNamed form files file bytes
+    pub asked : HasAskedAll form files file bytes fetched
+    pub by : IsDecidedBy (script_read file fetched bytes)
 
   -- what each status says, and which status must come
   pub record IsExplained : Type 0 where
@@ -112,7 +140,6 @@ module _ (form : Option (List ℕ)) (files : FilesRun) (report : Report) (out er
     pub out_fault : out.faults_before < out.faults_after → report.status ≡ status.WriteFault
     pub err_fault : err.faults_before < err.faults_after → report.status ≡ status.WriteFault
     pub bad_words : form ≡ None → (report.status ≡ status.Usage) ⊎ (report.status ≡ status.WriteFault)
-    pub bad_line : (file bytes : List ℕ) (held : List ℕ → Option (List ℕ)) (bad : Bad) → form ≡ Some file → files.contents ≡ Some held → held file ≡ Some bytes
-        → script_read file (bytes_in held) bytes ≡ Err bad → IsCalm → report.status ≡ status.Refused
-    pub complete : (file bytes : List ℕ) (held : List ℕ → Option (List ℕ)) (state : State) → form ≡ Some file → files.contents ≡ Some held → held file ≡ Some bytes
-        → script_read file (bytes_in held) bytes ≡ Ok state → IsCalm → IsComplete state
+    pub decided : (file : List ℕ) → form ≡ Some file → IsCalm → IsDecided file
+    pub told : (file bytes : List ℕ) (fetched : List (List ℕ)) (held : List ℕ → Option (List ℕ)) → form ≡ Some file → files.contents ≡ Some held
+        → HoldScript held file bytes fetched → IsCalm → IsDecidedBy (script_read file fetched bytes)

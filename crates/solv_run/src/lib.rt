@@ -12,6 +12,3 @@ mod top;
 pub use reports::Report;
 pub use solv_answers::Answer;
 pub use top::run;
-
-#[cfg(test)]
-mod tests;

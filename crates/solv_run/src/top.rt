@@ -1,11 +1,11 @@
 //! The top call.
-ghost use Rattle.std.specs.Prelude.{◌≡◌, ℕ, List, Option, Some, None, IfOk, map, string_bytes};
+ghost use Rattle.std.specs.Prelude.{◌≡◌, ℕ, List, Option, Some, None, IfOk, IfErr, map, string_bytes};
 ghost use Rattle.solv_script.specs.FileRuns.{FilesRun, script_piece};
 ghost use Rattle.solv_run.specs.CommandLine.{file_named};
-ghost use Rattle.solv_run.specs.Cases.{IsRun};
+ghost use Rattle.solv_run.specs.Cases.{IsRun, HasAskedFront};
 ghost use Rattle.solv_run.specs.Explained.{IsExplained};
 ghost use Rattle.solv_run.specs.Dues.{read_fault_due};
-ghost use Rattle.solv_run.specs.Phases.{IsReportedFault, IsRunOfBytes};
+ghost use Rattle.solv_run.specs.Phases.{HasAskedFrontOf, IsReportedFault, IsRunOfBytes};
 ghost use Rattle.solv_run.specs.Runs.{SinkRun, IsReported};
 
 use crate::command_line::file_named;
@@ -64,11 +64,13 @@ fn run_bytes<F: Files, O: Sink, E: Sink>(
     out: &mut O,
     err: &mut E,
 ) -> Result<Report, AllocError>
-    ensures { IfOk result (λ report. IsRunOfBytes (script_piece file.now bytes.items)
+    ensures run { IfOk result (λ report. IsRunOfBytes (script_piece file.now bytes.items)
         (record { contents = F.contents files.old; asked_before = F.asked files.old; asked_after = F.asked files.new; faults_before = F.faults files.old; faults_after = F.faults files.new })
         report
         (record { before = O.written out.old; after = O.written out.new; faults_before = O.faults out.old; faults_after = O.faults out.new })
         (record { before = E.written err.old; after = E.written err.new; faults_before = E.faults err.old; faults_after = E.faults err.new })) }
+    ensures wanting { IfErr result (λ e. HasAskedFrontOf (script_piece file.now bytes.items)
+        (record { contents = F.contents files.old; asked_before = F.asked files.old; asked_after = F.asked files.new; faults_before = F.faults files.old; faults_after = F.faults files.new })) }
 {
     let read = read_script(alloc, file, &bytes, files);
     drop(bytes);
@@ -86,11 +88,13 @@ fn run_words<F: Files, O: Sink, E: Sink>(
     out: &mut O,
     err: &mut E,
 ) -> Result<Report, AllocError>
-    ensures { IfOk result (λ report. IsRun (file_named (map string_bytes words.now))
+    ensures run { IfOk result (λ report. IsRun (file_named (map string_bytes words.now))
         (record { contents = F.contents files.old; asked_before = F.asked files.old; asked_after = F.asked files.new; faults_before = F.faults files.old; faults_after = F.faults files.new })
         report
         (record { before = O.written out.old; after = O.written out.new; faults_before = O.faults out.old; faults_after = O.faults out.new })
         (record { before = E.written err.old; after = E.written err.new; faults_before = E.faults err.old; faults_after = E.faults err.new })) }
+    ensures wanting { IfErr result (λ e. HasAskedFront (file_named (map string_bytes words.now))
+        (record { contents = F.contents files.old; asked_before = F.asked files.old; asked_after = F.asked files.new; faults_before = F.faults files.old; faults_after = F.faults files.new })) }
 {
     let Some(file) = file_named(words) else {
         return say_line(alloc, USAGE, Status::Usage, out, err);
@@ -108,7 +112,8 @@ fn run_words<F: Files, O: Sink, E: Sink>(
 /// wrong to `err`.
 ///
 /// Each text is made whole before its first byte is written. The clause `run` says what is asked for, written and
-/// answered; `explained` says of each status when it comes. Want of memory may end a run anywhere.
+/// answered; `explained` says of each status when it comes. Want of memory may end a run anywhere, and then no file was
+/// asked for that the script did not ask for (`wanting`).
 pub fn run<F: Files, O: Sink, E: Sink>(
     alloc: Global,
     words: &[String],
@@ -126,6 +131,8 @@ pub fn run<F: Files, O: Sink, E: Sink>(
         report
         (record { before = O.written out.old; after = O.written out.new; faults_before = O.faults out.old; faults_after = O.faults out.new })
         (record { before = E.written err.old; after = E.written err.new; faults_before = E.faults err.old; faults_after = E.faults err.new })) }
+    ensures wanting { IfErr result (λ e. HasAskedFront (file_named (map string_bytes words.now))
+        (record { contents = F.contents files.old; asked_before = F.asked files.old; asked_after = F.asked files.new; faults_before = F.faults files.old; faults_after = F.faults files.new })) }
 {
     run_words(alloc, words, files, out, err)
 }

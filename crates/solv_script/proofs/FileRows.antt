@@ -1,7 +1,7 @@
 -- The lines of repositories, as pieces of a script.
-use Rattle.std.proofs.Common.{◌≡◌, ℕ, true, false, List, [], ◌∷◌, ◌++◌, Option, Some, None, Result, Ok, Err, refl, sym, ap, subst, ◌∙◌}
+use Rattle.std.proofs.Common.{◌≡◌, ℕ, Bool, true, false, List, [], ◌∷◌, ◌++◌, Option, Some, None, Result, Ok, Err, refl, sym, ap, subst, ◌∙◌}
 use Rattle.std.specs.Prelude.{IfSome, IsSomeAnd, IsOkAnd, IsOk, OnOk, IfErr, codes, take, length}
-use Rattle.std.specs.Option.{option_map}
+use Rattle.std.specs.Option.{option_map, option_map_or}
 use Rattle.std.specs.Str.{bytes_eq, is_utf8, IsUtf8}
 use Rattle.std.proofs.lemmas.Str.{IsUtf8-from_is_utf8, is_utf8-from_IsUtf8}
 use Rattle.solv_io.specs.Counters.{Rose}
@@ -11,18 +11,18 @@ use Rattle.solv_commands.specs.Commands.{Command, command}
 use Rattle.solv_commands.specs.declared.causes.Cause.{Cause}
 use Rattle.solv_commands.specs.declared.causes.Cause.TheVariants.{Compressed, BadFileName}
 use Rattle.solv_script.specs.FileNames.{fetched_name, is_compressed}
-use Rattle.solv_script.specs.FileRuns.{FilesRun, AskedBesides, bytes_in, Piece, HasGiven, IsRead, HasEnded, IsWant, IsReadFault, row_piece, lines_piece, script_piece}
-use Rattle.solv_script.specs.Grammar.{Bad, counted, done, asks, at_line, inline, with_lines, file_named, file_row, lines_row, command_row, said_row, row, fetched_given, lines_given, script_read}
+use Rattle.solv_script.specs.FileRuns.{FilesRun, AskedBesides, AreFetched, IsFront, bytes_in, Piece, HasFetched, HasGiven, IsRead, HasEnded, IsWant, IsReadFault, row_piece, lines_piece, script_piece}
+use Rattle.solv_script.specs.Grammar.{Bad, counted, done, asks, at_line, inline, with_lines, file_named, file_row, lines_row, command_row, said_row, row, fetched_given, script_read, script_due}
 use Rattle.solv_script.specs.Halts.{IsRefusal}
 use Rattle.solv_script.specs.Rows.{plain_row}
-use Rattle.solv_script.specs.Reads.{written_script}
 use Rattle.solv_script.specs.ScriptLines.{ScriptLine, script_lines}
-use Rattle.solv_script.specs.States.{State, no_line, script_given}
+use Rattle.solv_script.specs.ScriptsOf.{IsScriptOf}
+use Rattle.solv_script.specs.States.{State, no_line}
 use Rattle.solv_script.specs.declared.scripts.Script.{Script}
 use Rattle.solv_script.specs.declared.scripts.ScriptFault.{ScriptFault}
 use Rattle.solv_script.specs.declared.scripts.ScriptFault.TheVariants.{Refused, ReadFault, Memory}
 use Rattle.solv_script.proofs.FetchedFiles.{file_given}
-use Rattle.solv_script.proofs.PieceRuns.{Contents, Asked, quiet, quiet_ended, quiet_want, fetched_all, fetched_ended, not_fetched, asked_none, if_some, if_all}
+use Rattle.solv_script.proofs.PieceRuns.{Contents, Asked, quiet, quiet_given, quiet_ended, quiet_want, fetched_all, fetched_ended, not_fetched, none_fetched, asked_none}
 
 pub on_ok : {T E P Q : Type 0} (r : Result T E) → (P → Q) → OnOk r P → OnOk r Q
 on_ok (Ok x) f h = f h
@@ -67,8 +67,10 @@ module _ (script : List ℕ) (s : State) (n : ℕ) (file : List ℕ) (contents :
 pub want_same : (piece : Piece) (files : FilesRun) → files.asked_after ≡ option_map (λ names. names) files.asked_before → files.faults_after ≡ files.faults_before → IsWant piece files
 want_same piece files h quiet = record {
   names = [];
+  fetched = [];
   asked = h ∙ asked_same files.asked_before ∙ asked_none files.asked_before;
-  due = if_all files.contents (λ held. record { behind = piece.due (bytes_in held); is = refl });
+  are = none_fetched files;
+  due = record { behind = piece.due []; is = refl };
   no_fault = quiet;
 }
 
@@ -86,19 +88,29 @@ module _ (script : List ℕ) (s : State) (n : ℕ) (file : List ℕ) (files : Fi
 
   module _ (start got again read : List ℕ) (empty : start ≡ []) (same_name : again ≡ name) (same_bytes : read ≡ got)
       (bytes : IfSome files.contents (λ held. IsSomeAnd (held name) (λ bytes. got ≡ start ++ take 67108865 bytes))) (quiet : files.faults_after ≡ files.faults_before) where
-    there : IfSome files.contents (λ held. fetched_given script s n again read ≡ next (bytes_in held name))
+    -- what the file holds, where that is told, and else what was fetched
+    abbrev file_bytes : List ℕ
+    file_bytes = option_map_or (λ held. bytes_in held name) files.contents got
+
+    is_held : (told : Contents) → IfSome told (λ held. option_map_or (λ of. bytes_in of name) told got ≡ bytes_in held name)
+    is_held None = tt
+    is_held (Some held) = refl
+
+    there : fetched_given script s n again read ≡ next file_bytes
     there =
         let whole : IfSome files.contents (λ held. IsSomeAnd (held name) (λ bytes. got ≡ [] ++ take 67108865 bytes))
         = subst (λ (l : List ℕ). IfSome files.contents (λ held. IsSomeAnd (held name) (λ bytes. got ≡ l ++ take 67108865 bytes))) empty bytes in
-        let same : fetched_given script s n again read ≡ fetched_given script s n name got = ap (λ m. fetched_given script s n m read) same_name ∙ ap (fetched_given script s n name) same_bytes in
-        if_some files.contents (λ held b. same ∙ file_given script s n name held name got b) whole
+        ap (λ m. fetched_given script s n m read) same_name ∙ ap (fetched_given script s n name) same_bytes ∙ of_told files.contents whole
+      where
+        of_told : (told : Contents) → IfSome told (λ held. IsSomeAnd (held name) (λ bytes. got ≡ [] ++ take 67108865 bytes)) → fetched_given script s n name got ≡ next (option_map_or (λ held. bytes_in held name) told got)
+        of_told None h = refl
+        of_told (Some held) h = file_given script s n name held name got h
 
     pub fetched_read : (t : State) → fetched_given script s n again read ≡ Ok t → HasGiven (row_piece (file_row script s n file)) files t
-    fetched_read t is = rw row_is (fetched_all files name next asked t (if_some files.contents (λ held e. sym e ∙ is) there) quiet)
+    fetched_read t is = rw row_is (fetched_all files name next asked file_bytes (is_held files.contents) quiet t (sym there ∙ is))
 
     pub fetched_refused : (fault : ScriptFault) → IsRefusal fault (fetched_given script s n again read) → HasEnded (row_piece (file_row script s n file)) files fault
-    fetched_refused fault is =
-        rw row_is (fetched_ended files name next asked fault (if_some files.contents (λ held e. subst (λ (given : Result State Bad). IsRefusal fault given) e is) there) (fetched_given script s n again read) is quiet)
+    fetched_refused fault is = rw row_is (fetched_ended files name next asked file_bytes (is_held files.contents) quiet fault (subst (λ (given : Result State Bad). IsRefusal fault given) there is))
 
 -- a line that gives this
 module _ (script : List ℕ) (s : State) (line : ScriptLine) where
@@ -115,6 +127,22 @@ module _ (script : List ℕ) (s : State) (line : ScriptLine) (contents : Content
   pub inline_ended : (file : List ℕ) (fault : ScriptFault) → bytes_eq file inline ≡ true → IsRefusal fault (with_lines s script line.block) → HasEnded (row_piece (lines_row script s line (Some file))) (quiet contents asked faults) fault
   inline_ended file fault h refused = rw h (quiet_ended contents asked faults (with_lines s script line.block) fault refused)
 
+  pub inline_given : (file : List ℕ) (t : State) → bytes_eq file inline ≡ true → with_lines s script line.block ≡ Ok t → HasGiven (row_piece (lines_row script s line (Some file))) (quiet contents asked faults) t
+  inline_given file t h is = rw h (quiet_given contents asked faults (with_lines s script line.block) t is)
+
+  pub command_given : (c : Command) (t : State) → plain_row s c ≡ Ok t → file_named c ≡ None → HasGiven (row_piece (command_row script s line c)) (quiet contents asked faults) t
+  command_given c t h none = rw (command_then script s line c t None h none) (quiet_given contents asked faults (Ok t) t refl)
+
+  pub comment_given : bytes_eq (take 1 line.text) (codes "#") ≡ true → HasGiven (row_piece (row script s line)) (quiet contents asked faults) s
+  comment_given h = rw h (quiet_given contents asked faults (Ok s) s refl)
+
+  pub blank_given : words_of line.text ≡ [] → HasGiven (row_piece (row script s line)) (quiet contents asked faults) s
+  blank_given h = by (bytes_eq (take 1 line.text) (codes "#")) refl
+    where
+      by : (b : Bool) → bytes_eq (take 1 line.text) (codes "#") ≡ b → HasGiven (row_piece (row script s line)) (quiet contents asked faults) s
+      by true e = comment_given e
+      by false e = rw (e, h) (quiet_given contents asked faults (Ok s) s refl)
+
   command_halted_by : (c : Command) (given : Result State Cause) → plain_row s c ≡ given → (fault : ScriptFault) → IsRefusal fault (at_line script line.number given)
       → HasEnded (row_piece (command_row script s line c)) (quiet contents asked faults) fault
   command_halted_by c (Err x) is fault h = rw is (quiet_ended contents asked faults (Err (record { file = script; line = line.number; cause = x })) fault h)
@@ -130,18 +158,16 @@ module _ (script : List ℕ) (s : State) (line : ScriptLine) (contents : Content
   row_unsaid first others x fault h k l refused =
       rw (said_there script s line first others h k ∙ ap (said_row script s line) l) (quiet_ended contents asked faults (Err (record { file = script; line = line.number; cause = x })) fault refused)
 
-read_is : (given : Result State Bad) (s : State) (read : Script) → given ≡ Ok s → written_script read ≡ script_given s → IsOkAnd given (λ u. written_script read ≡ script_given u)
+read_is : (given : Result State Bad) (s : State) (read : Script) → given ≡ Ok s → IsScriptOf s read → IsOkAnd given (λ u. IsScriptOf u read)
 read_is given s read e is = rw e is
 
 -- a script that is too long
 module _ (script bytes : List ℕ) (contents : Contents) (asked : Asked) (faults : ℕ) where
   script_halted_by : (given : Result State Cause) → counted no_line (length bytes) ≡ given → (fault : ScriptFault) → IsRefusal fault (at_line script 1 given) → HasEnded (script_piece script bytes) (quiet contents asked faults) fault
   script_halted_by (Err x) is (Refused f n c) h = record {
-    names = [];
-    asked = asked_none asked;
-    all_due = if_all contents (λ held. rw is refl);
-    first_bad = if_all contents (λ held. rw is h);
-    no_fault = refl;
+    fetched = [];
+    has = record { names = []; asked = asked_none asked; are = none_fetched (quiet contents asked faults); all_due = rw is refl; no_fault = refl };
+    first_bad = rw is h;
   }
   script_halted_by (Err x) is (ReadFault f) h = absurd h
   script_halted_by (Err x) is Memory h = quiet_want contents asked faults (script_piece script bytes)
@@ -154,28 +180,29 @@ module _ (script bytes : List ℕ) (contents : Contents) (asked : Asked) (faults
 
 -- a script that is not
 module _ (script bytes : List ℕ) (t : State) (begun : counted no_line (length bytes) ≡ Ok t) (files : FilesRun) where
-  whole_given : (held : List ℕ → List ℕ) → script_read script held bytes ≡ lines_given script held t (script_lines 1 (lines_of bytes))
-  whole_given held = rw begun refl
+  abbrev lines : Piece
+  lines = lines_piece script t (script_lines 1 (lines_of bytes))
 
-  whole_is : (held : List ℕ → List ℕ) (s : State) → lines_given script held t (script_lines 1 (lines_of bytes)) ≡ Ok s → script_read script held bytes ≡ Ok s
-  whole_is held s g = whole_given held ∙ g
+  whole_given : (fetched : List (List ℕ)) → script_read script fetched bytes ≡ lines.given fetched
+  whole_given fetched = rw begun refl
 
-  pub script_whole : (s : State) (read : Script) → HasGiven (lines_piece script t (script_lines 1 (lines_of bytes))) files s → written_script read ≡ script_given s → IsRead (script_piece script bytes) files read
+  whole_due : (fetched : List (List ℕ)) → script_due script fetched bytes ≡ lines.due fetched
+  whole_due fetched = rw begun refl
+
+  whole_fetched : (fetched : List (List ℕ)) → HasFetched lines files fetched → HasFetched (script_piece script bytes) files fetched
+  whole_fetched fetched h = record { names = h.names; asked = h.asked; are = h.are; all_due = h.all_due ∙ sym (whole_due fetched); no_fault = h.no_fault }
+
+  front_whole : (names fetched : List (List ℕ)) → IsFront names (lines.due fetched) → IsFront names (script_due script fetched bytes)
+  front_whole names fetched h = record { behind = h.behind; is = h.is ∙ sym (whole_due fetched) }
+
+  pub script_whole : (s : State) (read : Script) → HasGiven lines files s → IsScriptOf s read → IsRead (script_piece script bytes) files read
   script_whole s read h is = record {
-    names = h.names;
-    asked = h.asked;
-    all_due = if_some files.contents (λ held d. rw begun d) h.all_due;
-    given = if_some files.contents (λ held g. read_is (script_read script (bytes_in held) bytes) s read (whole_is (bytes_in held) s g) is) h.given;
-    no_fault = h.no_fault;
+    fetched = h.fetched;
+    has = whole_fetched h.fetched h.has;
+    given = read_is (script_read script h.fetched bytes) s read (whole_given h.fetched ∙ h.given) is;
   }
 
-  pub script_ended : (fault : ScriptFault) → HasEnded (lines_piece script t (script_lines 1 (lines_of bytes))) files fault → HasEnded (script_piece script bytes) files fault
-  script_ended (Refused f n c) h = record {
-    names = h.names;
-    asked = h.asked;
-    all_due = if_some files.contents (λ held d. rw begun d) h.all_due;
-    first_bad = if_some files.contents (λ held g. rw begun g) h.first_bad;
-    no_fault = h.no_fault;
-  }
-  script_ended (ReadFault name) h = record { before = h.before; asked = h.asked; due = if_some files.contents (λ held d. rw begun d) h.due; rose = h.rose }
-  script_ended Memory h = record { names = h.names; asked = h.asked; due = if_some files.contents (λ held d. rw begun d) h.due; no_fault = h.no_fault }
+  pub script_ended : (fault : ScriptFault) → HasEnded lines files fault → HasEnded (script_piece script bytes) files fault
+  script_ended (Refused f n c) h = record { fetched = h.fetched; has = whole_fetched h.fetched h.has; first_bad = whole_given h.fetched ∙ h.first_bad }
+  script_ended (ReadFault name) h = record { before = h.before; fetched = h.fetched; asked = h.asked; are = h.are; due = front_whole (h.before ++ name ∷ []) h.fetched h.due; rose = h.rose }
+  script_ended Memory h = record { names = h.names; fetched = h.fetched; asked = h.asked; are = h.are; due = front_whole h.names h.fetched h.due; no_fault = h.no_fault }

@@ -25,7 +25,7 @@ use Rattle.solv_tags.specs.declared.tag_fault.TagCause.TheVariants as of_tag
 use Rattle.solv_tags.specs.declared.tag_fault.TagFault.{TagFault}
 use Rattle.solv_tags.proofs.OwnCauses.{is_want, is_tag_want, dependency_own, text_own, entered_own, tags_own}
 use Rattle.solv_script.specs.FileNames.{fetched_name, is_compressed}
-use Rattle.solv_script.specs.Grammar.{most_file, most_script, counted, Bad, Row, repository_given, with_lines, file_named, inline, answered, then_row, at_line, fetched_given, file_row, lines_row, command_row, said_row, words_row, row, begun, lines_given, script_read}
+use Rattle.solv_script.specs.Grammar.{most_file, most_script, counted, Bad, Row, repository_given, with_lines, file_named, inline, next_bytes, answered, fetched_behind, then_row, at_line, fetched_given, file_row, lines_row, command_row, said_row, words_row, row, begun, lines_given, script_read}
 use Rattle.solv_script.specs.LateLines.{are_late, has_late_line, IsLateLine, NotBuiltIsLateLine}
 use Rattle.solv_script.specs.LineCauses.{cause_of_text, cause_of_tag}
 use Rattle.solv_script.specs.Rows.{and_then, or_cause, or_text_cause, with_repo, arch_named, installed_row, system_row, package_numbers, namespace_row, disabled, disable_row, no_system, one_package, by_dependency, chosen, flags_row, plain_row}
@@ -161,10 +161,10 @@ module _ (script : List ℕ) where
   fetched_built : (s : State) (n : ℕ) (file bytes : List ℕ) → IfErr (fetched_given script s n file bytes) IsBuiltBad
   fetched_built s n file bytes = then_bad (at_line script n (counted s (length bytes))) _ (at_built n (counted s (length bytes)) (counted_built s (length bytes))) (λ t. lines_built t file (numbered_lines bytes))
 
-  module _ (files : List ℕ → List ℕ) where
+  module _ (fetched : List (List ℕ)) where
     -- a line that gives no bad one, or one for another cause
     abbrev RowBuilt : Row → Type 0
-    RowBuilt r = IfErr (answered files r) IsBuiltBad
+    RowBuilt r = IfErr (answered fetched r) IsBuiltBad
 
     row_if : (b : Bool) (q r : Row) → RowBuilt q → RowBuilt r → RowBuilt (if b then q else r)
     row_if true q r h k = h
@@ -173,7 +173,7 @@ module _ (script : List ℕ) where
     file_built : (s : State) (n : ℕ) (file : List ℕ) → RowBuilt (file_row script s n file)
     file_built s n file =
         row_if (is_compressed file) _ _ refl
-        (row_if (is_utf8 file) _ _ (fetched_built s n (fetched_name script file) (files (fetched_name script file))) refl)
+        (row_if (is_utf8 file) _ _ (fetched_built s n (fetched_name script file) (next_bytes fetched)) refl)
 
     lines_row_built : (s : State) (line : ScriptLine) (file : Option (List ℕ)) → RowBuilt (lines_row script s line file)
     lines_row_built s line None = tt
@@ -186,56 +186,57 @@ module _ (script : List ℕ) where
     command_built : (s : State) (line : ScriptLine) (c : Command) → RowBuilt (command_row script s line c)
     command_built s line c = then_row_built (at_line script line.number (plain_row s c)) _ (at_built line.number (plain_row s c) (plain_built s c)) (λ t. lines_row_built t line (file_named c))
 
-    -- a bad line which is not built has a form that comes late, among these lines
-    abbrev IsLateAmong : List ScriptLine → Bad → Type 0
-    IsLateAmong lines b = b.cause ≡ cause.NotBuilt → IsLateLine script lines b
+  -- a bad line which is not built has a form that comes late, among these lines
+  abbrev IsLateAmong : List ScriptLine → Bad → Type 0
+  IsLateAmong lines b = b.cause ≡ cause.NotBuilt → IsLateLine script lines b
 
-    built_late : (lines : List ScriptLine) (given : Result State Bad) → IfErr given IsBuiltBad → IfErr given (IsLateAmong lines)
-    built_late lines (Ok t) h = tt
-    built_late lines (Err b) h = λ is. let no : is_built b.cause ≡ false = rw is refl in absurd (cc)
+  built_late : (lines : List ScriptLine) (given : Result State Bad) → IfErr given IsBuiltBad → IfErr given (IsLateAmong lines)
+  built_late lines (Ok t) h = tt
+  built_late lines (Err b) h = λ is. let no : is_built b.cause ≡ false = rw is refl in absurd (cc)
 
-    late_first : (line : ScriptLine) (others : List ScriptLine) → are_late (own_words line.text) ≡ true → has_late_line (line ∷ others) line.number ≡ true
-    late_first line others h = let same : (line.number == line.number) ≡ true = eq-eqb line.number line.number refl in rw (same, h) refl
+  late_first : (line : ScriptLine) (others : List ScriptLine) → are_late (own_words line.text) ≡ true → has_late_line (line ∷ others) line.number ≡ true
+  late_first line others h = let same : (line.number == line.number) ≡ true = eq-eqb line.number line.number refl in rw (same, h) refl
 
-    said_late : (s : State) (line : ScriptLine) (others : List ScriptLine) (first : List ℕ) (words : List (List ℕ)) (said : Result Command Cause) → own_words line.text ≡ first ∷ words → command first words ≡ said
-        → IfErr (answered files (said_row script s line said)) (IsLateAmong (line ∷ others))
-    said_late s line others first words (Ok c) own is = built_late (line ∷ others) _ (command_built s line c)
-    said_late s line others first words (Err c) own is = λ unbuilt.
-        let late : is_late first words ≡ true = command_late first words (is ∙ ap Err unbuilt) in
-        record { file = refl; line = late_first line others (rw own late) }
+  said_late : (fetched : List (List ℕ)) (s : State) (line : ScriptLine) (others : List ScriptLine) (first : List ℕ) (words : List (List ℕ)) (said : Result Command Cause) → own_words line.text ≡ first ∷ words → command first words ≡ said
+      → IfErr (answered fetched (said_row script s line said)) (IsLateAmong (line ∷ others))
+  said_late fetched s line others first words (Ok c) own is = built_late (line ∷ others) _ (command_built fetched s line c)
+  said_late fetched s line others first words (Err c) own is = λ unbuilt.
+      let late : is_late first words ≡ true = command_late first words (is ∙ ap Err unbuilt) in
+      record { file = refl; line = late_first line others (rw own late) }
 
-    words_late : (s : State) (line : ScriptLine) (others : List ScriptLine) (words : List (List ℕ)) → own_words line.text ≡ words → IfErr (answered files (words_row script s line words)) (IsLateAmong (line ∷ others))
-    words_late s line others [] own = tt
-    words_late s line others (first ∷ words) own = said_late s line others first words (command first words) own refl
+  words_late : (fetched : List (List ℕ)) (s : State) (line : ScriptLine) (others : List ScriptLine) (words : List (List ℕ)) → own_words line.text ≡ words → IfErr (answered fetched (words_row script s line words)) (IsLateAmong (line ∷ others))
+  words_late fetched s line others [] own = tt
+  words_late fetched s line others (first ∷ words) own = said_late fetched s line others first words (command first words) own refl
 
-    late_behind : (line : ScriptLine) (others : List ScriptLine) (n : ℕ) → has_late_line others n ≡ true → has_late_line (line ∷ others) n ≡ true
-    late_behind line others n h = or_second (line.number == n && are_late (own_words line.text)) (has_late_line others n) h
-      where
-        or_second : (a b : Bool) → b ≡ true → (a || b) ≡ true
-        or_second true b h = refl
-        or_second false b h = h
+  late_behind : (line : ScriptLine) (others : List ScriptLine) (n : ℕ) → has_late_line others n ≡ true → has_late_line (line ∷ others) n ≡ true
+  late_behind line others n h = or_second (line.number == n && are_late (own_words line.text)) (has_late_line others n) h
+    where
+      or_second : (a b : Bool) → b ≡ true → (a || b) ≡ true
+      or_second true b h = refl
+      or_second false b h = h
 
-    later : (line : ScriptLine) (others : List ScriptLine) (given : Result State Bad) → IfErr given (IsLateAmong others) → IfErr given (IsLateAmong (line ∷ others))
-    later line others (Ok t) h = tt
-    later line others (Err b) h = λ unbuilt. let late = h unbuilt in record { file = late.file; line = late_behind line others b.line late.line }
+  later : (line : ScriptLine) (others : List ScriptLine) (given : Result State Bad) → IfErr given (IsLateAmong others) → IfErr given (IsLateAmong (line ∷ others))
+  later line others (Ok t) h = tt
+  later line others (Err b) h = λ unbuilt. let late = h unbuilt in record { file = late.file; line = late_behind line others b.line late.line }
 
-    then_late : (lines : List ScriptLine) (r : Result State Bad) (next : State → Result State Bad) → IfErr r (IsLateAmong lines) → ((t : State) → IfErr (next t) (IsLateAmong lines)) → IfErr (and_then r next) (IsLateAmong lines)
-    then_late lines (Ok t) next h k = k t
-    then_late lines (Err b) next h k = h
+  then_late : (lines : List ScriptLine) (r : Result State Bad) (next : State → Result State Bad) → IfErr r (IsLateAmong lines) → ((t : State) → IfErr (next t) (IsLateAmong lines)) → IfErr (and_then r next) (IsLateAmong lines)
+  then_late lines (Ok t) next h k = k t
+  then_late lines (Err b) next h k = h
 
-    lines_late : (s : State) (lines : List ScriptLine) → IfErr (lines_given script files s lines) (IsLateAmong lines)
-    lines_late s [] = tt
-    lines_late s (line ∷ others) =
-        then_late (line ∷ others) (answered files (row script s line)) _ (words_late s line others (own_words line.text) refl)
-        (λ t. later line others (lines_given script files t others) (lines_late t others))
+  lines_late : (lines : List ScriptLine) (s : State) (fetched : List (List ℕ)) → IfErr (lines_given script s lines fetched) (IsLateAmong lines)
+  lines_late [] s fetched = tt
+  lines_late (line ∷ others) s fetched =
+      let behind : List (List ℕ) = fetched_behind fetched (row script s line) in
+      then_late (line ∷ others) (answered fetched (row script s line)) _ (words_late fetched s line others (own_words line.text) refl)
+      (λ t. later line others (lines_given script t others behind) (lines_late others t behind))
 
-    script_late : (bytes : List ℕ) → IfErr (script_read script files bytes) (IsLateAmong (script_lines 1 (lines_of bytes)))
-    script_late bytes =
-        let lines = script_lines 1 (lines_of bytes) in
-        then_late lines (begun script (length bytes)) _ (built_late lines (begun script (length bytes)) (at_built 1 (counted no_line (length bytes)) (counted_built no_line (length bytes)))) (λ s. lines_late s lines)
+  script_late : (fetched : List (List ℕ)) (bytes : List ℕ) → IfErr (script_read script fetched bytes) (IsLateAmong (script_lines 1 (lines_of bytes)))
+  script_late fetched bytes =
+      let lines = script_lines 1 (lines_of bytes) in
+      then_late lines (begun script (length bytes)) _ (built_late lines (begun script (length bytes)) (at_built 1 (counted no_line (length bytes)) (counted_built no_line (length bytes)))) (λ s. lines_late lines s fetched)
 
-    late_given : (lines : List ScriptLine) (given : Result State Bad) (b : Bad) → given ≡ Err b → IfErr given (IsLateAmong lines) → b.cause ≡ cause.NotBuilt → IsLateLine script lines b
-    late_given lines given b is h unbuilt = let k : b.cause ≡ cause.NotBuilt → IsLateLine script lines b = rw is at h in k unbuilt
+  late_given : (lines : List ScriptLine) (given : Result State Bad) (b : Bad) → given ≡ Err b → IfErr given (IsLateAmong lines) → b.cause ≡ cause.NotBuilt → IsLateLine script lines b
+  late_given lines given b is h unbuilt = let k : b.cause ≡ cause.NotBuilt → IsLateLine script lines b = rw is at h in k unbuilt
 
 pub not_built_late : NotBuiltIsLateLine
-not_built_late = λ script files bytes b is unbuilt. late_given script files (script_lines 1 (lines_of bytes)) (script_read script files bytes) b is (script_late script files bytes) unbuilt
+not_built_late = λ script fetched bytes b is unbuilt. late_given script (script_lines 1 (lines_of bytes)) (script_read script fetched bytes) b is (script_late script fetched bytes) unbuilt

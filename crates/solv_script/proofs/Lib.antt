@@ -11,3 +11,5 @@ pub mod FileRows
 pub mod AsciiNames
 pub mod RowForms
 pub mod LateRows
+pub mod Determined
+pub mod Fetches

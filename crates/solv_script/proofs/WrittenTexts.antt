@@ -34,6 +34,60 @@ all_needs p [] h = refl
 all_needs p (need ∷ needs) h =
     rw (both_left (p need.dep) (list_all p (map (λ n. n.dep) needs)) h) (all_needs p needs (both_right (p need.dep) (list_all p (map (λ n. n.dep) needs)) h))
 
+-- what holds of each part of a package whose names, relations and repository are below these numbers
+pub record FitParts (names nodes count : ℕ) (a : Package) : Type 0 where
+  pub name : nat_lt a.name names ≡ true
+  pub evr : nat_lt a.evr names ≡ true
+  pub arch : nat_lt a.arch names ≡ true
+  pub vendor : list_all (λ n. nat_lt n names) (option_to_list a.vendor) ≡ true
+  pub files : list_all (λ n. nat_lt n names) a.files ≡ true
+  pub provides : list_all (λ d. nat_lt d nodes) a.provides ≡ true
+  pub needs : list_all (λ (need : Need). nat_lt need.dep nodes) a.requires_ ≡ true
+  pub conflicts : list_all (λ d. nat_lt d nodes) a.conflicts ≡ true
+  pub obsoletes : list_all (λ d. nat_lt d nodes) a.obsoletes ≡ true
+  pub recommends : list_all (λ d. nat_lt d nodes) a.recommends ≡ true
+  pub suggests : list_all (λ d. nat_lt d nodes) a.suggests ≡ true
+  pub supplements : list_all (λ d. nat_lt d nodes) a.supplements ≡ true
+  pub enhances : list_all (λ d. nat_lt d nodes) a.enhances ≡ true
+
+pub fit_parts : (names nodes count : ℕ) (a : Package) → fits names nodes count a ≡ true → FitParts names nodes count a
+fit_parts names nodes count a h =
+    let low = λ (n : ℕ). nat_lt n names in
+    let small = λ (d : ℕ). nat_lt d nodes in
+    let named : list_all low (names_of a) ≡ true = both_left (list_all low (names_of a)) (list_all small (relations_of a) && nat_lt a.repo count) h in
+    let more : (list_all small (relations_of a) && nat_lt a.repo count) ≡ true = both_right (list_all low (names_of a)) (list_all small (relations_of a) && nat_lt a.repo count) h in
+    let r0 : list_all small (relations_of a) ≡ true = both_left (list_all small (relations_of a)) (nat_lt a.repo count) more in
+    let n1 = both_right (low a.name) (list_all low (a.evr ∷ a.arch ∷ (option_to_list a.vendor ++ a.files))) named in
+    let n2 = both_right (low a.evr) (list_all low (a.arch ∷ (option_to_list a.vendor ++ a.files))) n1 in
+    let n3 = both_right (low a.arch) (list_all low (option_to_list a.vendor ++ a.files)) n2 in
+    let l7 = a.supplements ++ a.enhances in
+    let l6 = a.suggests ++ l7 in
+    let l5 = a.recommends ++ l6 in
+    let l4 = a.obsoletes ++ l5 in
+    let l3 = a.conflicts ++ l4 in
+    let l2 = map (λ (need : Need). need.dep) a.requires_ ++ l3 in
+    let r1 = all_right small a.provides l2 r0 in
+    let r2 = all_right small (map (λ need. need.dep) a.requires_) l3 r1 in
+    let r3 = all_right small a.conflicts l4 r2 in
+    let r4 = all_right small a.obsoletes l5 r3 in
+    let r5 = all_right small a.recommends l6 r4 in
+    let r6 = all_right small a.suggests l7 r5 in
+    record {
+      name = both_left (low a.name) (list_all low (a.evr ∷ a.arch ∷ (option_to_list a.vendor ++ a.files))) named;
+      evr = both_left (low a.evr) (list_all low (a.arch ∷ (option_to_list a.vendor ++ a.files))) n1;
+      arch = both_left (low a.arch) (list_all low (option_to_list a.vendor ++ a.files)) n2;
+      vendor = all_left low (option_to_list a.vendor) a.files n3;
+      files = all_right low (option_to_list a.vendor) a.files n3;
+      provides = all_left small a.provides l2 r0;
+      needs = all_needs small a.requires_ (all_left small (map (λ need. need.dep) a.requires_) l3 r1);
+      conflicts = all_left small a.conflicts l4 r2;
+      obsoletes = all_left small a.obsoletes l5 r3;
+      recommends = all_left small a.recommends l6 r4;
+      suggests = all_left small a.suggests l7 r5;
+      supplements = all_left small a.supplements a.enhances r6;
+      enhances = all_right small a.supplements a.enhances r6;
+    }
+
 module _ (old new : Held) (grows : Grows old new) where
   pub text_stays : (n : ℕ) → nat_lt n (length old.names) ≡ true → text_at new n ≡ text_at old n
   text_stays n h = grows.texts n (ltb-true n (length old.names) h)
@@ -56,42 +110,23 @@ module _ (old new : Held) (grows : Grows old new) where
 
   package_stays : (count : ℕ) (a : Package) → fits (length old.names) (length old.nodes) count a ≡ true → written_package new a ≡ written_package old a
   package_stays count a h =
-      let low = λ (n : ℕ). nat_lt n (length old.names) in
-      let small = λ (d : ℕ). nat_lt d (length old.nodes) in
-      let names : list_all low (names_of a) ≡ true = both_left (list_all low (names_of a)) (list_all small (relations_of a) && nat_lt a.repo count) h in
-      let more : (list_all small (relations_of a) && nat_lt a.repo count) ≡ true = both_right (list_all low (names_of a)) (list_all small (relations_of a) && nat_lt a.repo count) h in
-      let r0 : list_all small (relations_of a) ≡ true = both_left (list_all small (relations_of a)) (nat_lt a.repo count) more in
-      let n1 = both_right (low a.name) (list_all low (a.evr ∷ a.arch ∷ (option_to_list a.vendor ++ a.files))) names in
-      let n2 = both_right (low a.evr) (list_all low (a.arch ∷ (option_to_list a.vendor ++ a.files))) n1 in
-      let n3 = both_right (low a.arch) (list_all low (option_to_list a.vendor ++ a.files)) n2 in
-      let l7 = a.supplements ++ a.enhances in
-      let l6 = a.suggests ++ l7 in
-      let l5 = a.recommends ++ l6 in
-      let l4 = a.obsoletes ++ l5 in
-      let l3 = a.conflicts ++ l4 in
-      let l2 = map (λ (need : Need). need.dep) a.requires_ ++ l3 in
-      let r1 = all_right small a.provides l2 r0 in
-      let r2 = all_right small (map (λ need. need.dep) a.requires_) l3 r1 in
-      let r3 = all_right small a.conflicts l4 r2 in
-      let r4 = all_right small a.obsoletes l5 r3 in
-      let r5 = all_right small a.recommends l6 r4 in
-      let r6 = all_right small a.suggests l7 r5 in
+      let p = fit_parts (length old.names) (length old.nodes) count a h in
       let needs : map (λ need. record { dep = text_tree new need.dep; pre = need.pre }) a.requires_ ≡ map (λ need. record { dep = text_tree old need.dep; pre = need.pre }) a.requires_
-      = same_map {X = Need} {Y = WrittenNeed} (λ need. small need.dep) (λ need. record { dep = text_tree new need.dep; pre = need.pre }) (λ need. record { dep = text_tree old need.dep; pre = need.pre }) (λ need e. rw (tree_stays need.dep e) refl) a.requires_ (all_needs small a.requires_ (all_left small (map (λ need. need.dep) a.requires_) l3 r1)) in
+      = same_map {X = Need} {Y = WrittenNeed} (λ need. nat_lt need.dep (length old.nodes)) (λ need. record { dep = text_tree new need.dep; pre = need.pre }) (λ need. record { dep = text_tree old need.dep; pre = need.pre }) (λ need e. rw (tree_stays need.dep e) refl) a.requires_ p.needs in
       rw (
-        text_stays a.name (both_left (low a.name) (list_all low (a.evr ∷ a.arch ∷ (option_to_list a.vendor ++ a.files))) names),
-        text_stays a.evr (both_left (low a.evr) (list_all low (a.arch ∷ (option_to_list a.vendor ++ a.files))) n1),
-        text_stays a.arch (both_left (low a.arch) (list_all low (option_to_list a.vendor ++ a.files)) n2),
-        vendor_stays a.vendor (all_left low (option_to_list a.vendor) a.files n3),
-        texts_stay a.files (all_right low (option_to_list a.vendor) a.files n3),
-        trees_stay a.provides (all_left small a.provides l2 r0),
+        text_stays a.name p.name,
+        text_stays a.evr p.evr,
+        text_stays a.arch p.arch,
+        vendor_stays a.vendor p.vendor,
+        texts_stay a.files p.files,
+        trees_stay a.provides p.provides,
         needs,
-        trees_stay a.conflicts (all_left small a.conflicts l4 r2),
-        trees_stay a.obsoletes (all_left small a.obsoletes l5 r3),
-        trees_stay a.recommends (all_left small a.recommends l6 r4),
-        trees_stay a.suggests (all_left small a.suggests l7 r5),
-        trees_stay a.supplements (all_left small a.supplements a.enhances r6),
-        trees_stay a.enhances (all_right small a.supplements a.enhances r6),
+        trees_stay a.conflicts p.conflicts,
+        trees_stay a.obsoletes p.obsoletes,
+        trees_stay a.recommends p.recommends,
+        trees_stay a.suggests p.suggests,
+        trees_stay a.supplements p.supplements,
+        trees_stay a.enhances p.enhances,
       ) refl
 
   pub packages_stay : (count : ℕ) (packages : List Package) → list_all (fits (length old.names) (length old.nodes) count) packages ≡ true

@@ -1,5 +1,5 @@
 -- Scripts, line by line: what their lines give, the first bad line with its cause, and the files that are due.
-use Rattle.std.specs.Prelude.{ℕ, ◌+◌, ◌-◌, false, List, [], ◌∷◌, ◌++◌, map, codes, length, nat_lt, Option, Some, None, Result, Ok, Err, if◌then◌else◌}
+use Rattle.std.specs.Prelude.{ℕ, ◌+◌, ◌-◌, false, List, [], ◌∷◌, ◌++◌, map, codes, drop, length, nat_lt, Option, Some, None, Result, Ok, Err, if◌then◌else◌}
 use Rattle.std.specs.Str.{bytes_eq, is_utf8}
 use Rattle.solv_io.specs.Lines.{lines_of, numbered_lines}
 use Rattle.solv_tags.specs.Testtags.{Repository, testtags}
@@ -65,10 +65,20 @@ file_named c = None
 abbrev pub inline : List ℕ
 inline = codes "<inline>"
 
--- what a line gives where the files hold this
-abbrev pub answered : (List ℕ → List ℕ) → Row → Result State Bad
-answered files (done given) = given
-answered files (asks name next) = next (files name)
+-- the bytes of the file that is fetched next, of those that are fetched in this order; where there are none, it is empty
+abbrev pub next_bytes : List (List ℕ) → List ℕ
+next_bytes [] = []
+next_bytes (bytes ∷ others) = bytes
+
+-- what a line gives where files with these bytes are fetched
+abbrev pub answered : List (List ℕ) → Row → Result State Bad
+answered fetched (done given) = given
+answered fetched (asks name next) = next (next_bytes fetched)
+
+-- the files that are fetched behind a line
+abbrev pub fetched_behind : List (List ℕ) → Row → List (List ℕ)
+fetched_behind fetched (done given) = fetched
+fetched_behind fetched (asks name next) = drop 1 fetched
 
 -- the name that a line asks for, if any
 abbrev pub asked_by : Row → List (List ℕ)
@@ -129,22 +139,22 @@ module _ (script : List ℕ) where
   abbrev pub begun : ℕ → Result State Bad
   begun size = at_line 1 (counted no_line size)
 
-  -- `files` says what is held under each name
-  module _ (files : List ℕ → List ℕ) where
-    -- what lines give, or the first bad one
-    abbrev pub lines_given : State → List ScriptLine → Result State Bad
-    lines_given s [] = Ok s
-    lines_given s (line ∷ others) = and_then (answered files (row s line)) (λ t. lines_given t others)
+  -- what lines give where files with these bytes are fetched in this order, or the first bad one
+  abbrev pub lines_given : State → List ScriptLine → List (List ℕ) → Result State Bad
+  lines_given s [] fetched = Ok s
+  lines_given s (line ∷ others) fetched = and_then (answered fetched (row s line)) (λ t. lines_given t others (fetched_behind fetched (row s line)))
 
-    -- the names that lines ask for, up to the first bad one; a name that stands twice is asked for twice
-    abbrev pub lines_due : State → List ScriptLine → List (List ℕ)
-    lines_due s [] = []
-    lines_due s (line ∷ others) = asked_by (row s line) ++ due_behind (answered files (row s line)) (λ t. lines_due t others)
+  -- the names that lines ask for, up to the first bad one; a name that stands twice is asked for twice
+  abbrev pub lines_due : State → List ScriptLine → List (List ℕ) → List (List ℕ)
+  lines_due s [] fetched = []
+  lines_due s (line ∷ others) fetched = asked_by (row s line) ++ due_behind (answered fetched (row s line)) (λ t. lines_due t others (fetched_behind fetched (row s line)))
 
+  -- `fetched` has the bytes of the files that a script names, in the order in which they are asked for
+  module _ (fetched : List (List ℕ)) where
     -- what a script gives: what all its lines give, or the first bad line
     abbrev pub script_read : List ℕ → Result State Bad
-    script_read bytes = and_then (begun (length bytes)) (λ s. lines_given s (script_lines 1 (lines_of bytes)))
+    script_read bytes = and_then (begun (length bytes)) (λ s. lines_given s (script_lines 1 (lines_of bytes)) fetched)
 
     -- the names of the files that are due, in order
     abbrev pub script_due : List ℕ → List (List ℕ)
-    script_due bytes = due_behind (begun (length bytes)) (λ s. lines_due s (script_lines 1 (lines_of bytes)))
+    script_due bytes = due_behind (begun (length bytes)) (λ s. lines_due s (script_lines 1 (lines_of bytes)) fetched)

@@ -23,5 +23,5 @@ pub record IsLateLine (script : List ℕ) (lines : List ScriptLine) (bad : Bad) 
 
 -- the first bad line of a script is `NotBuilt` only where it has such a form
 abbrev pub NotBuiltIsLateLine : Type 0
-NotBuiltIsLateLine = (script : List ℕ) (files : List ℕ → List ℕ) (bytes : List ℕ) (bad : Bad) → script_read script files bytes ≡ Err bad → bad.cause ≡ NotBuilt
+NotBuiltIsLateLine = (script : List ℕ) (fetched : List (List ℕ)) (bytes : List ℕ) (bad : Bad) → script_read script fetched bytes ≡ Err bad → bad.cause ≡ NotBuilt
     → IsLateLine script (script_lines 1 (lines_of bytes)) bad

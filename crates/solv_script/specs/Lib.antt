@@ -6,6 +6,7 @@ pub mod LineCauses
 pub mod Rows
 pub mod Grammar
 pub mod Halts
+pub mod ScriptsOf
 pub mod FileRuns
 pub mod Readings
 pub mod ScriptExamples

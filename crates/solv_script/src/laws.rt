@@ -1,8 +1,20 @@
-//! A law of scripts.
+//! Laws of scripts.
+ghost use Rattle.solv_script.specs.FileRuns.{FetchesAreDetermined};
 ghost use Rattle.solv_script.specs.LateLines.{NotBuiltIsLateLine};
+ghost use Rattle.solv_script.specs.ScriptsOf.{ScriptsAreDetermined};
 
 /// The first bad line of a script is `NotBuilt` only where it is a line of the script itself that has a form which comes late:
 /// a `result` or `nextjob` line, or a job with the action `distupgrade` or `userinstalled` or with the flag `cleandeps`.
 pub fn not_built_is_a_late_line()
     ensures { NotBuiltIsLateLine }
+{}
+
+/// A script is determined by what its lines give: by the texts that it is written with, and by its pool.
+pub fn scripts_are_determined()
+    ensures { ScriptsAreDetermined }
+{}
+
+/// What is fetched for a script is determined, where the files tell what they hold.
+pub fn fetches_are_determined()
+    ensures { FetchesAreDetermined }
 {}

@@ -8,7 +8,7 @@ ghost use Rattle.solv_commands.specs.declared.causes.Cause.TheVariants.{BadWords
 ghost use Rattle.solv_script.specs.Reads.{first_flags};
 ghost use Rattle.solv_script.specs.Grammar.{counted};
 ghost use Rattle.solv_script.specs.States.{no_line};
-ghost use Rattle.solv_script.specs.ScriptExamples.{map_counted, at, bad_line, due_in_folder, given, given_in_folder, map_given, refused, with_packages};
+ghost use Rattle.solv_script.specs.ScriptExamples.{map_counted, at, bad_line, due_in_folder, file_a, file_b, file_c, given, given_in_folder, map_given, refused, with_packages};
 
 /// Comments, blank lines and inline lines that belong to no repository say nothing, and numbers go on over them. A block that
 /// is open at the end of a repository's lines is bad at the last of them.
@@ -123,24 +123,25 @@ pub fn names_of_files()
     ensures xz { refused (codes "repo a 0 testtags a.xz") ≡ at 1 Compressed }
     ensures zst { refused (codes "repo a 0 testtags a.zst") ≡ at 1 Compressed }
     ensures lzma { refused (codes "repo a 0 testtags a.lzma") ≡ at 1 Compressed }
-    ensures not_at_the_end { due_in_folder (codes "repo a 0 testtags a.gz.repo") ≡ codes "d/a.gz.repo" ∷ [] }
+    ensures not_at_the_end { due_in_folder (file_a ∷ []) (codes "repo a 0 testtags a.gz.repo") ≡ codes "d/a.gz.repo" ∷ [] }
     ensures no_text { refused (codes "repo a 0 testtags a" ++ 255 ∷ []) ≡ at 1 BadFileName }
     ensures compressed_first { refused (codes "repo a 0 testtags " ++ (255 ∷ codes ".xz")) ≡ at 1 Compressed }
-    ensures no_text_not_due { due_in_folder (codes "repo a 0 testtags a" ++ 255 ∷ []) ≡ [] }
+    ensures no_text_not_due { due_in_folder [] (codes "repo a 0 testtags a" ++ 255 ∷ []) ≡ [] }
 {}
 
 /// Files: which are due, and by which names; a bad line of a file has the file's name and its own number.
 pub fn files_of_scripts()
-    ensures due { due_in_folder (codes "repo available 0 testtags a.repo") ≡ codes "d/a.repo" ∷ [] }
-    ensures compressed { bad_line (given_in_folder (codes "repo available 0 testtags a.repo.gz")) ≡ Some (codes "d/case.t", 1, Compressed) }
-    ensures not_due { due_in_folder (codes "repo available 0 testtags a.repo.gz") ≡ [] }
-    ensures duplicate { due_in_folder (codes "repo a 0 empty\nrepo a 0 testtags a.repo") ≡ [] }
-    ensures twice { due_in_folder (codes "repo a 0 testtags a.repo\n\nrepo b 0 testtags a.repo") ≡ codes "d/a.repo" ∷ codes "d/a.repo" ∷ [] }
-    ensures read { map_given (λ s. map (λ a. a.name) s.task.packages) (given_in_folder (codes "repo a 0 empty\nrepo b 0 testtags a.repo\nrepo c 0 testtags a.repo")) ≡ Some (codes "A" ∷ codes "A" ∷ []) }
-    ensures repos { map_given (λ s. map (λ a. a.repo) s.task.packages) (given_in_folder (codes "repo a 0 empty\nrepo b 0 testtags a.repo\nrepo c 0 testtags a.repo")) ≡ Some (1 ∷ 2 ∷ []) }
-    ensures counted { map_given (λ s. s.bytes) (given_in_folder (codes "repo b 0 testtags a.repo")) ≡ Some 43 }
-    ensures of_file { bad_line (given_in_folder (codes "repo a 0 testtags a.repo\nrepo b 0 testtags /b.repo\nfoo")) ≡ Some (codes "/b.repo", 2, MissingOperand) }
-    ensures last_due { due_in_folder (codes "repo a 0 testtags a.repo\nrepo b 0 testtags /b.repo\nrepo c 0 testtags a.repo") ≡ codes "d/a.repo" ∷ codes "/b.repo" ∷ [] }
-    ensures bad_line_before { due_in_folder (codes "foo\nrepo c 0 testtags a.repo") ≡ [] }
-    ensures inline { due_in_folder (codes "repo a 0 testtags <inline>") ≡ [] }
+    ensures due { due_in_folder (file_a ∷ []) (codes "repo available 0 testtags a.repo") ≡ codes "d/a.repo" ∷ [] }
+    ensures compressed { bad_line (given_in_folder [] (codes "repo available 0 testtags a.repo.gz")) ≡ Some (codes "d/case.t", 1, Compressed) }
+    ensures not_due { due_in_folder [] (codes "repo available 0 testtags a.repo.gz") ≡ [] }
+    ensures duplicate { due_in_folder [] (codes "repo a 0 empty\nrepo a 0 testtags a.repo") ≡ [] }
+    ensures twice { due_in_folder (file_a ∷ file_a ∷ []) (codes "repo a 0 testtags a.repo\n\nrepo b 0 testtags a.repo") ≡ codes "d/a.repo" ∷ codes "d/a.repo" ∷ [] }
+    ensures read { map_given (λ s. map (λ a. a.name) s.task.packages) (given_in_folder (file_a ∷ file_a ∷ []) (codes "repo a 0 empty\nrepo b 0 testtags a.repo\nrepo c 0 testtags a.repo")) ≡ Some (codes "A" ∷ codes "A" ∷ []) }
+    ensures repos { map_given (λ s. map (λ a. a.repo) s.task.packages) (given_in_folder (file_a ∷ file_a ∷ []) (codes "repo a 0 empty\nrepo b 0 testtags a.repo\nrepo c 0 testtags a.repo")) ≡ Some (1 ∷ 2 ∷ []) }
+    ensures changed { map_given (λ s. map (λ a. a.name) s.task.packages) (given_in_folder (file_a ∷ file_c ∷ []) (codes "repo a 0 empty\nrepo b 0 testtags a.repo\nrepo c 0 testtags a.repo")) ≡ Some (codes "A" ∷ codes "C" ∷ []) }
+    ensures counted { map_given (λ s. s.bytes) (given_in_folder (file_a ∷ []) (codes "repo b 0 testtags a.repo")) ≡ Some 43 }
+    ensures of_file { bad_line (given_in_folder (file_b ∷ []) (codes "repo b 0 testtags /b.repo\nfoo")) ≡ Some (codes "/b.repo", 2, MissingOperand) }
+    ensures last_due { due_in_folder (file_a ∷ file_b ∷ []) (codes "repo a 0 testtags a.repo\nrepo b 0 testtags /b.repo\nrepo c 0 testtags a.repo") ≡ codes "d/a.repo" ∷ codes "/b.repo" ∷ [] }
+    ensures bad_line_before { due_in_folder [] (codes "foo\nrepo c 0 testtags a.repo") ≡ [] }
+    ensures inline { due_in_folder [] (codes "repo a 0 testtags <inline>") ≡ [] }
 {}

@@ -71,6 +71,3 @@ pub fn read_script<F: Files>(
         Err(fault) => Err(fault),
     }
 }
-
-#[cfg(test)]
-mod tests;

@@ -7,8 +7,8 @@ ghost use Rattle.solv_pool.specs.TaskForms.{HasForms};
 ghost use Rattle.solv_script.specs.Grammar.{counted};
 ghost use Rattle.solv_script.specs.Halts.{IsHalt};
 ghost use Rattle.solv_script.specs.Readings.{IsReader, HasRead, state_of};
-ghost use Rattle.solv_script.specs.Reads.{written_script};
-ghost use Rattle.solv_script.specs.States.{no_line, script_given};
+ghost use Rattle.solv_script.specs.ScriptsOf.{IsScriptOf};
+ghost use Rattle.solv_script.specs.States.{no_line};
 ghost use Rattle.solv_tags.specs.EntryForms.{asks_for_singles};
 
 use crate::scripts::{EvrCheck, Kinds, Script};
@@ -76,11 +76,12 @@ impl Reader {
     /// The script, after the last line.
     pub(crate) fn finish(self) -> Script
         requires { IsReader self }
-        ensures script { written_script result ≡ script_given (state_of self) }
+        ensures script { IsScriptOf (state_of self) result }
         ensures closed { IsClosed result.task }
         ensures forms { HasForms result.task }
         ensures singly { list_all (asks_for_singles (catalog_of result.task)) result.task.universe.packages ≡ true }
     {
+        self.task.pool.holds_each_once();
         Script {
             task: self.task,
             kinds: Kinds {

@@ -1,4 +1,4 @@
-use Rattle.std.proofs.Common.{◌≡◌, ◌∙◌, ◌++◌, ◌∷◌, [], List, ap}
+use Rattle.std.proofs.Common.{◌∙◌, ◌++◌, ◌∷◌, [], ap}
 use Rattle.solv_derive.specs.Leaves.{leaves}
 use Rattle.solv_remedy.specs.Problems.{owning}
 use Rattle.solv_answers.proofs.Answered.{problem_made}

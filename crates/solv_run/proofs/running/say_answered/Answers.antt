@@ -11,4 +11,4 @@ answer-requires-clause-wants g c = wants_single c.args.script.now.task c.require
 
 pub returns : goal.returns
 returns g c =
-    ok_map _ _ c.say_answer.result (λ report h. said_answer c.args.script.now c.in_ok-answer.answer report _ _ c.requires.prepared.fits c.in_ok-answer.ensures h) c.say_answer.ensures
+    ok_map _ _ c.say_answer.result (λ report h. said_answer c.args.script.now c.in_ok-answer.answer report _ _ c.requires.prepared.fits c.in_ok-answer.ensures.good c.in_ok-answer.ensures.direct h) c.say_answer.ensures

@@ -2,7 +2,7 @@ use Rattle.std.proofs.Common.{Some, sym}
 use Rattle.solv_commands.specs.Borrowed.{command_of}
 use Rattle.solv_script.specs.Readings.{state_of, line_before}
 use Rattle.solv_script.specs.Rows.{plain_row}
-use Rattle.solv_script.proofs.FileRows.{on_ok, if_err, command_then, command_halted}
+use Rattle.solv_script.proofs.FileRows.{on_ok, if_err, command_then, command_given, command_halted}
 use Rattle.solv_script.proofs.whole.reader.Reader.command_row.Goals as goal
 
 pub returns-in-Ok-Some-clause-given : goal.returns-in-Ok-Some-clause-given
@@ -26,3 +26,10 @@ returns-in-Err-clause-ended g c = λ text.
     let said = command_of c.args.command.now in
     command_halted c.args.script.now s (line_before c.args.line text c.args.behind.now) (g.F.Files.contents files) (g.F.Files.asked files) (g.F.Files.faults files) said c.halted.result
     (c.halted.ensures (plain_row s said) c.in-Err.ensures.refused)
+
+pub returns-in-Ok-None-clause-given : goal.returns-in-Ok-None-clause-given
+returns-in-Ok-None-clause-given g c = λ text.
+    let files = c.args.files.now in
+    let named = rw c.in-Ok-None.field-0-is at c.in-Ok-None.ensures.file in
+    command_given c.args.script.now (state_of c.args.self.now) (line_before c.args.line text c.args.behind.now) (g.F.Files.contents files) (g.F.Files.asked files) (g.F.Files.faults files)
+    (command_of c.args.command.now) (state_of c.plain_row.new.self) c.in-Ok-None.ensures.ok.is (sym named)

@@ -3,7 +3,7 @@ use Rattle.std.specs.Str.{bytes_eq}
 use Rattle.solv_io.specs.Words.{words_of}
 use Rattle.solv_commands.specs.Borrowed.{command_of}
 use Rattle.solv_script.specs.Readings.{state_of, line_before}
-use Rattle.solv_script.proofs.FileRows.{on_ok, if_err, row_said, row_unsaid}
+use Rattle.solv_script.proofs.FileRows.{on_ok, if_err, comment_given, blank_given, row_said, row_unsaid}
 use Rattle.solv_script.proofs.PieceRuns.{quiet_want}
 use Rattle.solv_script.proofs.whole.reader.Reader.line.Goals as goal
 
@@ -33,3 +33,9 @@ returns-clause-ended g c =
     let own : bytes_eq (take 1 c.args.text.now) (codes "#") ≡ false = sym c.is_comment.ensures ∙ c.if-is_comment.false in
     row_unsaid c.args.script.now (state_of c.args.self.now) (line_before c.args.line c.args.text.now c.args.behind.now) (g.F.Files.contents files) (g.F.Files.asked files) (g.F.Files.faults files)
     c.in-Some.first.now (map (λ word. word.now) c.in-Some.others.now) c.in-Err.cause c.refused.result own words c.in-Err.ensures.cause (c.refused.ensures _ refl)
+
+pub returns-then-is_comment-clause-given : goal.returns-then-is_comment-clause-given
+returns-then-is_comment-clause-given g c =
+    let files = c.args.files.now in
+    comment_given c.args.script.now (state_of c.args.self.now) (line_before c.args.line c.args.text.now c.args.behind.now) (g.F.Files.contents files) (g.F.Files.asked files) (g.F.Files.faults files)
+    (sym c.is_comment.ensures ∙ c.if-is_comment.true)
