@@ -208,6 +208,3 @@ impl Pool {
         self.holds_each_once();
     }
 }
-
-#[cfg(test)]
-mod tests;

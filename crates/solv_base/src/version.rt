@@ -178,6 +178,3 @@ pub fn matching_follows_the_order()
     ensures exact { ExactMeetsByOrder }
     ensures overlap { MeetsByOverlap }
 {}
-
-#[cfg(test)]
-mod tests;

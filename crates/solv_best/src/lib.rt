@@ -12,6 +12,3 @@ mod ruling;
 
 pub use choosing::best;
 pub use ruling::best_rules;
-
-#[cfg(test)]
-mod tests;

@@ -1,15 +1,28 @@
-//! Tests of sets that whole scripts give. Nothing stands on it.
+//! Tests of calls, answers and orders that no script shows. Nothing stands on it.
 //!
-//! The packages of a script have numbers from 1 on: repositories in their order, packages in theirs.
+//! Scripts are read by `solv_script`, so a test's packages and jobs are written as a user writes them. The packages of a script have numbers from 1
+//! on: repositories in their order, packages in theirs.
 #![tactic(auto)]
 
 #[cfg(test)]
-mod answer_tests;
+mod adapter_tests;
+#[cfg(test)]
+mod budget_tests;
+#[cfg(test)]
+mod call_tests;
 #[cfg(test)]
 mod fixture;
 #[cfg(test)]
-mod singles;
+mod log_tests;
 #[cfg(test)]
-mod solve_tests;
+mod order_tests;
+#[cfg(test)]
+mod pack_tests;
+#[cfg(test)]
+mod run_tests;
+#[cfg(test)]
+mod script_tests;
+#[cfg(test)]
+mod singles;
 #[cfg(test)]
 mod switch_tests;

@@ -84,14 +84,25 @@ fn switches(
     Ok(enabled)
 }
 
-/// The set of a task, if it has one, with the update and the feature rules on or off.
-fn set_with(
+/// Whether a verdict is the set of these packages, or a refutation where no set is wanted.
+fn is_wanted(alloc: Global, verdict: Verdict, want: Option<&[u32]>) -> Result<bool, AllocError> {
+    match (verdict, want) {
+        (Verdict::Sat(trail), Some(want)) => Ok(are(&set_of(alloc, &trail)?, want)),
+        (Verdict::Unsat(_log), None) => Ok(true),
+        _ => Ok(false),
+    }
+}
+
+/// Whether a task has the set of these packages with the update and the feature rules on or off, or none where it is refuted and none is wanted. A
+/// budget that is spent is neither.
+fn gives(
     rt: &impl Abort,
     alloc: Global,
     made: &Trial,
     updates: bool,
     features: bool,
-) -> Result<Option<Vec<PackNo>>, AllocError>
+    want: Option<&[u32]>,
+) -> Result<bool, AllocError>
     requires closed { IsClosed made.now.task }
     requires index { IsIndexOf made.now.prov (catalog_of made.now.task) }
     requires marks { HasMarks (length made.now.task.universe.packages) made.now.marks }
@@ -103,10 +114,8 @@ fn set_with(
         return Err(AllocError);
     };
     let enabled = switches(alloc, &book, updates, features)?;
-    match verdict_of(alloc, made, &book, &enabled)? {
-        Verdict::Sat(trail) => Ok(Some(set_of(alloc, &trail)?)),
-        _ => Ok(None),
-    }
+    let verdict = verdict_of(alloc, made, &book, &enabled)?;
+    is_wanted(alloc, verdict, want)
 }
 
 /// A 1 (1) is installed; A 2 (2) is of another vendor, so no change may bring it. X (3), which a job asks for, conflicts with A 1.
@@ -122,35 +131,18 @@ system x86_64 rpm system
 job install name X
 ";
 
-/// Whether a set is that of these packages, or there is none where none is wanted.
-fn is_wanted(set: &Option<Vec<PackNo>>, want: &[u32]) -> bool {
-    match set {
-        Some(packs) => are(packs, want),
-        None => want.is_empty(),
-    }
-}
-
-/// The sets with both kinds of rules on, with the update rules alone, with the feature rules alone, and with neither.
-fn keeps(rt: &impl Abort, alloc: Global, made: &Trial) -> Result<bool, AllocError>
-    requires closed { IsClosed made.now.task }
-    requires index { IsIndexOf made.now.prov (catalog_of made.now.task) }
-    requires marks { HasMarks (length made.now.task.universe.packages) made.now.marks }
-{
-    let both = set_with(rt, alloc, made, true, true)?;
-    let update = set_with(rt, alloc, made, true, false)?;
-    let feature = set_with(rt, alloc, made, false, true)?;
-    let neither = set_with(rt, alloc, made, false, false)?;
-    Ok(
-        is_wanted(&both, &[])
-            && is_wanted(&update, &[])
-            && is_wanted(&feature, &[0, 2, 3])
-            && is_wanted(&neither, &[0, 3]),
-    )
-}
-
+/// With both kinds of rules on, with the update rules alone, with the feature rules alone, and with neither.
 #[test]
 fn installed_packages_are_kept_by_their_rules(rt: HostRuntime) -> Result<(), Fail> {
     let made = trial_of(rt.alloc(), KEPT)?;
-    assert_eq!(rt; keeps(&rt, rt.alloc(), &made)?, true);
+    for (updates, features, want) in [
+        (true, true, None),
+        (true, false, None),
+        (false, true, Some([0, 2, 3].as_slice())),
+        (false, false, Some([0, 3].as_slice())),
+    ] {
+        let is_so = gives(&rt, rt.alloc(), &made, updates, features, want)?;
+        assert!(rt; is_so, "{updates} {features}");
+    }
     Ok(())
 }

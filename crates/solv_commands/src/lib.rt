@@ -33,6 +33,3 @@ pub use rows::{
     solver_flags, system_lines, unknown_lines,
 };
 pub use words_of_lines::{append_joined, line_words};
-
-#[cfg(test)]
-mod tests;

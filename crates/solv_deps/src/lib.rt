@@ -38,6 +38,3 @@ pub use rows::{
     comparisons, limits_of_texts, rich_causes, rich_texts, texts_at_places, words_of_texts,
 };
 pub use sign::{comparison_of, is_namespace_name};
-
-#[cfg(test)]
-mod tests;

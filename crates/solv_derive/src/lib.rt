@@ -24,6 +24,3 @@ mod rests;
 pub use checker::{Scratch, check};
 pub use logs::{Checked, Hint, Log, Step};
 pub use rests::leaves;
-
-#[cfg(test)]
-mod tests;

@@ -26,6 +26,3 @@ pub use graphs::Graph;
 pub use orders::Turn;
 pub use ready::Ready;
 pub use rows::Row;
-
-#[cfg(test)]
-mod tests;

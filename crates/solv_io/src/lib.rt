@@ -36,6 +36,3 @@ pub use status::Status;
 pub use text_lines::lines;
 pub use words::{is_blank, split_word, words_by_example};
 pub use writing::{Sink, put};
-
-#[cfg(test)]
-mod tests;

@@ -4,4 +4,3 @@ pub mod Collected
 pub mod Steps
 pub mod Levels
 pub mod Learnt
-pub mod Examples

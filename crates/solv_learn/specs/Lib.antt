@@ -2,4 +2,3 @@ pub mod Marks
 pub mod Refuting
 pub mod Collecting
 pub mod Learning
-pub mod Examples

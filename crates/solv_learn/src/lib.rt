@@ -15,6 +15,3 @@ mod search;
 
 pub use marked::Marked;
 pub use search::Search;
-
-#[cfg(test)]
-mod tests;

@@ -506,6 +506,3 @@ impl Universe {
         append_all(into, &pieces)
     }
 }
-
-#[cfg(test)]
-mod tests;

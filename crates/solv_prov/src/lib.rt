@@ -24,6 +24,3 @@ mod provides;
 
 pub use provider_rows::rows_of_providers;
 pub use providers::Providers;
-
-#[cfg(test)]
-mod tests;

@@ -17,6 +17,3 @@ mod singles;
 
 pub use counting::{clause_count, clauses};
 pub use fault::RichFault;
-
-#[cfg(test)]
-mod tests;

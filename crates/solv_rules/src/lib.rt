@@ -24,6 +24,3 @@ mod making_book;
 pub use books::{Book, book_says_the_rules, package_rules_are_bookable};
 pub use each_package::package_rules;
 pub use fault::BookFault;
-
-#[cfg(test)]
-mod tests;

@@ -34,6 +34,3 @@ pub use testtags_rows::{
     tags_before_a_package, taken_package, texts_and_relations, too_many_packages, unclosed_blocks,
     vendors_and_paths, worked_repository,
 };
-
-#[cfg(test)]
-mod testtags_tests;

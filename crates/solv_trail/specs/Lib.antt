@@ -6,4 +6,3 @@ pub mod Asked
 pub mod Propagated
 pub mod Used
 pub mod Descends
-pub mod Examples

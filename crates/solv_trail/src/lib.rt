@@ -25,6 +25,3 @@ pub use known::Known;
 pub use numbers::NumberSet;
 pub use questions::{Ask, Question, taken};
 pub use rules::{is_in_use, lits_of};
-
-#[cfg(test)]
-mod tests;

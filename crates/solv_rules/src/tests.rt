@@ -1,5 +1,0 @@
-mod books;
-mod fixture;
-mod ready;
-mod rules;
-mod sets;

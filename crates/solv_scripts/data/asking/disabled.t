@@ -1,0 +1,10 @@
+# A disabled candidate is passed over.
+repo system 0 empty
+repo available 0 testtags <inline>
+#>=Pkg: A 1 1 noarch
+#>=Req: lib
+#>=Pkg: lib 1 1 noarch
+#>=Pkg: lib 2 1 noarch
+system x86_64 rpm system
+disable pkg lib-2-1.noarch@available
+job install name A

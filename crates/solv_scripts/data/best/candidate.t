@@ -1,0 +1,8 @@
+# The best candidate cannot be installed.
+repo system 0 empty
+repo available 0 testtags <inline>
+#>=Pkg: A 1 1 noarch
+#>=Pkg: A 2 1 noarch
+#>=Req: missing
+system x86_64 rpm system
+job install name A [forcebest]

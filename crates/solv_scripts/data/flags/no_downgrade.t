@@ -1,0 +1,9 @@
+# Without the flag it may not.
+repo system 0 testtags <inline>
+#>=Pkg: d 2 1 noarch
+repo available 0 testtags <inline>
+#>=Pkg: d 1 1 noarch
+#>=Pkg: X 1 1 noarch
+#>=Con: d = 2-1
+system x86_64 rpm system
+job install name X

@@ -1,0 +1,17 @@
+# Flags are separated by blanks or commas.
+repo system 0 testtags <inline>
+#>=Pkg: v 1 1 noarch
+#>=Vnd: one
+#>=Pkg: r 1 1 i686
+#>=Pkg: n 1 1 noarch
+#>=Pkg: s 1 1 noarch
+repo available 0 testtags <inline>
+#>=Pkg: v 2 1 noarch
+#>=Vnd: two
+#>=Pkg: r 2 1 x86_64
+#>=Pkg: m 1 1 noarch
+#>=Obs: n
+#>=Pkg: s 2 1 x86_64
+system x86_64 rpm system
+solverflags allowarchchange,allowvendorchange !allownamechange
+job update all packages

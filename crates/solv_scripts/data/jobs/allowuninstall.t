@@ -1,0 +1,9 @@
+# A job lets an installed package go that is in the way.
+repo system 0 testtags <inline>
+#>=Pkg: A 1 1 noarch
+repo available 0 testtags <inline>
+#>=Pkg: X 1 1 noarch
+#>=Con: A
+system x86_64 rpm system
+job allowuninstall name A
+job install name X

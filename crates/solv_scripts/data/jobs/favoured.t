@@ -1,0 +1,12 @@
+# A favoured candidate comes first.
+repo system 0 empty
+repo available 0 testtags <inline>
+#>=Pkg: P 1 1 noarch
+#>=Req: lib
+#>=Pkg: la 1 1 noarch
+#>=Prv: lib
+#>=Pkg: lb 1 1 noarch
+#>=Prv: lib
+system x86_64 rpm system
+job favor name lb
+job install name P

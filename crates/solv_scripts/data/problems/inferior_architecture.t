@@ -1,0 +1,7 @@
+# A package of an inferior architecture is asked for.
+repo system 0 empty
+repo available 0 testtags <inline>
+#>=Pkg: A 1 1 i686
+#>=Pkg: A 1 1 x86_64
+system x86_64 rpm system
+job install pkg A-1-1.i686@available

@@ -1,0 +1,2 @@
+# The last line is refused: BadArch.
+system other deb b

@@ -1,0 +1,2 @@
+# The last line is refused: BadDisttype.
+system i686 deb b

@@ -1,0 +1,2 @@
+# The last line is refused: UnknownJob.
+job instal name A [other]

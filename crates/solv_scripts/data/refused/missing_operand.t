@@ -1,0 +1,2 @@
+# The last line is refused: MissingOperand.
+job install name A >=

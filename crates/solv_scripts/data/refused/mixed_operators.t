@@ -1,0 +1,2 @@
+# The last line is refused: MixedOperators.
+job install name A & B | C

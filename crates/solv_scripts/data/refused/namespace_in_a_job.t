@@ -1,0 +1,2 @@
+# The last line is refused: OperatorNotHere.
+job install name namespace:language(de)

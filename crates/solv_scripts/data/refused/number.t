@@ -1,0 +1,2 @@
+# The last line is refused: BadNumber.
+repo a 0.5 other

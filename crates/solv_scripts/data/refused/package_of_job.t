@@ -1,0 +1,4 @@
+# The last line is refused: UnknownPackage.
+repo a 0 testtags <inline>
+#>=Pkg: A 1 1 noarch
+job install oneof @SYSTEM B

@@ -1,0 +1,2 @@
+# The last line is refused: UnknownPackage.
+namespace namespace:a(b) P

@@ -1,0 +1,2 @@
+# The last line is refused: UnknownRepo.
+system i686 rpm b

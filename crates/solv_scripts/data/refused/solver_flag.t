@@ -1,0 +1,2 @@
+# The last line is refused: UnknownFlag.
+solverflags allowdowngrade !strongrecommends

@@ -1,0 +1,2 @@
+# The last line is refused: BadOperator.
+job install name namespace:language(de) = 1
