@@ -13,3 +13,4 @@ pub mod RowForms
 pub mod LateRows
 pub mod Determined
 pub mod Fetches
+pub mod TextIndexed

@@ -9,6 +9,7 @@ pub mod Halts
 pub mod ScriptsOf
 pub mod FileRuns
 pub mod Readings
+pub mod TextIndexes
 pub mod ScriptExamples
 pub mod WrittenForms
 pub mod LateLines

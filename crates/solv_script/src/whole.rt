@@ -4,7 +4,7 @@
 //!   `other_lines`; `rows` takes a line's command to one of them.
 //! - `files`: a repository's file, by `file_names`; `blocks`: a repository's inline lines.
 //! - `lines`: the lines of a script in turn.
-//! - `packages`, `choices`: what packages and dependencies of a line select. `halts`, `refusals`: why no more is read.
+//! - `packages`, `choices`: what packages and dependencies of a line select; `text_index`: packages by their texts, for lines that name many. `halts`, `refusals`: why no more is read.
 ghost use Rattle.std.specs.List.{list_all};
 ghost use Rattle.std.specs.Prelude.{◌≡◌, true, IfOk, IfErr};
 ghost use Rattle.solv_pool.specs.Catalog.{catalog_of};
@@ -28,6 +28,7 @@ mod refusals;
 mod repo_lines;
 mod rows;
 mod system_lines;
+mod text_index;
 
 use crate::scripts::{Script, ScriptFault};
 use crate::whole::reader::Reader;

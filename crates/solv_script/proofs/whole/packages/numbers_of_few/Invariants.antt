@@ -3,7 +3,7 @@ use Rattle.std.specs.Prelude.{nat_le}
 use Rattle.std.specs.List.{list_all}
 use Rattle.solv_pool.specs.Written.{written_task}
 use Rattle.solv_script.specs.Rows.{and_then, package_numbers}
-use Rattle.solv_script.proofs.whole.packages.package_numbers.Given as goal
+use Rattle.solv_script.proofs.whole.packages.numbers_of_few.Given as goal
 
 abbrev pub invariant-loop-word : goal.invariant-loop-word
 invariant-loop-word l = record {
