@@ -14,19 +14,24 @@ use Rattle.solv_deps.specs.Canonical.{text}
 use Rattle.solv_deps.proofs.Printed.{well, printed_is_read}
 use Rattle.solv_deps.proofs.Readable.{IsWellRead, text_well_read}
 
+stood : (s : Bool) (x d : Dep (List ℕ)) → (let r : Result (Dep (List ℕ)) DepFault = if s then Ok x else Err OperatorNotHere in r) ≡ Ok d → (s ≡ true) × (x ≡ d)
+stood true x d e = (refl, cc)
+stood false x d e = absurd (cc)
+
+-- what is read and may stand
+read_well : (fits : Dep (List ℕ) → Bool) (r : Result (Dep (List ℕ)) DepFault) (d : Dep (List ℕ)) → IsWellRead r → and_then r (λ x. if fits x then Ok x else Err OperatorNotHere) ≡ Ok d
+    → ((well d ≡ true) × (operators d ≤ 64)) × (fits d ≡ true)
+read_well fits (Ok x) d g e = let s = stood (fits x) x d e in let same : x ≡ d = s.1 in (rw (← same) g, rw (← same) s.0)
+read_well fits (Err f) d g e = absurd (cc)
+
 pub printed_again : (fits : Dep (List ℕ) → Bool) (t : List ℕ) (d : Dep (List ℕ)) → dependency_by fits t ≡ Ok d → dependency_by fits (text d) ≡ Ok d
 printed_again fits t d e =
-    let b = here (reading (words t)) (text_well_read t) e in
+    let b = read_well fits (reading (words t)) d (text_well_read t) e in
     ap (λ r. and_then r (λ x. if fits x then Ok x else Err OperatorNotHere)) (printed_is_read d b.0.0 b.0.1) ∙ rw b.1 refl
-  where
-    stood : (s : Bool) (x : Dep (List ℕ)) → (if s then Ok x else Err OperatorNotHere) ≡ Ok d → (s ≡ true) × (x ≡ d)
-    stood true x e = (refl, cc)
-    stood false x e = cc
 
-    here : (r : Result (Dep (List ℕ)) DepFault) → IsWellRead r → and_then r (λ x. if fits x then Ok x else Err OperatorNotHere) ≡ Ok d
-        → ((well d ≡ true) × (operators d ≤ 64)) × (fits d ≡ true)
-    here (Ok x) g e = let s = stood (fits x) x e in let same : x ≡ d = s.1 in (rw (← same) g, rw (← same) s.0)
-    here (Err f) g e = cc
+-- what is read has few operators
+pub few_operators : (place : Place) (t : List ℕ) (d : Dep (List ℕ)) → dependency place t ≡ Ok d → operators d ≤ 64
+few_operators place t d e = (read_well (stands_at place) (reading (words t)) d (text_well_read t) e).0.1
 
 -- the same tree has the same id
 pub printed_same : (old new : Held) (place : Place) (t : List ℕ) (id again : ℕ) → IsPool new → Grows old new → id < length old.nodes → again < length new.nodes

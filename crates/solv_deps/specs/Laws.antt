@@ -1,10 +1,9 @@
 -- Laws of dependency text, and how its examples are said.
 use Rattle.std.specs.Prelude.{ℕ, zero, suc, ◌++◌, ◌≡◌, ◌↔◌, ◌<◌, ◌≤◌, Bool, true, false, List, length, Result, Ok, Err}
 use Rattle.std.specs.Str.{bytes_eq}
-use Rattle.solv_base.specs.Dependency.{Dep}
+use Rattle.solv_base.specs.Dependency.{Dep, operators}
 use Rattle.solv_base.specs.Pool.{Held, IsPool, Grows, text_tree}
 use Rattle.solv_deps.specs.Grammar.{Expr, expr_right, expr_operators, expr_depth, expr_words, expr_sense}
-use Rattle.solv_deps.specs.Table.{stands_richly_at}
 use Rattle.solv_deps.specs.Reading.{dependency, dependency_by, reading}
 use Rattle.solv_deps.specs.Entering.{dependency_entered}
 use Rattle.solv_deps.specs.Canonical.{text}
@@ -35,6 +34,10 @@ PrintedIsReadAgain = (place : Place) (t : List ℕ) (d : Dep (List ℕ)) → dep
 abbrev pub PrintedIsReadAgainByAnyTable : Type 0
 PrintedIsReadAgainByAnyTable = (fits : Dep (List ℕ) → Bool) (t : List ℕ) (d : Dep (List ℕ)) → dependency_by fits t ≡ Ok d → dependency_by fits (text d) ≡ Ok d
 
+-- what is read has at most 64 operators
+abbrev pub ReadHasFewOperators : Type 0
+ReadHasFewOperators = (place : Place) (t : List ℕ) (d : Dep (List ℕ)) → dependency place t ≡ Ok d → operators d ≤ 64
+
 -- what stands for a text at a place is what its canonical text is read as there: the same relation of the pool
 abbrev pub PrintedIsTheSame : Type 0
 PrintedIsTheSame = (old new : Held) (place : Place) (t : List ℕ) (id again : ℕ) → IsPool new → Grows old new → id < length old.nodes → again < length new.nodes
@@ -54,17 +57,9 @@ has_text t (Err e) = false
 abbrev pub reads_as : Place → List ℕ → List ℕ → Bool
 reads_as place given canonical = has_text canonical (dependency place given)
 
--- the same by the whole table of boolean dependencies
-abbrev pub reads_richly_as : Place → List ℕ → List ℕ → Bool
-reads_richly_as place given canonical = has_text canonical (dependency_by (stands_richly_at place) given)
-
 -- the text is refused at the place for this cause
 abbrev pub IsRefused : Place → List ℕ → DepFault → Type 0
 IsRefused place given cause = dependency place given ≡ Err cause
-
--- the same by the whole table
-abbrev pub IsRefusedRichly : Place → List ℕ → DepFault → Type 0
-IsRefusedRichly place given cause = dependency_by (stands_richly_at place) given ≡ Err cause
 
 -- was the limit of operators or of parentheses passed?
 abbrev pub is_too_deep : Result (Dep (List ℕ)) DepFault → Bool

@@ -4,13 +4,13 @@ ghost use Rattle.solv_base.specs.Dependency.{one, plain, versioned, namespace};
 ghost use Rattle.solv_base.specs.Pool.{Grows, text_at, text_tree, text_tree_of_node, uses_below};
 ghost use Rattle.solv_deps.specs.declared.fault.DepFault.{DepFault as Cause};
 ghost use Rattle.solv_deps.specs.Drafts.{said};
-ghost use Rattle.solv_deps.specs.Table.{stands_at};
 ghost use Rattle.solv_deps.specs.Reading.{dependency};
 ghost use Rattle.solv_deps.specs.Singles.{capability_of};
 ghost use Rattle.solv_deps.specs.Entering.{text_entered, relation_entered, dependency_entered, text_read, IsEntered, IsRefusal, IsOfPool, refusal, link_node};
 
 use crate::draft::{Draft, Written};
 use crate::fault::DepFault;
+use crate::forms::may_stand;
 use crate::place::Place;
 use crate::reading::read_tree;
 use crate::sign::Joint;
@@ -144,22 +144,6 @@ fn enter(pool: &mut Pool, draft: &Draft<'_>, number: u8) -> Result<DepId, DepFau
             let other = enter(pool, draft, c)?;
             enter_relation(pool, DepNode::IfElse(left, condition, other))
         }
-    }
-}
-
-/// Whether a dependency of a draft may stand at a place.
-fn may_stand(draft: &Draft<'_>, number: u8, place: Place) -> bool
-    requires { number < length draft.now }
-    ensures { result ≡ stands_at place (said draft.now number) }
-{
-    match draft.get(number) {
-        Written::Simple(_) => true,
-        Written::Versioned(_, _, _) => true,
-        Written::Namespace(_) => place != Place::Plain,
-        Written::Joined(_, _, _) => false,
-        Written::Without(_, _) => false,
-        Written::If(_, _) => false,
-        Written::IfElse(_, _, _) => false,
     }
 }
 

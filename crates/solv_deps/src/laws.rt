@@ -1,5 +1,5 @@
 //! Laws of dependency text.
-ghost use Rattle.solv_deps.specs.Laws.{WrittenIsRead, ReadIsWritten, PrintedIsReadAgain, PrintedIsReadAgainByAnyTable, HeldIsEntered, PrintedIsTheSame};
+ghost use Rattle.solv_deps.specs.Laws.{WrittenIsRead, ReadIsWritten, ReadHasFewOperators, PrintedIsReadAgain, PrintedIsReadAgainByAnyTable, HeldIsEntered, PrintedIsTheSame};
 
 /// What is written by the grammar, with at most 64 operators and 64 open parentheses, is read as what it means.
 pub fn written_is_read()
@@ -9,6 +9,11 @@ pub fn written_is_read()
 /// What is read is written by the grammar, and stands for what it means.
 pub fn read_is_written()
     ensures { ReadIsWritten }
+{}
+
+/// What is read has at most 64 operators.
+pub fn read_has_few_operators()
+    ensures { ReadHasFewOperators }
 {}
 
 /// The canonical text of what was read is read again, at the same place, as the same.

@@ -9,7 +9,7 @@
 //! - [`dep_text`]: the canonical text of a dependency.
 //! - [`enter_text`]: a text that is no dependency, entered with the same causes.
 //! - [`comparison_of`], [`is_namespace_name`]: what a word of such a text is.
-//! - Laws, each the contract of a function that does nothing: [`written_is_read`], [`read_is_written`],
+//! - Laws, each the contract of a function that does nothing: [`written_is_read`], [`read_is_written`], [`read_has_few_operators`],
 //!   [`printed_is_read_again`], [`printed_is_the_same`], [`held_is_entered`]; and examples on which the definitions are evaluated:
 //!   [`words_of_texts`], [`comparisons`], [`texts_at_places`], [`rich_texts`], [`rich_causes`], [`limits_of_texts`].
 #![tactic(auto)]
@@ -17,6 +17,7 @@
 mod dependency;
 mod draft;
 mod fault;
+mod forms;
 mod laws;
 mod lexer;
 mod outer;
@@ -30,7 +31,8 @@ mod single;
 pub use dependency::{enter_text, read_dep};
 pub use fault::DepFault;
 pub use laws::{
-    held_is_entered, printed_is_read_again, printed_is_the_same, read_is_written, written_is_read,
+    held_is_entered, printed_is_read_again, printed_is_the_same, read_has_few_operators,
+    read_is_written, written_is_read,
 };
 pub use place::Place;
 pub use printing::dep_text;

@@ -4,7 +4,7 @@ ghost use Rattle.solv_base.specs.Dependency.{one, plain};
 ghost use Rattle.solv_deps.specs.Words.{words};
 ghost use Rattle.solv_deps.specs.Grammar.{comparison, operator};
 ghost use Rattle.solv_deps.specs.Reading.{dependency};
-ghost use Rattle.solv_deps.specs.Laws.{reads_as, reads_richly_as, IsRefused, IsRefusedRichly, is_too_deep, repeated};
+ghost use Rattle.solv_deps.specs.Laws.{reads_as, IsRefused, is_too_deep, repeated};
 ghost use Rattle.solv_deps.specs.declared.place.Place.TheVariants.{Requires, Conflicts, Plain};
 ghost use Rattle.solv_deps.specs.declared.fault.DepFault.TheVariants.{BadOperator, MissingOperand, MixedOperators, UnclosedParenthesis, TooDeep, OperatorNotHere};
 
@@ -28,7 +28,7 @@ pub fn comparisons()
     ensures unless { operator (codes "<UNLESS>") ≡ None }
 {}
 
-/// What is read at a place, and what is refused there, by the table in force.
+/// What is read at a place, and what is refused there.
 pub fn texts_at_places()
     ensures library { dependency Requires (codes "lib.so.6()(64bit)") ≡ Ok (one (plain (codes "lib.so.6()(64bit)"))) }
     ensures module { reads_as Requires (codes " perl(Foo)") (codes "perl(Foo)") ≡ true }
@@ -36,8 +36,9 @@ pub fn texts_at_places()
     ensures namespace { reads_as Requires (codes "namespace:language(de)") (codes "namespace:language(de)") ≡ true }
     ensures plain_namespace { IsRefused Plain (codes "namespace:language(de)") OperatorNotHere }
     ensures namespace_compared { IsRefused Requires (codes "namespace:language(de) = 1") BadOperator }
-    ensures chain { IsRefused Requires (codes "A & B") OperatorNotHere }
-    ensures conflicting_chain { IsRefused Conflicts (codes "A | B") OperatorNotHere }
+    ensures chain { reads_as Requires (codes "A & B") (codes "A & B") ≡ true }
+    ensures conflicting_chain { reads_as Conflicts (codes "A | B") (codes "A | B") ≡ true }
+    ensures plain_chain { IsRefused Plain (codes "A | B") OperatorNotHere }
     ensures mixed { IsRefused Requires (codes "A & B | C") MixedOperators }
     ensures evr { IsRefused Requires (codes "A >=") MissingOperand }
     ensures unclosed { IsRefused Requires (codes "(A") UnclosedParenthesis }
@@ -46,31 +47,31 @@ pub fn texts_at_places()
     ensures empty { IsRefused Requires [] MissingOperand }
 {}
 
-/// Boolean dependencies by the whole table, each with its canonical text.
+/// Boolean dependencies, each with its canonical text.
 pub fn rich_texts()
-    ensures regroup { reads_richly_as Requires (codes "(A & B) & (C | D)") (codes "A & B & (C | D)") ≡ true }
-    ensures right { reads_richly_as Requires (codes "A & (B & C)") (codes "A & (B & C)") ≡ true }
-    ensures library { reads_richly_as Requires (codes "lib.so.6()(64bit)") (codes "lib.so.6()(64bit)") ≡ true }
-    ensures inner_else { reads_richly_as Requires (codes "A <IF> (B <ELSE> C)") (codes "A <IF> B <ELSE> C") ≡ true }
-    ensures outer_else { reads_richly_as Requires (codes "A <IF> B <ELSE> C") (codes "A <IF> B <ELSE> C") ≡ true }
-    ensures space { reads_richly_as Requires (codes "(A & f(x ) | B") (codes "(A & f(x ) | B") ≡ true }
-    ensures condition_after_else { reads_richly_as Requires (codes "A <IF> B <ELSE> (C <IF> D)") (codes "A <IF> B <ELSE> (C <IF> D)") ≡ true }
-    ensures conditional_operand { reads_richly_as Requires (codes "(A <IF> B) <IF> C") (codes "(A <IF> B) <IF> C") ≡ true }
-    ensures without { reads_richly_as Conflicts (codes "A - (B | C = 1)") (codes "A - (B | C = 1)") ≡ true }
+    ensures regroup { reads_as Requires (codes "(A & B) & (C | D)") (codes "A & B & (C | D)") ≡ true }
+    ensures right { reads_as Requires (codes "A & (B & C)") (codes "A & (B & C)") ≡ true }
+    ensures library { reads_as Requires (codes "lib.so.6()(64bit)") (codes "lib.so.6()(64bit)") ≡ true }
+    ensures inner_else { reads_as Requires (codes "A <IF> (B <ELSE> C)") (codes "A <IF> B <ELSE> C") ≡ true }
+    ensures outer_else { reads_as Requires (codes "A <IF> B <ELSE> C") (codes "A <IF> B <ELSE> C") ≡ true }
+    ensures space { reads_as Requires (codes "(A & f(x ) | B") (codes "(A & f(x ) | B") ≡ true }
+    ensures condition_after_else { reads_as Requires (codes "A <IF> B <ELSE> (C <IF> D)") (codes "A <IF> B <ELSE> (C <IF> D)") ≡ true }
+    ensures conditional_operand { reads_as Requires (codes "(A <IF> B) <IF> C") (codes "(A <IF> B) <IF> C") ≡ true }
+    ensures without { reads_as Conflicts (codes "A - (B | C = 1)") (codes "A - (B | C = 1)") ≡ true }
 {}
 
-/// Causes of boolean dependencies, by the whole table.
+/// Causes of boolean dependencies.
 pub fn rich_causes()
-    ensures mixed { IsRefusedRichly Requires (codes "A & B | C") MixedOperators }
-    ensures place { IsRefusedRichly Requires (codes "A | (B + (C & D))") OperatorNotHere }
-    ensures conflict { IsRefusedRichly Conflicts (codes "A <IF> B") OperatorNotHere }
-    ensures nested_condition { IsRefusedRichly Requires (codes "A <IF> (B <IF> C)") OperatorNotHere }
-    ensures else_in_chain { IsRefusedRichly Requires (codes "A <IF> (B & C <ELSE> D)") BadOperator }
-    ensures second_else { IsRefusedRichly Requires (codes "A <IF> (B <ELSE> C) <ELSE> D") BadOperator }
-    ensures after_condition { IsRefusedRichly Requires (codes "A <IF> (B <ELSE> C) & D") MixedOperators }
-    ensures compared_close { IsRefusedRichly Requires (codes "(A) = 1") BadOperator }
-    ensures condition_in_difference { IsRefusedRichly Requires (codes "(A <IF> B) - C") OperatorNotHere }
-    ensures close { IsRefusedRichly Requires (codes "A )") BadOperator }
+    ensures mixed { IsRefused Requires (codes "A & B | C") MixedOperators }
+    ensures place { IsRefused Requires (codes "A | (B + (C & D))") OperatorNotHere }
+    ensures conflict { IsRefused Conflicts (codes "A <IF> B") OperatorNotHere }
+    ensures nested_condition { IsRefused Requires (codes "A <IF> (B <IF> C)") OperatorNotHere }
+    ensures else_in_chain { IsRefused Requires (codes "A <IF> (B & C <ELSE> D)") BadOperator }
+    ensures second_else { IsRefused Requires (codes "A <IF> (B <ELSE> C) <ELSE> D") BadOperator }
+    ensures after_condition { IsRefused Requires (codes "A <IF> (B <ELSE> C) & D") MixedOperators }
+    ensures compared_close { IsRefused Requires (codes "(A) = 1") BadOperator }
+    ensures condition_in_difference { IsRefused Requires (codes "(A <IF> B) - C") OperatorNotHere }
+    ensures close { IsRefused Requires (codes "A )") BadOperator }
 {}
 
 /// At most 64 parentheses are open at one time, and at most 64 operators stand in a text.
@@ -78,5 +79,5 @@ pub fn limits_of_texts()
     ensures deep { is_too_deep (dependency Requires (repeated 65 (codes "(") (codes "A" ++ repeated 65 (codes ")") []))) ≡ true }
     ensures not_deep { reads_as Requires (repeated 64 (codes "(") (codes "A" ++ repeated 64 (codes ")") [])) (codes "A") ≡ true }
     ensures long { is_too_deep (dependency Requires (repeated 65 (codes "A | ") (codes "A"))) ≡ true }
-    ensures not_long { reads_richly_as Requires (repeated 64 (codes "A | ") (codes "A")) (repeated 64 (codes "A | ") (codes "A")) ≡ true }
+    ensures not_long { reads_as Requires (repeated 64 (codes "A | ") (codes "A")) (repeated 64 (codes "A | ") (codes "A")) ≡ true }
 {}

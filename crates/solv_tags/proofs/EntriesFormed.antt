@@ -1,14 +1,17 @@
 -- The packages that a testtags file gives have dependencies of forms that may stand at their places.
-use Rattle.std.proofs.Common.{◌≡◌, ℕ, ◌+◌, Bool, true, false, List, [], ◌∷◌, ◌++◌, map, length, Option, Some, None, Result, Ok, Err, refl}
+use Rattle.std.proofs.Common.{◌≡◌, ℕ, ◌+◌, Bool, true, false, List, [], ◌∷◌, ◌++◌, map, length, Option, Some, None, Result, Ok, Err, refl, ◌≤◌, arith}
 use Rattle.std.specs.Prelude.{◌&&◌, ◌||◌, option_to_list, nat_le, is_some, IfOk, if◌then◌else◌}
 use Rattle.std.specs.List.{list_any, list_all}
 use Rattle.std.specs.Str.{bytes_eq}
+use Rattle.std.proofs.lemmas.Bool.Decides.{nat_tests}
 use Rattle.solv_io.specs.Lines.{numbered_lines}
 use Rattle.solv_io.specs.Words.{words_of}
-use Rattle.solv_base.specs.Dependency.{Dep, one, namespace}
+use Rattle.solv_base.specs.Dependency.{Dep, one, namespace, and, or, with, without, operators}
+use Rattle.solv_base.specs.Places.{fits_place, unconditional}
 use Rattle.solv_base.specs.Pool.{Held}
 use Rattle.solv_pool.specs.Written.{WrittenNeed, WrittenPackage}
 use Rattle.solv_pool.specs.Contents.{most_packages}
+use Rattle.solv_pool.specs.TaskForms.{most_operators}
 use Rattle.solv_deps.specs.Entering.{text_entered, dependency_entered}
 use Rattle.solv_deps.specs.Reading.{and_then, dependency, reading}
 use Rattle.solv_deps.specs.Table.{is_capability, stands_at}
@@ -27,6 +30,7 @@ use Rattle.solv_tags.specs.declared.tag_fault.TagCause.{TagCause}
 use Rattle.solv_tags.specs.declared.tag_fault.TagCause.TheVariants as cause
 use Rattle.solv_tags.specs.declared.tag_fault.TagFault.{TagFault}
 use Rattle.solv_deps.proofs.Both.{both_left, both_right, both_true}
+use Rattle.solv_deps.proofs.RoundTrip.{few_operators}
 use Rattle.solv_tags.proofs.Staying.{all_both}
 
 -- has a form that may stand at this place
@@ -35,25 +39,37 @@ is_placed Requires d = has_written_form true d
 is_placed Conflicts d = has_written_form false d
 is_placed Plain d = is_capability d
 
-stands_placed : (place : Place) (d : Dep (List ℕ)) → stands_at place d ≡ true → is_placed place d ≡ true
-stands_placed Requires (one c) h = refl
-stands_placed Requires (namespace n) h = refl
-stands_placed Conflicts (one c) h = refl
-stands_placed Conflicts (namespace n) h = refl
-stands_placed Plain (one c) h = refl
-stands_placed place d h = absurd (cc)
+-- what has no condition may stand at a conflict
+unconditional_fits : (d : Dep (List ℕ)) → unconditional d ≡ true → fits_place false d ≡ true
+unconditional_fits (one c) h = refl
+unconditional_fits (namespace n) h = refl
+unconditional_fits (and a b) h =
+    both_true (fits_place false a) (fits_place false b) (unconditional_fits a (both_left (unconditional a) (unconditional b) h)) (unconditional_fits b (both_right (unconditional a) (unconditional b) h))
+unconditional_fits (or a b) h =
+    both_true (fits_place false a) (fits_place false b) (unconditional_fits a (both_left (unconditional a) (unconditional b) h)) (unconditional_fits b (both_right (unconditional a) (unconditional b) h))
+unconditional_fits (with a b) h = h
+unconditional_fits (without a b) h = h
+unconditional_fits d h = absurd (cc)
 
-stands_if : (place : Place) (x d : Dep (List ℕ)) (b : Bool) → stands_at place x ≡ b → (let r : Result (Dep (List ℕ)) DepFault = if b then Ok x else Err OperatorNotHere in r) ≡ Ok d → is_placed place d ≡ true
-stands_if place x d true e h = let same : x ≡ d = cc in rw (← same) (stands_placed place x e)
+stands_placed : (place : Place) (d : Dep (List ℕ)) → stands_at place d ≡ true → nat_le (operators d) most_operators ≡ true → is_placed place d ≡ true
+stands_placed Requires d h few = rw (h, few) refl
+stands_placed Conflicts d h few = rw (unconditional_fits d h, few, h) refl
+stands_placed Plain d h few = h
+
+stands_if : (place : Place) (x d : Dep (List ℕ)) (b : Bool) → stands_at place x ≡ b → (let r : Result (Dep (List ℕ)) DepFault = if b then Ok x else Err OperatorNotHere in r) ≡ Ok d → stands_at place d ≡ true
+stands_if place x d true e h = let same : x ≡ d = cc in rw (← same) e
 stands_if place x d false e h = absurd (cc)
 
-read_if : (place : Place) (r : Result (Dep (List ℕ)) DepFault) (d : Dep (List ℕ)) → and_then r (λ x. if stands_at place x then Ok x else Err OperatorNotHere) ≡ Ok d → is_placed place d ≡ true
+read_if : (place : Place) (r : Result (Dep (List ℕ)) DepFault) (d : Dep (List ℕ)) → and_then r (λ x. if stands_at place x then Ok x else Err OperatorNotHere) ≡ Ok d → stands_at place d ≡ true
 read_if place (Ok x) d h = stands_if place x d (stands_at place x) refl h
 read_if place (Err e) d h = absurd (cc)
 
 -- what a text gives at a place has such a form
 pub read_placed : (place : Place) (text : List ℕ) (d : Dep (List ℕ)) → dependency place text ≡ Ok d → is_placed place d ≡ true
-read_placed place text d h = read_if place (reading (words text)) d h
+read_placed place text d h =
+    let few : operators d ≤ 64 = few_operators place text d h in
+    let le : nat_le (operators d) most_operators ≡ true = grind (arith, nat_tests) in
+    stands_placed place d (read_if place (reading (words text)) d h) le
 
 -- each dependency of a package has a form that may stand at its place
 record IsFormed (a : WrittenPackage) : Type 0 where

@@ -1,6 +1,6 @@
 -- Dependencies have by their ids the forms that they have as they are written.
 use Rattle.std.proofs.Common.{◌≡◌, ℕ, Bool, true, false, List, [], ◌∷◌, ◌++◌, map, drop, length, Option, Some, None, Result, Ok, Err, refl, sym, ap, ◌∙◌, add-one}
-use Rattle.std.specs.Prelude.{◌&&◌, nat_le, is_some, slice_get, option_map, unwrap_or, IfOk, IsOkAnd}
+use Rattle.std.specs.Prelude.{◌&&◌, ◌||◌, nat_le, is_some, slice_get, option_map, unwrap_or, IfOk, IsOkAnd}
 use Rattle.std.specs.List.{list_all}
 use Rattle.std.proofs.lemmas.List.{map-append}
 use Rattle.std.proofs.Math.Seq.{drop-append_seam}
@@ -9,14 +9,14 @@ use Rattle.solv_base.specs.Places.{fits_place, unconditional}
 use Rattle.solv_base.specs.Pool.{Held, text_at, text_tree}
 use Rattle.solv_base.specs.declared.relation.DepNode.{DepNode}
 use Rattle.solv_base.specs.declared.relation.DepNode.TheVariants.{Simple, Versioned, Namespace, And, Or, With, Without, If, IfElse, Unless, UnlessElse}
-use Rattle.solv_deps.specs.Table.{is_capability, is_single}
+use Rattle.solv_deps.specs.Table.{is_capability}
 use Rattle.solv_pool.specs.Catalog.{Catalog, alone}
 use Rattle.solv_pool.specs.Contents.{Contents}
 use Rattle.solv_pool.specs.TaskForms.{most_operators, has_form, is_plain_form, is_formed}
 use Rattle.solv_pool.specs.Written.{WrittenNeed, written_package}
 use Rattle.solv_pool.specs.declared.packages.Need.{Need}
 use Rattle.solv_pool.specs.declared.packages.Package.{Package}
-use Rattle.solv_tags.specs.EntryForms.{stands_today, has_written_form, is_written_formed, is_single_relation, asks_for_singles}
+use Rattle.solv_tags.specs.EntryForms.{has_written_form, is_written_formed, is_unconditional, conflicts_unconditionally}
 use Rattle.solv_tags.specs.RepositoryReading.{IsTaken}
 use Rattle.solv_tags.specs.Testtags.{Repository}
 use Rattle.solv_tags.specs.declared.tag_fault.TagFault.{TagFault}
@@ -75,19 +75,6 @@ module _ (f : ℕ → List ℕ) where
   operators_mapped (unless_else a b c) = rw (operators_mapped a, operators_mapped b, operators_mapped c) refl
   operators_mapped missing = refl
 
-  single_mapped : (d : Dep ℕ) → is_single (map_dep f d) ≡ is_single d
-  single_mapped (one c) = refl
-  single_mapped (namespace n) = refl
-  single_mapped (and a b) = refl
-  single_mapped (or a b) = refl
-  single_mapped (with a b) = refl
-  single_mapped (without a b) = refl
-  single_mapped (if_then a b) = refl
-  single_mapped (if_else a b c) = refl
-  single_mapped (unless a b) = refl
-  single_mapped (unless_else a b c) = refl
-  single_mapped missing = refl
-
   node_mapped : (at : ℕ → Dep ℕ) (node : DepNode) → is_capability (map_dep f (tree_of_node at node)) ≡ is_some (capability_of_node node)
   node_mapped at (Simple n) = refl
   node_mapped at (Versioned n c e) = refl
@@ -125,21 +112,22 @@ four_true a b c d h =
     (both_left a (b && (c && d)) h, both_left b (c && d) later, both_left c d last, both_right c d last)
 
 module _ (catalog : Catalog) where
-  -- a relation whose text has such a form has it, and is single
+  -- a relation whose text has such a form has it, and at a conflict no condition
   written_form : (at : Bool) (d : ℕ) → has_written_form at (text_tree catalog.pool d) ≡ true → has_form catalog at d ≡ true
   unfolding text_tree
   written_form at d h =
       let f = text_at catalog.pool in
       let t = tree catalog.pool.nodes d in
       let own : (fits_place at (map_dep f t) && nat_le (operators (map_dep f t)) most_operators) ≡ has_form catalog at d = rw (fits_mapped f at t, operators_mapped f t) refl in
-      sym own ∙ both_right (stands_today (map_dep f t)) (fits_place at (map_dep f t) && nat_le (operators (map_dep f t)) most_operators) h
+      sym own ∙ both_left (fits_place at (map_dep f t) && nat_le (operators (map_dep f t)) most_operators) (at || unconditional (map_dep f t)) h
 
-  written_single : (at : Bool) (d : ℕ) → has_written_form at (text_tree catalog.pool d) ≡ true → is_single_relation catalog d ≡ true
+  written_unconditional : (at : Bool) (d : ℕ) → has_written_form at (text_tree catalog.pool d) ≡ true → (at || is_unconditional catalog d) ≡ true
   unfolding text_tree
-  written_single at d h =
+  written_unconditional at d h =
       let f = text_at catalog.pool in
       let t = tree catalog.pool.nodes d in
-      sym (single_mapped f t) ∙ both_left (stands_today (map_dep f t)) (fits_place at (map_dep f t) && nat_le (operators (map_dep f t)) most_operators) h
+      ap (λ b. at || b) (sym (unconditional_mapped f t))
+      ∙ both_right (fits_place at (map_dep f t) && nat_le (operators (map_dep f t)) most_operators) (at || unconditional (map_dep f t)) h
 
   pub written_plain : (d : ℕ) → is_capability (text_tree catalog.pool d) ≡ is_plain_form catalog d
   unfolding text_tree
@@ -186,7 +174,7 @@ module _ (catalog : Catalog) where
     weak_pass : list_all (p true) (a.recommends ++ (a.suggests ++ (a.supplements ++ a.enhances))) ≡ true
     weak_pass = all_from (p true) (has_written_form true) (text_tree catalog.pool) (from true) (a.recommends ++ (a.suggests ++ (a.supplements ++ a.enhances))) parts.weak
 
-  -- a package whose text has such forms has them, and asks for single relations
+  -- a package whose text has such forms has them, and conflicts with nothing that has a condition
   formed : (a : Package) → is_written_formed (written_package catalog.pool a) ≡ true → is_formed catalog a ≡ true
   formed a h =
       let parts = parts_of a h in
@@ -194,18 +182,15 @@ module _ (catalog : Catalog) where
       let form : (at : Bool) (d : ℕ) → has_written_form at (text_tree catalog.pool d) ≡ true → has_form catalog at d ≡ true = written_form in
       rw (needs_pass (has_form catalog) form a parts, conflicts_pass (has_form catalog) form a parts, plain, weak_pass (has_form catalog) form a parts) refl
 
-  single : (a : Package) → is_written_formed (written_package catalog.pool a) ≡ true → asks_for_singles catalog a ≡ true
-  single a h =
-      let parts = parts_of a h in
-      let p : Bool → ℕ → Bool = λ at d. is_single_relation catalog d in
-      rw (needs_pass p written_single a parts, conflicts_pass p written_single a parts, weak_pass p written_single a parts) refl
+  free : (a : Package) → is_written_formed (written_package catalog.pool a) ≡ true → conflicts_unconditionally catalog a ≡ true
+  free a h = let p : Bool → ℕ → Bool = λ at d. at || is_unconditional catalog d in conflicts_pass p written_unconditional a (parts_of a h)
 
   -- so do packages
   pub all_formed : (packages : List Package) → list_all is_written_formed (map (written_package catalog.pool) packages) ≡ true → list_all (is_formed catalog) packages ≡ true
   all_formed packages h = all_from (is_formed catalog) is_written_formed (written_package catalog.pool) formed packages h
 
-  pub all_single : (packages : List Package) → list_all is_written_formed (map (written_package catalog.pool) packages) ≡ true → list_all (asks_for_singles catalog) packages ≡ true
-  all_single packages h = all_from (asks_for_singles catalog) is_written_formed (written_package catalog.pool) single packages h
+  pub all_free : (packages : List Package) → list_all is_written_formed (map (written_package catalog.pool) packages) ≡ true → list_all (conflicts_unconditionally catalog) packages ≡ true
+  all_free packages h = all_from (conflicts_unconditionally catalog) is_written_formed (written_package catalog.pool) free packages h
 
 -- the packages that were added have such forms in their text where what was read has
 taken_text : (given : Result Repository TagFault) (pool : Held) (old new : Contents) → IfOk given (λ r. list_all is_written_formed r.packages ≡ true) → IsOkAnd given (λ r. IsTaken r pool old new)
@@ -219,11 +204,11 @@ taken_text (Ok r) pool old new formed taken =
     ∙ ap (list_all is_written_formed) taken.packages.texts
     ∙ formed
 
--- so they have them, and ask for single relations
+-- so they have them, and conflict with nothing that has a condition
 pub taken_formed : (given : Result Repository TagFault) (pool : Held) (old new : Contents) → IfOk given (λ r. list_all is_written_formed r.packages ≡ true) → IsOkAnd given (λ r. IsTaken r pool old new)
     → list_all (is_formed (alone pool new)) (drop (length old.packages) new.packages) ≡ true
 taken_formed given pool old new formed taken = all_formed (alone pool new) (drop (length old.packages) new.packages) (taken_text given pool old new formed taken)
 
-pub taken_single : (given : Result Repository TagFault) (pool : Held) (old new : Contents) → IfOk given (λ r. list_all is_written_formed r.packages ≡ true) → IsOkAnd given (λ r. IsTaken r pool old new)
-    → list_all (asks_for_singles (alone pool new)) (drop (length old.packages) new.packages) ≡ true
-taken_single given pool old new formed taken = all_single (alone pool new) (drop (length old.packages) new.packages) (taken_text given pool old new formed taken)
+pub taken_free : (given : Result Repository TagFault) (pool : Held) (old new : Contents) → IfOk given (λ r. list_all is_written_formed r.packages ≡ true) → IsOkAnd given (λ r. IsTaken r pool old new)
+    → list_all (conflicts_unconditionally (alone pool new)) (drop (length old.packages) new.packages) ≡ true
+taken_free given pool old new formed taken = all_free (alone pool new) (drop (length old.packages) new.packages) (taken_text given pool old new formed taken)

@@ -1,23 +1,19 @@
 -- Which forms the dependencies of packages have that a testtags file gives, each at its place.
-use Rattle.std.specs.Prelude.{ℕ, Bool, ◌≡◌, ◌&&◌, true, false, List, ◌++◌, nat_le, Ok}
+use Rattle.std.specs.Prelude.{ℕ, Bool, ◌≡◌, ◌&&◌, ◌||◌, true, false, List, ◌++◌, nat_le, Ok}
 use Rattle.std.specs.List.{list_all}
 use Rattle.solv_base.specs.Dependency.{Dep, operators}
-use Rattle.solv_base.specs.Places.{fits_place}
+use Rattle.solv_base.specs.Places.{fits_place, unconditional}
 use Rattle.solv_base.specs.Pool.{Held}
-use Rattle.solv_deps.specs.Table.{is_capability, is_single}
+use Rattle.solv_deps.specs.Table.{is_capability}
 use Rattle.solv_pool.specs.Catalog.{Catalog, dependency}
 use Rattle.solv_pool.specs.TaskForms.{most_operators}
 use Rattle.solv_pool.specs.Written.{WrittenPackage}
 use Rattle.solv_pool.specs.declared.packages.Package.{Package}
 use Rattle.solv_tags.specs.Testtags.{Repository, testtags}
 
--- stands today where a package asks for something: the table in force has no operator there yet
-abbrev pub stands_today : Dep (List ℕ) → Bool
-stands_today = is_single
-
--- stands today, and may stand at a requirement (true), or at a conflict (false), with at most so many operators as a dependency may have
+-- may stand at a requirement (true), or at a conflict (false), where nothing has a condition, with at most so many operators as a dependency may have
 abbrev pub has_written_form : Bool → Dep (List ℕ) → Bool
-has_written_form at d = stands_today d && (fits_place at d && nat_le (operators d) most_operators)
+has_written_form at d = (fits_place at d && nat_le (operators d) most_operators) && (at || unconditional d)
 
 -- each dependency of a package has a form that may stand at its place
 abbrev pub is_written_formed : WrittenPackage → Bool
@@ -31,15 +27,12 @@ is_written_formed a =
 abbrev pub EntriesHaveForms : Type 0
 EntriesHaveForms = (held : Held) (before repo : ℕ) (lines : List (ℕ × List ℕ)) (r : Repository) → testtags held before repo lines ≡ Ok r → list_all is_written_formed r.packages ≡ true
 
--- what packages ask for, by the ids of a pool
+-- what packages conflict with, by the ids of a pool
 module _ (catalog : Catalog) where
-  -- the relation is simple, versioned or a namespace
-  abbrev pub is_single_relation : ℕ → Bool
-  is_single_relation d = is_single (dependency catalog d)
+  -- the relation has no condition
+  abbrev pub is_unconditional : ℕ → Bool
+  is_unconditional d = unconditional (dependency catalog d)
 
-  -- so is whatever a package requires, conflicts with, recommends, suggests, supplements or enhances
-  abbrev pub asks_for_singles : Package → Bool
-  asks_for_singles a =
-      list_all (λ need. is_single_relation need.dep) a.requires_
-      && (list_all is_single_relation a.conflicts
-      && list_all is_single_relation (a.recommends ++ (a.suggests ++ (a.supplements ++ a.enhances))))
+  -- so it is with whatever a package conflicts with
+  abbrev pub conflicts_unconditionally : Package → Bool
+  conflicts_unconditionally a = list_all is_unconditional a.conflicts

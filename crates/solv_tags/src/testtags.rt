@@ -6,7 +6,7 @@ ghost use Rattle.solv_pool.specs.Belonging.{IsOver};
 ghost use Rattle.solv_pool.specs.Catalog.{alone};
 ghost use Rattle.solv_pool.specs.TaskForms.{is_formed};
 ghost use Rattle.solv_io.specs.Lines.{numbered_lines};
-ghost use Rattle.solv_tags.specs.EntryForms.{asks_for_singles};
+ghost use Rattle.solv_tags.specs.EntryForms.{conflicts_unconditionally};
 ghost use Rattle.solv_tags.specs.RepositoryReading.{IsTaken, IsTagRefusal, HasOneForm};
 ghost use Rattle.solv_tags.specs.TagReading.{IsReading, HasMore, IsReadTo, tagged_of};
 ghost use Rattle.solv_tags.specs.Testtags.{testtags_file, lines_read};
@@ -73,8 +73,7 @@ fn read_all(
 
 /// Reads a testtags file, the packages of a repository, into a universe: its packages stand behind the others, or the first
 /// bad line is refused and the universe is as before. Each dependency of the packages that are added has a form that may
-/// stand at its place, and whatever they ask for is simple, versioned or a namespace. After a refusal the pool may hold more
-/// than before.
+/// stand at its place, and what they conflict with has no condition. After a refusal the pool may hold more than before.
 pub fn read_testtags(
     pool: &mut Pool,
     universe: &mut Universe,
@@ -86,7 +85,7 @@ pub fn read_testtags(
     ensures read { OnOk result (IsOkAnd (testtags_file pool.old (length universe.old.packages) repo bytes.now) (λ r. IsTaken r pool.new universe.old universe.new)) }
     ensures over { OnOk result (IsOver pool.new universe.new) }
     ensures forms { OnOk result (list_all (is_formed (alone pool.new universe.new)) (drop (length universe.old.packages) universe.new.packages) ≡ true) }
-    ensures singly { OnOk result (list_all (asks_for_singles (alone pool.new universe.new)) (drop (length universe.old.packages) universe.new.packages) ≡ true) }
+    ensures unconditional { OnOk result (list_all (conflicts_unconditionally (alone pool.new universe.new)) (drop (length universe.old.packages) universe.new.packages) ≡ true) }
     ensures refused { IfErr result (λ fault. IsTagRefusal fault (testtags_file pool.old (length universe.old.packages) repo bytes.now)) }
     ensures form { IfErr result (λ fault. HasOneForm fault.cause) }
     ensures unchanged { OnErr result (universe.new ≡ universe.old) }

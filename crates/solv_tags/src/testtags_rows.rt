@@ -125,7 +125,8 @@ pub fn dependencies_that_are_bad()
     ensures operator { given_after_a (codes "=Req: b c") ≡ bad 2 (Dep BadOperator) }
     ensures mixed { given_after_a (codes "=Req: b & c | d") ≡ bad 2 (Dep MixedOperators) }
     ensures parenthesis { given_after_a (codes "=Con: (b") ≡ bad 2 (Dep UnclosedParenthesis) }
-    ensures rich { given_after_a (codes "=Req: b & c") ≡ bad 2 (Dep OperatorNotHere) }
+    ensures rich { given_after_a (codes "=Req: b + (c & d)") ≡ bad 2 (Dep OperatorNotHere) }
+    ensures condition { given_after_a (codes "=Con: b <IF> c") ≡ bad 2 (Dep OperatorNotHere) }
     ensures rich_provide { given_after_a (codes "=Prv: b | c") ≡ bad 2 (Dep OperatorNotHere) }
     ensures namespace_provide { given_after_a (codes "=Prv: namespace:language(de)") ≡ bad 2 (Dep OperatorNotHere) }
     ensures namespace_obsolete { given_after_a (codes "=Obs: namespace:language(de)") ≡ bad 2 (Dep OperatorNotHere) }
