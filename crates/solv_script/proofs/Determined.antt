@@ -1,6 +1,6 @@
 -- A task that names what its pool holds is determined by how it is written.
-use Rattle.std.proofs.Common.{◌≡◌, ℕ, ◌<◌, Bool, true, List, [], ◌∷◌, ◌++◌, map, length, Option, Some, None, refl, sym, ap, subst, ◌∙◌}
-use Rattle.std.specs.Prelude.{nat_lt, nat_le, ◌&&◌, option_to_list}
+use Rattle.std.proofs.Common.{◌≡◌, ℕ, Bool, true, List, [], ◌∷◌, map, length, Option, Some, None, refl, sym, ap, subst, ◌∙◌}
+use Rattle.std.specs.Prelude.{nat_lt, nat_le, option_to_list}
 use Rattle.std.specs.List.{list_all}
 use Rattle.std.specs.Option.{option_map}
 use Rattle.std.proofs.lemmas.Bool.{ltb-true}
@@ -9,9 +9,7 @@ use Rattle.solv_base.proofs.Identity.{texts_differ, trees_differ}
 use Rattle.solv_pool.specs.Belonging.{fits}
 use Rattle.solv_pool.specs.TaskBelonging.{IsClosed, choice_fits, line_fits}
 use Rattle.solv_pool.specs.Written.{WrittenNeed, WrittenTask, written_repo, written_package, written_choice, written_job, written_task}
-use Rattle.solv_pool.specs.declared.jobs.Choice.{Choice}
 use Rattle.solv_pool.specs.declared.jobs.Choice.TheVariants.{Pkg, Name, Provides, OneOf, All, Nothing}
-use Rattle.solv_pool.specs.declared.jobs.Job.{Job}
 use Rattle.solv_pool.specs.declared.packages.Need.{Need}
 use Rattle.solv_pool.specs.declared.packages.Package.{Package}
 use Rattle.solv_pool.specs.declared.packages.Repo.{Repo}
@@ -21,7 +19,6 @@ use Rattle.solv_script.specs.Readings.{written_check}
 use Rattle.solv_script.specs.Reads.{WrittenCheck, WrittenScript, written_script}
 use Rattle.solv_script.specs.ScriptsOf.{IsScriptOf, ScriptsAreDetermined}
 use Rattle.solv_script.specs.States.{State}
-use Rattle.solv_script.specs.declared.scripts.EvrCheck.{EvrCheck}
 use Rattle.solv_script.specs.declared.scripts.Script.{Script}
 use Rattle.solv_script.proofs.TaskGrowth.{written_line}
 use Rattle.solv_script.proofs.WrittenTexts.{fit_parts}

@@ -11,7 +11,7 @@ use Rattle.solv_commands.specs.Commands.{Command, command}
 use Rattle.solv_commands.specs.declared.causes.Cause.{Cause}
 use Rattle.solv_commands.specs.declared.causes.Cause.TheVariants.{Compressed, BadFileName}
 use Rattle.solv_script.specs.FileNames.{fetched_name, is_compressed}
-use Rattle.solv_script.specs.FileRuns.{FilesRun, AskedBesides, AreFetched, IsFront, bytes_in, Piece, HasFetched, HasGiven, IsRead, HasEnded, IsWant, IsReadFault, row_piece, lines_piece, script_piece}
+use Rattle.solv_script.specs.FileRuns.{FilesRun, AskedBesides, IsFront, bytes_in, Piece, HasFetched, HasGiven, IsRead, HasEnded, IsWant, IsReadFault, row_piece, lines_piece, script_piece}
 use Rattle.solv_script.specs.Grammar.{Bad, counted, done, asks, at_line, inline, with_lines, file_named, file_row, lines_row, command_row, said_row, row, fetched_given, script_read, script_due}
 use Rattle.solv_script.specs.Halts.{IsRefusal}
 use Rattle.solv_script.specs.Rows.{plain_row}

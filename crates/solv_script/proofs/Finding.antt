@@ -22,7 +22,7 @@ place_map p f (x ∷ xs) = ap (λ n. cond (not (p (f x))) (1 + n) 0) (place_map 
 position_map : {X Y : Type 0} (p : Y → Bool) (f : X → Y) (xs : List X) → position p (map f xs) ≡ position (λ x. p (f x)) xs
 position_map p f xs = rw (place_map p f xs, length-map xs f) refl
 
-find_same : {X : Type 0} (p q : X → Bool) → ((x : X) → p x ≡ q x) → (xs : List X) → find p xs ≡ find q xs
+pub find_same : {X : Type 0} (p q : X → Bool) → ((x : X) → p x ≡ q x) → (xs : List X) → find p xs ≡ find q xs
 find_same p q same [] = refl
 find_same p q same (x ∷ xs) = rw (same x, find_same p q same xs) refl
 
@@ -52,7 +52,7 @@ module _ (task : Task) where
   text_is : (a : Package) → text_of (written_task task) (written_package task.pool a) ≡ written task.pool task.universe a
   text_is a = rw (repo_text_is a.repo) refl
 
-  number_text : (p : ℕ) → text_of_number (written_task task) p ≡ package_text task.pool task.universe p
+  pub number_text : (p : ℕ) → text_of_number (written_task task) p ≡ package_text task.pool task.universe p
   number_text zero = refl
   number_text (suc k) =
       ap (λ (o : Option WrittenPackage). option_map_or (text_of (written_task task)) o []) (slice_get-map (written_package task.pool) task.universe.packages k)

@@ -22,11 +22,11 @@ use Rattle.solv_pool.specs.declared.tasks.Task.{Task}
 use Rattle.solv_commands.specs.Commands.{Asked, pkg, by_name, by_provides, one_of, all, nothing, joined}
 use Rattle.solv_commands.specs.declared.causes.Cause.{Cause}
 use Rattle.solv_commands.specs.declared.causes.Cause.TheVariants.{UnknownPackage}
-use Rattle.solv_tags.specs.EntryForms.{is_written_formed, asks_for_singles}
+use Rattle.solv_tags.specs.EntryForms.{is_written_formed, conflicts_unconditionally}
 use Rattle.solv_tags.specs.Testtags.{Repository, testtags}
 use Rattle.solv_tags.specs.declared.tag_fault.TagFault.{TagFault}
 use Rattle.solv_tags.proofs.EntriesFormed.{read_placed, entries_formed}
-use Rattle.solv_tags.proofs.FormsById.{same_all, written_plain, all_formed, all_single}
+use Rattle.solv_tags.proofs.FormsById.{same_all, written_plain, all_formed, all_free}
 use Rattle.solv_tags.proofs.Staying.{all_both}
 use Rattle.solv_script.specs.Grammar.{repository_given}
 use Rattle.solv_script.specs.Rows.{and_then, or_cause, or_text_cause, with_repo, package_numbers, namespace_row, Chosen, no_system, one_package, by_dependency, chosen, job_row}
@@ -124,6 +124,6 @@ task_forms task f =
       jobs = sym (same_all {X = Job} {Y = WrittenJob} (λ job. is_formed_choice catalog job.choice) (λ job. is_written_choice job.choice) (written_job task.pool) (λ job. choice_form catalog job.choice) task.jobs) ∙ f.jobs;
     }
 
--- and its packages ask for single relations
-pub task_singly : (task : Task) → HasWrittenForms (written_task task) → list_all (asks_for_singles (catalog_of task)) task.universe.packages ≡ true
-task_singly task f = all_single (catalog_of task) task.universe.packages f.packages
+-- and what its packages conflict with has no condition
+pub task_free : (task : Task) → HasWrittenForms (written_task task) → list_all (conflicts_unconditionally (catalog_of task)) task.universe.packages ≡ true
+task_free task f = all_free (catalog_of task) task.universe.packages f.packages

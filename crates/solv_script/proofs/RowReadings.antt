@@ -1,5 +1,5 @@
 -- What a reader does at a line is what the line gives.
-use Rattle.std.proofs.Common.{◌≡◌, ℕ, zero, suc, ◌<◌, ◌≤◌, ◌-◌, ◌+◌, Bool, true, false, List, [], ◌∷◌, ◌++◌, map, length, Option, Some, None, Result, Ok, Err, refl, sym, ap, ◌∙◌, arith}
+use Rattle.std.proofs.Common.{◌≡◌, ℕ, zero, suc, ◌<◌, ◌≤◌, ◌-◌, ◌+◌, Bool, true, false, List, [], ◌∷◌, ◌++◌, map, length, Option, Some, None, Result, Ok, Err, refl, sym, ap, subst, ◌∙◌, arith}
 use Rattle.std.specs.Prelude.{ℤ, codes, not, is_some, slice_set, nat_le, nat_lt, IsOkAnd, IfOk}
 use Rattle.std.proofs.lemmas.Bool.Decides.{nat_tests}
 use Rattle.std.specs.List.{list_all}
@@ -30,6 +30,7 @@ use Rattle.solv_tags.specs.EntryForms.{is_written_formed}
 use Rattle.solv_tags.specs.RepositoryReading.{IsTaken}
 use Rattle.solv_tags.specs.Testtags.{Repository, testtags}
 use Rattle.solv_tags.specs.declared.tag_fault.TagFault.{TagFault}
+use Rattle.solv_script.specs.Finders.{IsFinder}
 use Rattle.solv_script.specs.Grammar.{most_file, most_script, counted, with_lines, repository_given}
 use Rattle.solv_script.specs.Halts.{IsHalt, halt_of_text}
 use Rattle.solv_script.specs.Readings.{IsReader, HasRead, state_of, written_check}
@@ -37,6 +38,7 @@ use Rattle.solv_script.specs.Rows.{and_then, or_text_cause, with_repo, arch_name
 use Rattle.solv_script.specs.States.{State, package_number}
 use Rattle.solv_script.specs.WrittenForms.{HasWrittenForms}
 use Rattle.solv_script.specs.declared.scripts.EvrCheck.{EvrCheck}
+use Rattle.solv_script.specs.declared.whole.finder.Finder.{Finder}
 use Rattle.solv_script.specs.declared.whole.halts.Halt.{Halt}
 use Rattle.solv_script.specs.declared.whole.halts.Halt.TheVariants as halt
 use Rattle.solv_script.specs.declared.whole.reader.Reader.{Reader}
@@ -94,14 +96,14 @@ module _ (r : Reader) (reader : IsReader r) where
 
   -- one more repository
   pub repo_read : (name : List ℕ) (priority : ℤ) (id : ℕ) (pool : Held) → is_some (repo_found r.task.pool r.task.universe name) ≡ false → Grows r.task.pool pool
-      → text_entered name r.task.pool ≡ Ok (record { id = id; held = pool }) → text_at pool id ≡ name → id < length pool.names
-      → HasRead (record r { task = record r.task { pool = pool; universe = record r.task.universe { repos = r.task.universe.repos ++ record { name = id; priority = priority } ∷ [] } } })
+      → text_entered name r.task.pool ≡ Ok (record { id = id; held = pool }) → text_at pool id ≡ name → id < length pool.names → (finder : Finder) → ((task : WrittenTask) → IsFinder task finder)
+      → HasRead (record r { task = record r.task { pool = pool; universe = record r.task.universe { repos = r.task.universe.repos ++ record { name = id; priority = priority } ∷ [] } }; finder = finder })
       (with_repo (state_of r) name priority)
   unfolding state_of
-  repo_read name priority id pool free grows entered text within =
+  repo_read name priority id pool free grows entered text within finder any =
       let one : Repo = record { name = id; priority = priority } in
       let same = stays r.task reader.closed pool grows in
-      let new : Reader = record r { task = record r.task { pool = pool; universe = record r.task.universe { repos = r.task.universe.repos ++ one ∷ [] } } } in
+      let new : Reader = record r { task = record r.task { pool = pool; universe = record r.task.universe { repos = r.task.universe.repos ++ one ∷ [] } }; finder = finder } in
       let is : with_repo (state_of r) name priority ≡ Ok (state_of new)
       = rw (
         ap is_some (place_is r.task name) ∙ free,
@@ -120,6 +122,7 @@ module _ (r : Reader) (reader : IsReader r) where
           forms = given_forms (with_repo (state_of r) name priority) (state_of new) is (repo_forms (state_of r) reader.forms name priority);
           system = reader.system;
           bytes = reader.bytes;
+          finder = any (written_task new.task);
         };
       }
 
@@ -155,7 +158,7 @@ module _ (r : Reader) (reader : IsReader r) where
   unfolding state_of
   system_read name type arch word installed none named rpm set = record {
     is = rw (sym reader.system ∙ none, named, rpm) set;
-    reader = record { closed = closed_system r.task reader.closed (Some arch) installed; forms = record { packages = reader.forms.packages; jobs = reader.forms.jobs }; system = refl; bytes = reader.bytes };
+    reader = record { closed = closed_system r.task reader.closed (Some arch) installed; forms = record { packages = reader.forms.packages; jobs = reader.forms.jobs }; system = refl; bytes = reader.bytes; finder = reader.finder };
   }
 
   -- a flag is unknown
@@ -166,7 +169,7 @@ module _ (r : Reader) (reader : IsReader r) where
   -- flags are set and cleared
   pub flags_read : (words : List (List ℕ)) (flags : Flags) → with_words words r.task.flags ≡ Some flags → HasRead (record r { task = record r.task { flags = flags } }) (flags_row (state_of r) words)
   unfolding state_of
-  flags_read words flags h = record { is = rw h refl; reader = record { closed = closed_flags r.task reader.closed flags; forms = record { packages = reader.forms.packages; jobs = reader.forms.jobs }; system = reader.system; bytes = reader.bytes } }
+  flags_read words flags h = record { is = rw h refl; reader = record { closed = closed_flags r.task reader.closed flags; forms = record { packages = reader.forms.packages; jobs = reader.forms.jobs }; system = reader.system; bytes = reader.bytes; finder = reader.finder } }
 
   -- one more comparison
   pub check_read : (check : EvrCheck) (left : List ℕ) (op : Cmp) (right : List ℕ) → written_check check ≡ record { left = left; op = op; right = right }
@@ -174,7 +177,7 @@ module _ (r : Reader) (reader : IsReader r) where
   unfolding state_of
   check_read check left op right h = record {
     is = rw (map-append written_check r.checks (check ∷ []), h) refl;
-    reader = record { closed = reader.closed; forms = reader.forms; system = reader.system; bytes = reader.bytes };
+    reader = record { closed = reader.closed; forms = reader.forms; system = reader.system; bytes = reader.bytes; finder = reader.finder };
   }
 
   -- no package is disabled
@@ -187,13 +190,13 @@ module _ (r : Reader) (reader : IsReader r) where
   disable_system word h = rw h refl
 
   -- a package is disabled
-  pub disable_read : (word : List ℕ) (p : ℕ) → 0 < p → package_number (written_task r.task) word ≡ Some p
-      → HasRead (record r { task = record r.task { universe = record r.task.universe { disabled = slice_set r.task.universe.disabled (p - 1) true } } }) (disable_row (state_of r) word)
+  pub disable_read : (word : List ℕ) (p : ℕ) → 0 < p → package_number (written_task r.task) word ≡ Some p → (finder : Finder) → IsFinder (written_task r.task) finder
+      → HasRead (record r { task = record r.task { universe = record r.task.universe { disabled = slice_set r.task.universe.disabled (p - 1) true } }; finder = finder }) (disable_row (state_of r) word)
   unfolding state_of
-  disable_read word zero some h = absurd (omega arith)
-  disable_read word (suc k) some h = record {
+  disable_read word zero some h finder kept = absurd (omega arith)
+  disable_read word (suc k) some h finder kept = record {
     is = rw h (rw (less_one k) refl);
-    reader = record { closed = closed_disabled r.task reader.closed (slice_set r.task.universe.disabled (suc k - 1) true); forms = record { packages = reader.forms.packages; jobs = reader.forms.jobs }; system = reader.system; bytes = reader.bytes };
+    reader = record { closed = closed_disabled r.task reader.closed (slice_set r.task.universe.disabled (suc k - 1) true); forms = record { packages = reader.forms.packages; jobs = reader.forms.jobs }; system = reader.system; bytes = reader.bytes; finder = kept };
   }
 
   -- the packages of a namespace line are refused, or its name
@@ -209,12 +212,12 @@ module _ (r : Reader) (reader : IsReader r) where
   -- one more namespace line
   pub namespace_read : (name : List ℕ) (words : List (List ℕ)) (packs : List ℕ) (id : ℕ) (pool : Held) → package_numbers (written_task r.task) words ≡ Ok packs
       → list_all (λ p. nat_le p (length r.task.universe.packages)) packs ≡ true → Grows r.task.pool pool
-      → text_entered name r.task.pool ≡ Ok (record { id = id; held = pool }) → text_at pool id ≡ name → id < length pool.names
-      → HasRead (record r { task = record r.task { pool = pool; namespaces = r.task.namespaces ++ (id, packs) ∷ [] } }) (namespace_row (state_of r) name words)
+      → text_entered name r.task.pool ≡ Ok (record { id = id; held = pool }) → text_at pool id ≡ name → id < length pool.names → (finder : Finder) → IsFinder (written_task r.task) finder
+      → HasRead (record r { task = record r.task { pool = pool; namespaces = r.task.namespaces ++ (id, packs) ∷ [] }; finder = finder }) (namespace_row (state_of r) name words)
   unfolding state_of
-  namespace_read name words packs id pool there within_packs grows entered text within =
+  namespace_read name words packs id pool there within_packs grows entered text within finder kept =
       let same = stays r.task reader.closed pool grows in
-      let new : Reader = record r { task = record r.task { pool = pool; namespaces = r.task.namespaces ++ (id, packs) ∷ [] } } in
+      let new : Reader = record r { task = record r.task { pool = pool; namespaces = r.task.namespaces ++ (id, packs) ∷ [] }; finder = finder } in
       let is : namespace_row (state_of r) name words ≡ Ok (state_of new)
       = rw (
         there,
@@ -233,6 +236,7 @@ module _ (r : Reader) (reader : IsReader r) where
           forms = given_forms (namespace_row (state_of r) name words) (state_of new) is (namespace_forms (state_of r) reader.forms name words);
           system = reader.system;
           bytes = reader.bytes;
+          finder = subst (λ (t : WrittenTask). IsFinder t finder) (sym same) kept;
         };
       }
 
@@ -245,12 +249,12 @@ module _ (r : Reader) (reader : IsReader r) where
   pub job_read : (action : Action) (asked : Asked) (forcebest : Bool) (text : List ℕ) (job : Job) (pool : Held)
       → chosen (written_task r.task) r.task.pool asked ≡ Ok (record { choice = written_choice pool job.choice; held = pool }) → Grows r.task.pool pool
       → choice_fits (length pool.nodes) (length r.task.universe.packages) job.choice ≡ true
-      → job.action ≡ action → job.forcebest ≡ forcebest → job.text ≡ text
-      → HasRead (record r { task = record r.task { pool = pool; jobs = r.task.jobs ++ job ∷ [] } }) (job_row (state_of r) action asked forcebest text)
+      → job.action ≡ action → job.forcebest ≡ forcebest → job.text ≡ text → (finder : Finder) → IsFinder (written_task r.task) finder
+      → HasRead (record r { task = record r.task { pool = pool; jobs = r.task.jobs ++ job ∷ [] }; finder = finder }) (job_row (state_of r) action asked forcebest text)
   unfolding state_of
-  job_read action asked forcebest text job pool choice grows fits action_is best_is text_is =
+  job_read action asked forcebest text job pool choice grows fits action_is best_is text_is finder kept =
       let same = stays r.task reader.closed pool grows in
-      let new : Reader = record r { task = record r.task { pool = pool; jobs = r.task.jobs ++ job ∷ [] } } in
+      let new : Reader = record r { task = record r.task { pool = pool; jobs = r.task.jobs ++ job ∷ [] }; finder = finder } in
       let is : job_row (state_of r) action asked forcebest text ≡ Ok (state_of new)
       = rw (
         choice,
@@ -270,19 +274,20 @@ module _ (r : Reader) (reader : IsReader r) where
           forms = given_forms (job_row (state_of r) action asked forcebest text) (state_of new) is (job_forms (state_of r) reader.forms action asked forcebest text);
           system = reader.system;
           bytes = reader.bytes;
+          finder = subst (λ (t : WrittenTask). IsFinder t finder) (sym same) kept;
         };
       }
 
   -- the packages of a repository's lines
   repository_given_read : (file : List ℕ) (pool : Held) (universe : Contents) (given : Result Repository TagFault) → Grows r.task.pool pool → IsOver pool universe
-      → IsOkAnd given (λ read. IsTaken read pool r.task.universe universe) → IfOk given (λ read. list_all is_written_formed read.packages ≡ true)
-      → HasRead (record r { task = record r.task { pool = pool; universe = universe } }) (repository_given (state_of r) file given)
+      → IsOkAnd given (λ read. IsTaken read pool r.task.universe universe) → IfOk given (λ read. list_all is_written_formed read.packages ≡ true) → (finder : Finder) → ((task : WrittenTask) → IsFinder task finder)
+      → HasRead (record r { task = record r.task { pool = pool; universe = universe }; finder = finder }) (repository_given (state_of r) file given)
   unfolding state_of
-  repository_given_read file pool universe (Err fault) grows over taken formed = absurd taken
-  repository_given_read file pool universe (Ok read) grows over taken formed =
+  repository_given_read file pool universe (Err fault) grows over taken formed finder any = absurd taken
+  repository_given_read file pool universe (Ok read) grows over taken formed finder any =
       let same = stays r.task reader.closed pool grows in
       let more = taken.packages in
-      let new : Reader = record r { task = record r.task { pool = pool; universe = universe } } in
+      let new : Reader = record r { task = record r.task { pool = pool; universe = universe }; finder = finder } in
       let is : repository_given (state_of r) file (Ok read) ≡ Ok (state_of new)
       = rw (
         more.universe,
@@ -302,6 +307,7 @@ module _ (r : Reader) (reader : IsReader r) where
           closed = closed_packages (record r.task { pool = pool }) (closed_grown r.task reader.closed pool grows) universe more.added over (ap (λ (u : Contents). u.packages) more.universe);
           system = rw more.universe reader.system;
           bytes = reader.bytes;
+          finder = any (written_task new.task);
         };
       }
     where
@@ -318,11 +324,11 @@ module _ (r : Reader) (reader : IsReader r) where
       rw (place, count) refl
 
   pub repository_read : (file : List ℕ) (lines : List (ℕ × List ℕ)) (repo : ℕ) (pool : Held) (universe : Contents) → repo + 1 ≡ length r.task.universe.repos → Grows r.task.pool pool → IsOver pool universe
-      → IsOkAnd (testtags r.task.pool (length r.task.universe.packages) repo lines) (λ read. IsTaken read pool r.task.universe universe)
-      → HasRead (record r { task = record r.task { pool = pool; universe = universe } }) (with_lines (state_of r) file lines)
-  repository_read file lines repo pool universe last grows over taken =
+      → IsOkAnd (testtags r.task.pool (length r.task.universe.packages) repo lines) (λ read. IsTaken read pool r.task.universe universe) → (finder : Finder) → ((task : WrittenTask) → IsFinder task finder)
+      → HasRead (record r { task = record r.task { pool = pool; universe = universe }; finder = finder }) (with_lines (state_of r) file lines)
+  repository_read file lines repo pool universe last grows over taken finder any =
       rw (lines_there file lines repo last) (repository_given_read file pool universe (testtags r.task.pool (length r.task.universe.packages) repo lines) grows over taken
-      (packages_forms r.task.pool (length r.task.universe.packages) repo lines))
+      (packages_forms r.task.pool (length r.task.universe.packages) repo lines) finder any)
 
 -- the bytes of one more file
 pub sizes_over : (r : Reader) (size : ℕ) → size ≤ 67108864 → 268435456 < r.bytes + size → counted (state_of r) size ≡ Err ScriptTooLong
@@ -337,4 +343,4 @@ unfolding state_of
 size_counted r reader size fits under =
     let one : nat_lt most_file size ≡ false = grind (arith, nat_tests) in
     let all : nat_lt most_script (r.bytes + size) ≡ false = grind (arith, nat_tests) in
-    record { is = rw (one, all) refl; reader = record { closed = reader.closed; forms = reader.forms; system = reader.system; bytes = under } }
+    record { is = rw (one, all) refl; reader = record { closed = reader.closed; forms = reader.forms; system = reader.system; bytes = under; finder = reader.finder } }

@@ -1,20 +1,22 @@
 -- An index of packages by their texts, package by package.
-use Rattle.std.proofs.Common.{◌≡◌, ℕ, zero, suc, ◌+◌, ◌<◌, ◌≤◌, Bool, true, false, List, [], ◌∷◌, ◌++◌, length, cond, Option, Some, None, refl, sym, ap, subst, ◌∙◌, arith, rules, inl, inr, add-zero, length-append}
-use Rattle.std.specs.Prelude.{find, slice_get, codes, not, ◌||◌, IfOk, Result, Ok, Err}
-use Rattle.std.specs.List.{range_with_len, list_any}
+use Rattle.std.proofs.Common.{◌≡◌, ℕ, zero, suc, ◌+◌, ◌<◌, Bool, true, false, List, [], ◌∷◌, ◌++◌, length, cond, Option, Some, None, refl, sym, ap, subst, ◌∙◌, arith, inl, inr, add-zero, length-append}
+use Rattle.std.specs.Prelude.{find, slice_get, codes, ◌||◌, IfOk, Result, Ok, Err}
+use Rattle.std.specs.List.{range_with_len}
 use Rattle.std.specs.Option.{option_or}
 use Rattle.std.specs.Str.{bytes_eq}
+use Rattle.std.proofs.lemmas.List.{length-map}
 use Rattle.std.proofs.lemmas.List.Folds.{find-append, list_any-append}
 use Rattle.std.proofs.lemmas.Slice.Eq.{bytes_eq-Decides}
 use Rattle.solv_base.specs.Pool.{is_name, name_id, with_name}
 use Rattle.solv_base.proofs.Names.{id_of_new}
 use Rattle.solv_base.proofs.Places.{at_place, before_end, at_end, within}
 use Rattle.solv_pool.specs.PackageText.{package_text}
-use Rattle.solv_pool.specs.Written.{written_task}
+use Rattle.solv_pool.specs.Written.{written_task, written_package}
 use Rattle.solv_pool.specs.declared.tasks.Task.{Task}
+use Rattle.solv_script.specs.Finders.{texts_of}
 use Rattle.solv_script.specs.States.{package_number}
 use Rattle.solv_script.specs.TextIndexes.{IsTextIndex, lowest_to}
-use Rattle.solv_script.proofs.Finding.{number_is}
+use Rattle.solv_script.proofs.Finding.{number_is, number_text, find_same}
 
 range_last : (a n : ℕ) → range_with_len a (suc n) ≡ range_with_len a n ++ (a + n) ∷ []
 range_last a zero = ap (λ x. x ∷ []) (sym (add-zero a))
@@ -146,3 +148,36 @@ module _ (text : ℕ → List ℕ) (n : ℕ) (names : List (List ℕ)) (numbers 
 pub if_ok : {T E : Type 0} {P Q : T → Type 0} (r : Result T E) → ((x : T) → P x → Q x) → IfOk r P → IfOk r Q
 if_ok (Ok x) f h = f x h
 if_ok (Err e) f h = tt
+
+-- the same texts have the same index
+same_lowest : (f g : ℕ → List ℕ) → ((p : ℕ) → f p ≡ g p) → (n : ℕ) (word : List ℕ) → lowest_to f n word ≡ lowest_to g n word
+same_lowest f g same n word = find_same (λ p. bytes_eq word (f p)) (λ p. bytes_eq word (g p)) (λ p. ap (bytes_eq word) (same p)) (range_with_len 1 n)
+
+other_texts : (f g : ℕ → List ℕ) → ((p : ℕ) → f p ≡ g p) → (n : ℕ) (names : List (List ℕ)) (numbers : List ℕ) → IsTextIndex f n names numbers → IsTextIndex g n names numbers
+other_texts f g same n names numbers is = record {
+  each = is.each;
+  known = λ i word h. sym (same_lowest f g same n word) ∙ is.known i word h;
+  unknown = λ word h. sym (same_lowest f g same n word) ∙ is.unknown word h;
+}
+
+-- the texts of a task's packages, as they are held and as they are written
+module _ (task : Task) where
+  same_texts : (p : ℕ) → texts_of (written_task task).repos (written_task task).packages p ≡ package_text task.pool task.universe p
+  same_texts zero = number_text task zero
+  same_texts (suc k) = number_text task (suc k)
+
+  many : length (written_task task).packages ≡ length task.universe.packages
+  many = length-map task.universe.packages (written_package task.pool)
+
+  module _ (names : List (List ℕ)) (numbers : List ℕ) where
+    pub index_written : IsTextIndex (package_text task.pool task.universe) (length task.universe.packages) names numbers
+        → IsTextIndex (texts_of (written_task task).repos (written_task task).packages) (length (written_task task).packages) names numbers
+    index_written is =
+        subst (λ n. IsTextIndex (texts_of (written_task task).repos (written_task task).packages) n names numbers) (sym many)
+        (other_texts (package_text task.pool task.universe) (texts_of (written_task task).repos (written_task task).packages) (λ p. sym (same_texts p)) (length task.universe.packages) names numbers is)
+
+    pub index_held : IsTextIndex (texts_of (written_task task).repos (written_task task).packages) (length (written_task task).packages) names numbers
+        → IsTextIndex (package_text task.pool task.universe) (length task.universe.packages) names numbers
+    index_held is =
+        other_texts (texts_of (written_task task).repos (written_task task).packages) (package_text task.pool task.universe) same_texts (length task.universe.packages) names numbers
+        (subst (λ n. IsTextIndex (texts_of (written_task task).repos (written_task task).packages) n names numbers) many is)

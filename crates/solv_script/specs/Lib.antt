@@ -10,6 +10,7 @@ pub mod ScriptsOf
 pub mod FileRuns
 pub mod Readings
 pub mod TextIndexes
+pub mod Finders
 pub mod ScriptExamples
 pub mod WrittenForms
 pub mod LateLines

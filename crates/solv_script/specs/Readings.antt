@@ -3,6 +3,7 @@ use Rattle.std.specs.Prelude.{ℕ, ◌≡◌, ◌+◌, ◌≤◌, List, map, is_
 use Rattle.solv_io.specs.Lines.{lines_of}
 use Rattle.solv_pool.specs.TaskBelonging.{IsClosed}
 use Rattle.solv_pool.specs.Written.{written_task}
+use Rattle.solv_script.specs.Finders.{IsFinder}
 use Rattle.solv_script.specs.Grammar.{most_script}
 use Rattle.solv_script.specs.Reads.{WrittenCheck}
 use Rattle.solv_script.specs.ScriptLines.{ScriptLine, inline_lines}
@@ -25,6 +26,7 @@ pub record IsReader (r : Reader) : Type 0 where
   pub forms : HasWrittenForms (written_task r.task)
   pub system : r.has_system ≡ is_some r.task.universe.arch
   pub bytes : r.bytes ≤ most_script
+  pub finder : IsFinder (written_task r.task) r.finder
 
 -- a reader has read what gives this
 pub record HasRead {E : Type 0} (r : Reader) (given : Result State E) : Type 0 where

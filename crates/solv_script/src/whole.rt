@@ -4,19 +4,21 @@
 //!   `other_lines`; `rows` takes a line's command to one of them.
 //! - `files`: a repository's file, by `file_names`; `blocks`: a repository's inline lines.
 //! - `lines`: the lines of a script in turn.
-//! - `packages`, `choices`: what packages and dependencies of a line select; `text_index`: packages by their texts, for lines that name many. `halts`, `refusals`: why no more is read.
+//! - `packages`, `choices`: what packages and dependencies of a line select; `finder`: packages by their texts, with `text_index` where
+//!   many are looked for. `halts`, `refusals`: why no more is read.
 ghost use Rattle.std.specs.List.{list_all};
 ghost use Rattle.std.specs.Prelude.{◌≡◌, true, IfOk, IfErr};
 ghost use Rattle.solv_pool.specs.Catalog.{catalog_of};
 ghost use Rattle.solv_pool.specs.TaskBelonging.{IsClosed};
 ghost use Rattle.solv_pool.specs.TaskForms.{HasForms};
 ghost use Rattle.solv_script.specs.FileRuns.{script_piece, IsRead, HasEnded};
-ghost use Rattle.solv_tags.specs.EntryForms.{asks_for_singles};
+ghost use Rattle.solv_tags.specs.EntryForms.{conflicts_unconditionally};
 
 mod blocks;
 mod choices;
 mod file_names;
 mod files;
+mod finder;
 mod halts;
 mod job_lines;
 mod lines;
@@ -40,8 +42,7 @@ use std::alloc::Global;
 /// stands up to its last `/`, is put before each file's name that does not begin with `/`. A refusal at a line of the script,
 /// inline lines included, carries this name, and one at a line of another file the name by which that file was fetched.
 ///
-/// Each dependency of the task has a form that may stand at its place, and whatever its packages ask for is simple, versioned
-/// or a namespace.
+/// Each dependency of the task has a form that may stand at its place, and what its packages conflict with has no condition.
 ///
 /// The first bad line is refused, and nothing is asked for behind it. A file that cannot be read ends the reading, and so does
 /// want of memory, which may come at any line.
@@ -56,7 +57,7 @@ pub fn read_script<F: Files>(
         script) }
     ensures closed { IfOk result (λ script. IsClosed script.task) }
     ensures forms { IfOk result (λ script. HasForms script.task) }
-    ensures singly { IfOk result (λ script. list_all (asks_for_singles (catalog_of script.task)) script.task.universe.packages ≡ true) }
+    ensures unconditional { IfOk result (λ script. list_all (conflicts_unconditionally (catalog_of script.task)) script.task.universe.packages ≡ true) }
     ensures ended { IfErr result (λ fault. HasEnded (script_piece name.now bytes.now)
         (record { contents = F.contents files.old; asked_before = F.asked files.old; asked_after = F.asked files.new; faults_before = F.faults files.old; faults_after = F.faults files.new })
         fault) }

@@ -33,6 +33,7 @@ impl Reader {
         ensures ok { OnOk result (HasRead self.new (with_lines (state_of self.old) script.now (inline_lines (line + 1) (lines_of behind.now)))) }
         ensures refused { IfErr result (λ fault. IsRefusal fault (with_lines (state_of self.old) script.now (inline_lines (line + 1) (lines_of behind.now)))) }
     {
+        self.finder.forget();
         match read_block(
             &mut self.task.pool,
             &mut self.task.universe,
@@ -52,6 +53,7 @@ impl Reader {
         ensures ok { OnOk result (HasRead self.new (with_lines (state_of self.old) file.now (numbered_lines bytes.now))) }
         ensures refused { IfErr result (λ fault. IsRefusal fault (with_lines (state_of self.old) file.now (numbered_lines bytes.now))) }
     {
+        self.finder.forget();
         match read_testtags(&mut self.task.pool, &mut self.task.universe, bytes, repo) {
             Ok(()) => Ok(()),
             Err(fault) => Err(tags_refused(self.task.pool.alloc(), file, fault)),

@@ -36,7 +36,7 @@ impl Reader {
         ensures ok { OnOk result (HasRead self.new (job_row (state_of self.old) action (asked_of asked.now) forcebest (joined (map (λ word. word.now) words.now)))) }
         ensures refused { IfErr result (λ h. IsHalt h (job_row (state_of self.old) action (asked_of asked.now) forcebest (joined (map (λ word. word.now) words.now)))) }
     {
-        let choice = match choose(&mut self.task, asked) {
+        let choice = match choose(&mut self.task, &mut self.finder, asked) {
             Ok(choice) => choice,
             Err(halt) => return Err(halt),
         };

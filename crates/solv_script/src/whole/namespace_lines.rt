@@ -16,7 +16,7 @@ impl Reader {
         ensures ok { OnOk result (HasRead self.new (namespace_row (state_of self.old) name.now (map (λ word. word.now) words.now))) }
         ensures refused { IfErr result (λ h. IsHalt h (namespace_row (state_of self.old) name.now (map (λ word. word.now) words.now))) }
     {
-        let packs = match package_numbers(&self.task, words) {
+        let packs = match package_numbers(&self.task, &mut self.finder, words) {
             Ok(packs) => packs,
             Err(halt) => return Err(halt),
         };

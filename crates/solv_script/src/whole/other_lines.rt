@@ -6,7 +6,6 @@ ghost use Rattle.solv_script.specs.Rows.{flags_row, disable_row, evrcmp_row};
 
 use crate::scripts::EvrCheck;
 use crate::whole::halts::Halt;
-use crate::whole::packages::package_number;
 use crate::whole::reader::Reader;
 use solv_base::Cmp;
 use solv_commands::{Cause, set_flags};
@@ -48,7 +47,10 @@ impl Reader {
         ensures ok { OnOk result (HasRead self.new (disable_row (state_of self.old) word.now)) }
         ensures refused { IfErr result (λ h. IsHalt h (disable_row (state_of self.old) word.now)) }
     {
-        let Some(pack) = package_number(&self.task, word) else {
+        let Ok(found) = self.finder.find(&self.task, word) else {
+            return Err(Halt::Wanting);
+        };
+        let Some(pack) = found else {
             return Err(Halt::Bad(Cause::UnknownPackage));
         };
         if pack.0 == 0 {

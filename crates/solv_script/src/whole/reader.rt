@@ -9,9 +9,10 @@ ghost use Rattle.solv_script.specs.Halts.{IsHalt};
 ghost use Rattle.solv_script.specs.Readings.{IsReader, HasRead, state_of};
 ghost use Rattle.solv_script.specs.ScriptsOf.{IsScriptOf};
 ghost use Rattle.solv_script.specs.States.{no_line};
-ghost use Rattle.solv_tags.specs.EntryForms.{asks_for_singles};
+ghost use Rattle.solv_tags.specs.EntryForms.{conflicts_unconditionally};
 
 use crate::scripts::{EvrCheck, Kinds, Script};
+use crate::whole::finder::Finder;
 use crate::whole::halts::Halt;
 use solv_base::Pool;
 use solv_commands::Cause;
@@ -34,6 +35,8 @@ pub(crate) struct Reader {
     pub(crate) bytes: usize,
     /// Whether a `system` line stands before.
     pub(crate) has_system: bool,
+    /// Finds the packages so far by their texts.
+    pub(crate) finder: Finder,
 }
 
 impl Reader {
@@ -53,6 +56,7 @@ impl Reader {
             checks: Items::wrap(Vec::new(alloc)),
             bytes: 0,
             has_system: false,
+            finder: Finder::new(),
         }
     }
 
@@ -79,7 +83,7 @@ impl Reader {
         ensures script { IsScriptOf (state_of self) result }
         ensures closed { IsClosed result.task }
         ensures forms { HasForms result.task }
-        ensures singly { list_all (asks_for_singles (catalog_of result.task)) result.task.universe.packages ≡ true }
+        ensures unconditional { list_all (conflicts_unconditionally (catalog_of result.task)) result.task.universe.packages ≡ true }
     {
         self.task.pool.holds_each_once();
         Script {

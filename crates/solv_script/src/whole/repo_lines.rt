@@ -31,6 +31,7 @@ impl Reader {
             Ok(id) => id,
             Err(fault) => return Err(halt_of_text(fault)),
         };
+        self.finder.forget();
         // No repository has this name, so only memory can be wanting.
         match self.task.universe.add_repo(id, priority) {
             Ok(repo) => Ok(repo),

@@ -12,7 +12,7 @@ use Rattle.solv_script.proofs.whole.reader.Reader.add_block.Goals as goal
 pub returns-in-Ok-clause-ok : goal.returns-in-Ok-clause-ok
 returns-in-Ok-clause-ok c =
     repository_read c.args.self.now c.requires.reader c.args.script.now (inline_lines (c.args.line + 1) (lines_of c.args.behind.now)) c.args.repo c.read_block.new.pool c.read_block.new.universe c.requires.last
-    c.read_block.ensures.grows c.in-Ok.ensures.over c.in-Ok.ensures.read
+    c.read_block.ensures.grows c.in-Ok.ensures.over c.in-Ok.ensures.read c.forget.new.self c.forget.ensures
 
 pub returns-in-Err-clause-refused : goal.returns-in-Err-clause-refused
 returns-in-Err-clause-refused c =

@@ -18,4 +18,4 @@ returns-in-Ok-push-clause-ok c =
     let fits : choice_fits (length c.choose.new.task.pool.nodes) (length c.args.self.now.task.universe.packages) c.in-Ok.choice ≡ true = rw (ap (λ (t : Task). t.universe) same) at c.in-Ok.ensures.fits in
     rw (c.in-Ok-push.ensures.ok, ap (λ (t : Task). t.universe) same, ap (λ (t : Task). t.flags) same, ap (λ (t : Task). t.namespaces) same, ap (λ (t : Task). t.jobs) same)
     (job_read c.args.self.now c.requires c.args.action (asked_of c.args.asked.now) c.args.forcebest (joined (map (λ word. word.now) c.args.words.now)) job c.choose.new.task.pool
-    c.in-Ok.ensures.ok c.choose.ensures.grows fits refl refl c.in-Ok-job_text.ensures)
+    c.in-Ok.ensures.ok c.choose.ensures.grows fits refl refl c.in-Ok-job_text.ensures c.choose.new.finder c.choose.ensures.kept)

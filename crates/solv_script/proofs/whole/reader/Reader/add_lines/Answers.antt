@@ -11,7 +11,7 @@ use Rattle.solv_script.proofs.whole.reader.Reader.add_lines.Goals as goal
 pub returns-in-Ok-clause-ok : goal.returns-in-Ok-clause-ok
 returns-in-Ok-clause-ok c =
     repository_read c.args.self.now c.requires.reader c.args.file.now (numbered_lines c.args.bytes.now) c.args.repo c.read_testtags.new.pool c.read_testtags.new.universe c.requires.last
-    c.read_testtags.ensures.grows c.in-Ok.ensures.over c.in-Ok.ensures.read
+    c.read_testtags.ensures.grows c.in-Ok.ensures.over c.in-Ok.ensures.read c.forget.new.self c.forget.ensures
 
 pub returns-in-Err-clause-refused : goal.returns-in-Err-clause-refused
 returns-in-Err-clause-refused c =

@@ -3,7 +3,7 @@ use Rattle.std.specs.Str.{bytes_eq}
 use Rattle.solv_io.specs.Words.{words_of}
 use Rattle.solv_commands.specs.Borrowed.{command_of}
 use Rattle.solv_script.specs.Readings.{state_of, line_before}
-use Rattle.solv_script.proofs.FileRows.{on_ok, if_err, comment_given, blank_given, row_said, row_unsaid}
+use Rattle.solv_script.proofs.FileRows.{on_ok, if_err, comment_given, row_said, row_unsaid}
 use Rattle.solv_script.proofs.PieceRuns.{quiet_want}
 use Rattle.solv_script.proofs.whole.reader.Reader.line.Goals as goal
 

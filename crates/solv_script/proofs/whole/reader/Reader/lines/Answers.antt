@@ -1,4 +1,4 @@
-use Rattle.std.proofs.Common.{◌≡◌, [], refl, arith, rules, ◌+◌, ◌∙◌}
+use Rattle.std.proofs.Common.{◌≡◌, [], refl, arith, ◌+◌, ◌∙◌}
 use Rattle.std.proofs.lemmas.List.{nil_from_length}
 use Rattle.solv_io.specs.Lines.{lines_of}
 use Rattle.solv_script.specs.FileRuns.{lines_piece}
