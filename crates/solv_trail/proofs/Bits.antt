@@ -1,10 +1,10 @@
 -- Bits of words, and of sets of numbers.
-use Rattle.std.proofs.Common.{◌≡◌, ℕ, zero, suc, ◌+◌, ◌-◌, ◌*◌, ◌/◌, ◌%◌, ◌^◌, ◌<◌, ◌≤◌, Bool, true, false, not, ◌&&◌, ◌||◌, List, [], length, get_or, set, eqb, ◌⊎◌, inl, inr, refl, sym, ap, ◌∙◌, arith, min, w64, get_or-set_same, get_or-set_other, eq-eqb}
+use Rattle.std.proofs.Common.{◌≡◌, ℕ, zero, suc, ◌+◌, ◌-◌, ◌*◌, ◌/◌, ◌%◌, ◌^◌, ◌<◌, ◌≤◌, Bool, true, false, not, ◌&&◌, ◌||◌, List, [], length, get_or, set, eqb, ◌⊎◌, inl, inr, refl, sym, ap, ◌∙◌, arith, min, max, w64, get_or-set_same, get_or-set_other, eq-eqb}
 use Rattle.std.specs.Prelude.{bit_and, bit_or, replicate, Option, None, Some}
 use Rattle.std.specs.Int.{bit_at, trailing_zeros}
 use Rattle.std.proofs.lemmas.Bool.{cases_Bool, cases_eq, cases_lt, eqb-true}
 use Rattle.std.proofs.lemmas.List.{get_or-replicate, get_or_past, length-replicate}
-use Rattle.std.proofs.lemmas.Nat.Bits.{bit_at_and, bit_at_not, bit_at-lt, bit_at-zero, bit_at_above, bit_at_ones, bit_at_mask_inside, bit_at_mask_below, bit_at-trailing_zeros, bit_at_set_same, bit_at_set_other, bit_at_clear_same, bit_at_clear_other, ones_shl}
+use Rattle.std.proofs.lemmas.Nat.Bits.{bit_at_and, bit_at_or, bit_at_not, bit_at-lt, bit_at-zero, bit_at_above, bit_at_ones, bit_at_mask_inside, bit_at_mask_below, bit_at-trailing_zeros, bit_at_set_same, bit_at_set_other, bit_at_clear_same, bit_at_clear_other, ones_shl}
 use Rattle.solv_trail.specs.Numbers.{has, IsFirst}
 
 pub ne-eqb : (a b : ℕ) → (a ≡ b → ⊥) → eqb a b ≡ false
@@ -217,3 +217,53 @@ has_small words n few h = elim (cases_lt n (64 * length words)) [
 pub and_left : (a b : Bool) → (a && b) ≡ true → a ≡ true
 and_left true b h = refl
 and_left false b h = cc
+
+-- a word that another one has all bits of
+pub within_word : (a b : ℕ) → b < 2 ^ 64 → bit_and a (18446744073709551615 - b) ≡ 0 → (i : ℕ) → i < 64 → eqb (bit_at a i) 1 ≡ true → eqb (bit_at b i) 1 ≡ true
+within_word a b small none i low h =
+    let e : (eqb (bit_at a i) 1 && not (eqb (bit_at b i) 1)) ≡ false = sym (without a b i small low) ∙ ap (λ n. eqb (bit_at n i) 1) none ∙ ap (λ n. eqb n 1) (bit_at-zero i) in
+    go (eqb (bit_at b i) 1) (sym (ap (λ x. x && not (eqb (bit_at b i) 1)) h) ∙ e)
+  where
+    go : (y : Bool) → (true && not y) ≡ false → y ≡ true
+    go true e = refl
+    go false e = absurd (cc)
+
+either_bit : (x y : ℕ) → x < 2 → y < 2 → eqb (max x y) 1 ≡ (eqb x 1 || eqb y 1)
+either_bit zero zero h k = refl
+either_bit zero (suc zero) h k = refl
+either_bit (suc zero) zero h k = refl
+either_bit (suc zero) (suc zero) h k = refl
+either_bit (suc (suc x)) y h k = absurd (omega arith)
+either_bit x (suc (suc y)) h k = absurd (omega arith)
+
+-- the bits of two words together
+pub either : (a b i : ℕ) → eqb (bit_at (bit_or a b) i) 1 ≡ (eqb (bit_at a i) 1 || eqb (bit_at b i) 1)
+either a b i = ap (λ n. eqb n 1) (bit_at_or a b i) ∙ either_bit (bit_at a i) (bit_at b i) (bit_at-lt a i) (bit_at-lt b i)
+
+-- a number in a word by its bit
+pub has_in : (words : List ℕ) (place k : ℕ) → place * 64 ≤ k → k < (place + 1) * 64 → has words k ≡ eqb (bit_at (get_or words place 0) (k - place * 64)) 1
+has_in words place k low high =
+    let is : place * 64 + (k - place * 64) ≡ k = omega arith in
+    ap (has words) (sym is) ∙ has_at words place (k - place * 64) (omega arith)
+
+-- a word all of whose bits stand in the other's
+pub none_beside : (words other : List ℕ) (place : ℕ) → ((i : ℕ) → i < 64 → eqb (bit_at (get_or words place 0) i) 1 ≡ true → eqb (bit_at (get_or other place 0) i) 1 ≡ true)
+    → (k : ℕ) → place * 64 ≤ k → k < (place + 1) * 64 → (has words k && not (has other k)) ≡ false
+none_beside words other place within k low high =
+    go (has words k) (has other k) (λ h. has_in other place k low high ∙ within (k - place * 64) (omega arith) (sym (has_in words place k low high) ∙ h))
+  where
+    go : (x y : Bool) → (x ≡ true → y ≡ true) → (x && not y) ≡ false
+    go true y f = ap not (f refl)
+    go false y f = refl
+
+-- four sets together
+abbrev pub has_any : List ℕ → List ℕ → List ℕ → List ℕ → ℕ → Bool
+has_any a b c d k = (has a k || has b k) || (has c k || has d k)
+
+pub any_in : (a b c d : List ℕ) (place k : ℕ) → place * 64 ≤ k → k < (place + 1) * 64
+    → has_any a b c d k
+    ≡ ((eqb (bit_at (get_or a place 0) (k - place * 64)) 1 || eqb (bit_at (get_or b place 0) (k - place * 64)) 1) || (eqb (bit_at (get_or c place 0) (k - place * 64)) 1 || eqb (bit_at (get_or d place 0) (k - place * 64)) 1))
+any_in a b c d place k low high = rw (has_in a place k low high, has_in b place k low high, has_in c place k low high, has_in d place k low high) refl
+
+pub any_past : (a b c d : List ℕ) (k : ℕ) → 64 * length a ≤ k → 64 * length b ≤ k → 64 * length c ≤ k → 64 * length d ≤ k → has_any a b c d k ≡ false
+any_past a b c d k h i j l = rw (has_past a k h, has_past b k i, has_past c k j, has_past d k l) refl

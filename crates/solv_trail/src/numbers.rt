@@ -53,13 +53,56 @@ fn beside(words: &[u64], other: &[u64], place: usize) -> u64
     word_at(words, place) & !word_at(other, place)
 }
 
+/// Whether the other word has all bits of a word.
+fn is_within(word: u64, other: u64) -> bool
+    ensures { result ≡ true → (i : ℕ) → i < 64 → (bit_at word i == 1) ≡ true → (bit_at other i == 1) ≡ true }
+{
+    word & !other == 0
+}
+
+/// A place from one on before which the other set has all numbers of the words from that one on.
+fn skip_from(words: &[u64], other: &[u64], start: usize) -> usize
+    ensures forward { start ≤ result }
+    ensures within { (k : ℕ) → start * 64 ≤ k → k < result * 64 → (has words.now k && not (has other.now k)) ≡ false }
+{
+    let end = words.len().min(other.len());
+    let mut place = start;
+    while place < end && is_within(words[place], other[place]) {
+        place += 1;
+    }
+    place
+}
+
+/// The bits of four words together.
+fn joined(a: u64, b: u64, c: u64, d: u64) -> u64
+    ensures { (i : ℕ) → (bit_at result i == 1) ≡ (((bit_at a i == 1) || (bit_at b i == 1)) || ((bit_at c i == 1) || (bit_at d i == 1))) }
+{
+    (a | b) | (c | d)
+}
+
+/// Whether the words have all numbers of four sets that are as long.
+fn have_all(words: &[u64], a: &[u64], b: &[u64], c: &[u64], d: &[u64]) -> bool
+    requires a { length a.now ≡ length words.now }
+    requires b { length b.now ≡ length words.now }
+    requires c { length c.now ≡ length words.now }
+    requires d { length d.now ≡ length words.now }
+    ensures { result ≡ true → (k : ℕ) → ((has a.now k || has b.now k) || (has c.now k || has d.now k)) ≡ true → has words.now k ≡ true }
+{
+    for place in 0..words.len() {
+        if !is_within(joined(a[place], b[place], c[place], d[place]), words[place]) {
+            return false;
+        }
+    }
+    true
+}
+
 /// The first number in the words from a place on that the other set has not.
 fn first_from(words: &[u64], other: &[u64], start: usize) -> Option<u32>
     requires { length words.now ≤ 33554432 }
     ensures small { IfSome result (λ n. n < 2147483648) }
     ensures first { IsFirst (λ k. has words.now k && not (has other.now k)) (start * 64) result }
 {
-    for place in start..words.len() {
+    for place in skip_from(words, other, start)..words.len() {
         match lowest(beside(words, other, place), 0) {
             Some(bit) => return Some(place as u32 * 64 + bit),
             None => {}
@@ -143,6 +186,20 @@ impl NumberSet {
         ensures small { IfSome result (λ n. n < 2147483648) }
     {
         next_beside(&self.words, &[], from)
+    }
+
+    /// Whether the set has all numbers of these four; `false` tells nothing where one has more room than another.
+    pub fn has_all(&self, a: &NumberSet, b: &NumberSet, c: &NumberSet, d: &NumberSet) -> bool
+        ensures { result ≡ true → (k : ℕ) → ((has a.now k || has b.now k) || (has c.now k || has d.now k)) ≡ true → has self.now k ≡ true }
+    {
+        let (words, count) = (&self.words, self.words.len());
+        if a.words.len() != count || b.words.len() != count {
+            return false;
+        }
+        if c.words.len() != count || d.words.len() != count {
+            return false;
+        }
+        have_all(words, &a.words, &b.words, &c.words, &d.words)
     }
 
     /// The first number from one on that this set has and the other has not.

@@ -15,7 +15,8 @@ pub returns-in-Some-clause-first : goal.returns-in-Some-clause-first
 returns-in-Some-clause-first c =
     let test : ℕ → Bool = λ k. has c.args.words.now k && not (has c.args.other.now k) in
     let first = first_in_word test c.loop-place.place c.beside.result c.beside.ensures 0 c.in-Some.bit c.in-Some.ensures.within c.in-Some.ensures.first in
-    let auto = c.loop-place.auto in (
+    let auto = c.loop-place.auto in
+    let forward = c.skip_from-place.ensures.forward in (
       omega arith,
       first.1,
       λ k low high. elim (cases_lt k (c.loop-place.place * 64)) [
