@@ -7,7 +7,7 @@ use Rattle.std.specs.List.Sorted.{IsStrictlyIncreasing}
 use Rattle.solv_base.specs.declared.relation.DepNode.{DepNode}
 use Rattle.solv_base.specs.declared.relation.DepNode.TheVariants.{Simple, Versioned, Namespace, And, Or, With, Without, If, IfElse, Unless, UnlessElse}
 use Rattle.solv_base.specs.declared.comparison.Cmp.{Cmp}
-use Rattle.solv_base.specs.Dependency.{Capability, one, capability_of_node, operators}
+use Rattle.solv_base.specs.Dependency.{Capability, one, capability_of_node}
 use Rattle.solv_pool.specs.Words.{is_among, passes}
 use Rattle.solv_pool.specs.Catalog.{Catalog, packages, dependency, capability_at}
 use Rattle.solv_pool.specs.Providing.{has}
@@ -81,9 +81,6 @@ module _ (catalog : Catalog) (d : ℕ) (node : DepNode) (at : slice_get catalog.
   meeting_relation c xs is read h =
       h ∙ ap (λ t. filter (package_meets catalog t) (packages catalog)) read
       ∙ sym (filter_same (λ p. passes (capability_at catalog d) (λ c. has catalog c p)) (has catalog c) (λ p. ap (λ o. passes o (λ c. has catalog c p)) (capability_is ∙ is)) (packages catalog))
-
-  pub no_operators : (c : Capability ℕ) → dependency catalog d ≡ one c → operators (dependency catalog d) ≡ 0
-  no_operators c read = rw read refl
 
 pub range_packs : (f : ℕ → Bool) (start count : ℕ) (most : ℕ) → 0 < start → start + count ≤ most + 1 → list_all (is_pack most) (filter f (range_with_len start count)) ≡ true
 range_packs f start zero most some within = refl

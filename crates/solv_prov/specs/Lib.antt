@@ -5,3 +5,5 @@ pub mod Lists
 pub mod Groups
 pub mod Gathering
 pub mod Relating
+pub mod Merging
+pub mod PartsBy
