@@ -1,2 +1,4 @@
 pub mod Counts
 pub mod Singles
+pub mod Expansions
+pub mod Shortening

@@ -1,19 +1,30 @@
 //! Dependencies as clauses.
 //!
 //! A set of packages makes the clauses of a dependency all true exactly where the dependency holds in it, and those of its
-//! negation exactly where it does not: the law `clauses_say_the_dependency` of `solv_pool`. Rich dependencies come later;
-//! today a dependency is simple, versioned or a namespace, so that single packages meet it.
+//! negation exactly where it does not: the law `clauses_say_the_dependency` of `solv_pool`.
 //!
 //! - [`clause_count`]: how many clauses there are before any is left out, up to one more than 65,536.
 //! - [`clauses`]: the clauses, put behind others; or [`RichFault`].
 //!
 //! `specs/Counts` says what a count and what appended clauses are; the clauses themselves are those of `solv_pool`'s
-//! `Clauses`. `specs/Singles` serves inner contracts alone.
+//! `Clauses`. The other modules of `specs/` serve inner contracts alone.
+//!
+//! The count comes first, so that a dependency with too many clauses is refused before any is made. A dependency that packages
+//! meet alone then goes straight from its list to literals (`singles`). Any other is an expansion: lists of packages, joined and
+//! crossed. Its clauses are made one at a time, each by its number: no product is ever formed, and one with an empty factor is
+//! never entered.
 #![tactic(auto)]
 
+mod appending;
+mod clause_rows;
 mod counting;
+mod expanding;
+mod expansion;
 mod fault;
+mod relations;
+mod shortening;
 mod singles;
 
+pub use clause_rows::rows_of_clauses;
 pub use counting::{clause_count, clauses};
 pub use fault::RichFault;

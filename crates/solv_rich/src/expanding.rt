@@ -1,0 +1,166 @@
+//! What the clauses of a dependency are made of.
+ghost use Rattle.std.specs.Prelude.{◌≡◌, ◌≤◌, ◌<◌, ◌+◌, ◌++◌, length, take, drop, true, Some, IfOk};
+ghost use Rattle.solv_pool.specs.Clauses.{clauses_of, clauses_package_wise};
+ghost use Rattle.solv_pool.specs.Catalog.{catalog_of, dependency};
+ghost use Rattle.solv_prov.specs.Index.{IsIndexOf};
+ghost use Rattle.solv_rich.specs.Expansions.{IsExpansion, package_clauses};
+ghost use Rattle.solv_rich.specs.Singles.{without, rising};
+
+use crate::expansion::{Expansion, cross, join};
+use solv_base::{DepId, DepNode};
+use solv_pool::{PackNo, Task};
+use solv_prov::Providers;
+use std::alloc::{AllocError, Global};
+
+/// How many packages stand in front of one; all where it is not there.
+fn place_of(packs: &[PackNo], pack: PackNo) -> usize
+    requires { rising 0 packs.now ≡ true }
+    ensures within { result ≤ length packs.now }
+    ensures without { take result packs.now ++ drop (result + 1) packs.now ≡ without (Some pack) packs.now }
+{
+    for place in 0..packs.len() {
+        if packs[place] == pack {
+            return place;
+        }
+    }
+    packs.len()
+}
+
+/// How many packages stand in front of one that does not count.
+fn place_without(packs: &[PackNo], except: &Option<PackNo>) -> usize
+    requires { rising 0 packs.now ≡ true }
+    ensures within { result ≤ length packs.now }
+    ensures without { take result packs.now ++ drop (result + 1) packs.now ≡ without except.now packs.now }
+{
+    match except {
+        None => packs.len(),
+        Some(pack) => place_of(packs, *pack),
+    }
+}
+
+/// The packages in front of a place.
+fn in_front(packs: &[PackNo], place: usize) -> &[PackNo]
+    requires { place ≤ length packs.now }
+    ensures { result.now ≡ take place packs.now }
+{
+    &packs[..place]
+}
+
+/// The packages behind a place.
+fn behind(packs: &[PackNo], place: usize) -> &[PackNo]
+    ensures { result.now ≡ drop (place + 1) packs.now }
+{
+    if place < packs.len() {
+        &packs[place + 1..]
+    } else {
+        &[]
+    }
+}
+
+/// One of these packages is in, or each of them is out.
+fn either<'a>(first: &'a [PackNo], others: &'a [PackNo], positive: bool) -> Expansion<'a>
+    ensures { IsExpansion (package_clauses positive (first.now ++ others.now)) result }
+{
+    if positive {
+        Expansion::SomeIn(first, others)
+    } else {
+        Expansion::EachOut(first, others)
+    }
+}
+
+/// The clauses of a relation that packages meet alone.
+fn leaf<'a>(
+    task: &Task,
+    prov: &'a Providers,
+    dep: DepId,
+    positive: bool,
+    except: &Option<PackNo>,
+) -> Expansion<'a>
+    requires index { IsIndexOf prov.now (catalog_of task.now) }
+    requires held { dep < length task.now.pool.nodes }
+    ensures { IsExpansion (clauses_package_wise (catalog_of task.now) except.now positive (dependency (catalog_of task.now) dep)) result }
+{
+    let packs = prov.of(dep);
+    let place = place_without(packs, except);
+    either(in_front(packs, place), behind(packs, place), positive)
+}
+
+/// The clauses of a relation.
+pub(crate) fn expand<'a>(
+    alloc: Global,
+    task: &Task,
+    prov: &'a Providers,
+    dep: DepId,
+    positive: bool,
+    except: &Option<PackNo>,
+) -> Result<Expansion<'a>, AllocError>
+    requires index { IsIndexOf prov.now (catalog_of task.now) }
+    requires held { dep < length task.now.pool.nodes }
+    ensures { IfOk result (IsExpansion (clauses_of (catalog_of task.now) except.now positive (dependency (catalog_of task.now) dep))) }
+{
+    let wise = task.pool.package_wise(dep);
+    match task.pool.dep(dep) {
+        DepNode::Or(a, b) => {
+            if wise {
+                return Ok(leaf(task, prov, dep, positive, except));
+            }
+            let own = expand(alloc, task, prov, a, positive, except)?;
+            let other = expand(alloc, task, prov, b, positive, except)?;
+            if positive {
+                cross(alloc, own, other)
+            } else {
+                join(alloc, own, other)
+            }
+        }
+        DepNode::And(a, b) => {
+            let left = expand(alloc, task, prov, a, positive, except)?;
+            let right = expand(alloc, task, prov, b, positive, except)?;
+            if positive {
+                join(alloc, left, right)
+            } else {
+                cross(alloc, left, right)
+            }
+        }
+        DepNode::If(a, b) => {
+            if !positive {
+                return Ok(Expansion::Nothing);
+            }
+            let own = expand(alloc, task, prov, a, true, except)?;
+            let condition = expand(alloc, task, prov, b, false, except)?;
+            cross(alloc, own, condition)
+        }
+        DepNode::IfElse(a, b, c) => {
+            if !positive {
+                return Ok(Expansion::Nothing);
+            }
+            let own = expand(alloc, task, prov, a, true, except)?;
+            let refuted = expand(alloc, task, prov, b, false, except)?;
+            let first = cross(alloc, own, refuted)?;
+            let other = expand(alloc, task, prov, c, true, except)?;
+            let against = expand(alloc, task, prov, b, true, except)?;
+            let second = cross(alloc, other, against)?;
+            join(alloc, first, second)
+        }
+        DepNode::Unless(a, b) => {
+            if positive {
+                return Ok(Expansion::Nothing);
+            }
+            let own = expand(alloc, task, prov, a, false, except)?;
+            let condition = expand(alloc, task, prov, b, true, except)?;
+            cross(alloc, own, condition)
+        }
+        DepNode::UnlessElse(a, b, c) => {
+            if positive {
+                return Ok(Expansion::Nothing);
+            }
+            let own = expand(alloc, task, prov, a, false, except)?;
+            let condition = expand(alloc, task, prov, b, true, except)?;
+            let front = cross(alloc, own, condition)?;
+            let other = expand(alloc, task, prov, c, false, except)?;
+            let against = expand(alloc, task, prov, b, false, except)?;
+            let back = cross(alloc, other, against)?;
+            join(alloc, front, back)
+        }
+        _ => Ok(leaf(task, prov, dep, positive, except)),
+    }
+}

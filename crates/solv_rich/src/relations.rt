@@ -1,0 +1,130 @@
+//! How many clauses a relation of any form gives, before any of them is made.
+ghost use Rattle.std.specs.Prelude.{◌≡◌, ◌≤◌, ◌<◌, ◌+◌, ◌*◌, ℕ, length};
+ghost use Rattle.solv_pool.specs.Catalog.{Catalog, catalog_of, dependency};
+ghost use Rattle.solv_pool.specs.Clauses.{clause_count, count_package_wise};
+ghost use Rattle.solv_prov.specs.Index.{IsIndexOf};
+ghost use Rattle.solv_rich.specs.Counts.{saturated};
+
+use crate::singles::count_of;
+use solv_base::{DepId, DepNode};
+use solv_pool::{PackNo, Task};
+use solv_prov::Providers;
+
+/// One more than the most clauses of one dependency.
+const TOO_MANY: u64 = 65_537;
+
+/// The sum of two counts.
+pub(crate) fn sum(a: u64, b: u64) -> u64
+    requires a { a ≤ 65537 }
+    requires b { b ≤ 65537 }
+    ensures exact { (m n : ℕ) → a ≡ saturated m → b ≡ saturated n → result ≡ saturated (m + n) }
+    ensures within { result ≤ 65537 }
+{
+    (a + b).min(TOO_MANY)
+}
+
+/// The product of two counts.
+pub(crate) fn product(a: u64, b: u64) -> u64
+    requires a { a ≤ 65537 }
+    requires b { b ≤ 65537 }
+    ensures exact { (m n : ℕ) → a ≡ saturated m → b ≡ saturated n → result ≡ saturated (m * n) }
+    ensures within { result ≤ 65537 }
+{
+    (a * b).min(TOO_MANY)
+}
+
+/// The count of a relation that packages meet alone.
+fn leaf_count(
+    task: &Task,
+    prov: &Providers,
+    dep: DepId,
+    positive: bool,
+    except: &Option<PackNo>,
+) -> u64
+    requires index { IsIndexOf prov.now (catalog_of task.now) }
+    requires held { dep < length task.now.pool.nodes }
+    ensures exact { result ≡ saturated (count_package_wise (catalog_of task.now) except.now positive (dependency (catalog_of task.now) dep)) }
+    ensures within { result ≤ 65537 }
+{
+    if positive {
+        return 1;
+    }
+    let count = count_of(prov.of(dep), except) as u64;
+    count.min(TOO_MANY)
+}
+
+/// The count of a relation.
+pub(crate) fn count_relation(
+    task: &Task,
+    prov: &Providers,
+    dep: DepId,
+    positive: bool,
+    except: &Option<PackNo>,
+) -> u64
+    requires index { IsIndexOf prov.now (catalog_of task.now) }
+    requires held { dep < length task.now.pool.nodes }
+    ensures exact { result ≡ saturated (clause_count (catalog_of task.now) except.now positive (dependency (catalog_of task.now) dep)) }
+    ensures within { result ≤ 65537 }
+{
+    let wise = task.pool.package_wise(dep);
+    match task.pool.dep(dep) {
+        DepNode::Or(a, b) => {
+            if wise {
+                return leaf_count(task, prov, dep, positive, except);
+            }
+            let own = count_relation(task, prov, a, positive, except);
+            let other = count_relation(task, prov, b, positive, except);
+            if positive {
+                product(own, other)
+            } else {
+                sum(own, other)
+            }
+        }
+        DepNode::And(a, b) => {
+            let own = count_relation(task, prov, a, positive, except);
+            let other = count_relation(task, prov, b, positive, except);
+            if positive {
+                sum(own, other)
+            } else {
+                product(own, other)
+            }
+        }
+        DepNode::If(a, b) => {
+            if !positive {
+                return 0;
+            }
+            let own = count_relation(task, prov, a, true, except);
+            let condition = count_relation(task, prov, b, false, except);
+            product(own, condition)
+        }
+        DepNode::IfElse(a, b, c) => {
+            if !positive {
+                return 0;
+            }
+            let own = count_relation(task, prov, a, true, except);
+            let condition = count_relation(task, prov, b, false, except);
+            let other = count_relation(task, prov, c, true, except);
+            let against = count_relation(task, prov, b, true, except);
+            sum(product(own, condition), product(other, against))
+        }
+        DepNode::Unless(a, b) => {
+            if positive {
+                return 0;
+            }
+            let own = count_relation(task, prov, a, false, except);
+            let condition = count_relation(task, prov, b, true, except);
+            product(own, condition)
+        }
+        DepNode::UnlessElse(a, b, c) => {
+            if positive {
+                return 0;
+            }
+            let own = count_relation(task, prov, a, false, except);
+            let condition = count_relation(task, prov, b, true, except);
+            let other = count_relation(task, prov, c, false, except);
+            let against = count_relation(task, prov, b, false, except);
+            sum(product(own, condition), product(other, against))
+        }
+        _ => leaf_count(task, prov, dep, positive, except),
+    }
+}

@@ -1,0 +1,139 @@
+//! Clauses without what is said of the system or twice.
+ghost use Rattle.std.specs.Prelude.{◌≡◌, ◌≤◌, ◌<◌, ◌∷◌, ◌++◌, [], ◌&&◌, ◌||◌, not, length, map, take, nat_lt, nat_le, OnOk, true};
+ghost use Rattle.std.specs.List.{list_all};
+ghost use Rattle.solv_pool.specs.Clauses.{is_in, same_literal, negation as negation_of, contains_literal, is_always_true as is_true_always, number_of, kept, in_numbers};
+ghost use Rattle.solv_rich.specs.Counts.{HasAppended};
+ghost use Rattle.solv_rich.specs.Expansions.{literal_of};
+ghost use Rattle.solv_rich.specs.Shortening.{package_of, has_number, each_first};
+
+use crate::expansion::Said;
+use solv_pack::Lit;
+use solv_pool::PackNo;
+use std::alloc::AllocError;
+
+/// Whether two literals are one.
+fn is_same(own: &Said, other: &Said) -> bool
+    ensures { result ≡ same_literal (literal_of own.now) (literal_of other.now) }
+{
+    match *own {
+        Said::In(pack) => match *other {
+            Said::In(another) => pack == another,
+            Said::Out(_) => false,
+        },
+        Said::Out(pack) => match *other {
+            Said::In(_) => false,
+            Said::Out(another) => pack == another,
+        },
+    }
+}
+
+/// The package is out instead of in, or in instead of out.
+fn negation(said: &Said) -> Said
+    ensures { literal_of result ≡ negation_of (literal_of said.now) }
+{
+    match *said {
+        Said::In(pack) => Said::Out(pack),
+        Said::Out(pack) => Said::In(pack),
+    }
+}
+
+/// Whether a literal is among others.
+fn is_among(said: &[Said], wanted: &Said) -> bool
+    ensures { result ≡ contains_literal (map literal_of said.now) (literal_of wanted.now) }
+{
+    for each in said {
+        if is_same(wanted, each) {
+            return true;
+        }
+    }
+    false
+}
+
+/// Whether every set makes a literal true, or one of the others says the opposite.
+fn is_met(said: &[Said], each: &Said) -> bool
+    ensures { result ≡ (same_literal (is_in 0) (literal_of each.now) || contains_literal (map literal_of said.now) (negation_of (literal_of each.now))) }
+{
+    is_same(&Said::In(PackNo(0)), each) || is_among(said, &negation(each))
+}
+
+/// Whether every set makes a clause true.
+fn is_always_true(said: &[Said]) -> bool
+    ensures { result ≡ is_true_always (map literal_of said.now) }
+{
+    for each in said {
+        if is_met(said, each) {
+            return true;
+        }
+    }
+    false
+}
+
+/// The number of the package of a literal.
+fn number_in(said: &Said) -> u32
+    ensures { result ≡ package_of (literal_of said.now) }
+{
+    match *said {
+        Said::In(pack) => pack.0,
+        Said::Out(pack) => pack.0,
+    }
+}
+
+/// Whether a literal says something of a package that is no system, and none of those before it says the same.
+fn is_new(before: &[Said], each: &Said) -> bool
+    ensures { result ≡ (nat_lt 0 (package_of (literal_of each.now)) && not (contains_literal (map literal_of before.now) (literal_of each.now))) }
+{
+    number_in(each) > 0 && !is_among(before, each)
+}
+
+/// A literal of a package.
+fn lit(said: &Said) -> Lit
+    requires some { 0 < package_of (literal_of said.now) }
+    requires number { nat_le (package_of (literal_of said.now)) 1048575 ≡ true }
+    ensures { result ≡ number_of (literal_of said.now) }
+{
+    match *said {
+        Said::In(pack) => Lit::new(pack.0 as i32),
+        Said::Out(pack) => Lit::new(-(pack.0 as i32)),
+    }
+}
+
+/// The literals before a place.
+fn before(said: &[Said], place: usize) -> &[Said]
+    requires { place ≤ length said.now }
+    ensures { result.now ≡ take place said.now }
+{
+    &said[..place]
+}
+
+/// Puts the literals of a clause behind others, but those of the system, and each once.
+fn put_firsts(said: &[Said], lits: &mut Vec<Lit>) -> Result<(), AllocError>
+    requires numbers { list_all has_number (map literal_of said.now) ≡ true }
+    ensures appended { OnOk result (lits.new.items ≡ lits.old.items ++ map number_of (each_first [] (map literal_of said.now))) }
+    ensures kept_literals { take (length lits.old.items) lits.new.items ≡ lits.old.items }
+{
+    for place in 0..said.len() {
+        if is_new(before(said, place), &said[place]) {
+            lits.push(lit(&said[place]))?;
+        }
+    }
+    Ok(())
+}
+
+/// Puts a clause behind others, if there is a set that does not make it true.
+pub(crate) fn append_clause(
+    said: &[Said],
+    lits: &mut Vec<Lit>,
+    ends: &mut Vec<usize>,
+) -> Result<(), AllocError>
+    requires numbers { list_all has_number (map literal_of said.now) ≡ true }
+    ensures appended { OnOk result (HasAppended (in_numbers (kept (map literal_of said.now ∷ []))) lits.old.items lits.new.items ends.old.items ends.new.items) }
+    ensures kept_literals { take (length lits.old.items) lits.new.items ≡ lits.old.items }
+    ensures kept_ends { take (length ends.old.items) ends.new.items ≡ ends.old.items }
+{
+    if is_always_true(said) {
+        return Ok(());
+    }
+    put_firsts(said, lits)?;
+    ends.push(lits.len())?;
+    Ok(())
+}
