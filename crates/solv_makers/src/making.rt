@@ -6,7 +6,7 @@ ghost use Rattle.solv_pool.specs.HardRules.{hard_rules_by};
 ghost use Rattle.solv_pool.specs.TaskBelonging.{IsClosed};
 ghost use Rattle.solv_prov.specs.Index.{IsIndexOf};
 ghost use Rattle.solv_jobs.specs.Marking.{HasMarks};
-ghost use Rattle.solv_rules.specs.Making.{asks_singly};
+ghost use Rattle.solv_rules.specs.Making.{asks_in_form};
 ghost use Rattle.solv_rules.specs.Books.{AreBookable, read_rules};
 
 use solv_best::best_rules;
@@ -28,7 +28,7 @@ pub fn hard_rules(
     requires index { IsIndexOf prov.now (catalog_of task.now) }
     requires closed { IsClosed task.now }
     requires marks { HasMarks (length task.now.universe.packages) marks.now }
-    requires singly { list_all (asks_singly (catalog_of task.now)) task.now.universe.packages ≡ true }
+    requires formed { list_all (asks_in_form (catalog_of task.now)) task.now.universe.packages ≡ true }
     ensures made { IfOk result (λ rules. read_rules rules ≡ hard_rules_by (catalog_of task.now) task.now.flags task.now.jobs marks.now) }
     ensures bookable { IfOk result (λ rules. AreBookable task.now prov.now rules) }
 {

@@ -4,22 +4,23 @@ use Rattle.std.specs.Prelude.{filter, flat_map, slice_get, nat_lt, ◌==◌, if�
 use Rattle.std.specs.List.{list_all, range_with_len}
 use Rattle.std.specs.Option.{option_map_or}
 use Rattle.std.proofs.lemmas.Bool.Decides.{nat_tests}
-use Rattle.solv_base.specs.Dependency.{plain}
+use Rattle.solv_base.specs.Dependency.{plain, package_wise}
+use Rattle.solv_base.specs.Places.{fits_place}
 use Rattle.solv_pool.specs.Words.{is_among, when}
 use Rattle.solv_pool.specs.Catalog.{Catalog, catalog_of, dependency, members, package_at, packages}
 use Rattle.solv_pool.specs.Counting.{is_fully_counted}
-use Rattle.solv_pool.specs.HardRules.{not_installable_rules, rules_asked_by, rules_of_package, package_rules}
+use Rattle.solv_pool.specs.HardRules.{not_installable_rules, rules_asked_by, rules_of_package}
 use Rattle.solv_pool.specs.Holding.{package_meets}
 use Rattle.solv_pool.specs.Installable.{is_installable}
 use Rattle.solv_pool.specs.Providing.{covers, is_named}
-use Rattle.solv_pool.specs.RuleMeaning.{HardRule, not_installable, req, con, obs, same}
+use Rattle.solv_pool.specs.RuleMeaning.{HardRule, not_installable, req, con, rich_con, obs, same}
 use Rattle.solv_pool.specs.declared.packages.Package.{Package}
 use Rattle.solv_pool.specs.declared.packages.Need.{Need}
 use Rattle.solv_pool.specs.declared.job_marks.Marks.{Marks}
 use Rattle.solv_pool.specs.declared.tasks.Task.{Task}
 use Rattle.solv_prov.specs.Index.{Index}
-use Rattle.solv_rules.specs.Making.{IsReady, IsSound, is_single, requirement_holds, requirements_of, is_counted_other, against, conflicts_of, obsoletions_of, is_barred, namesakes_of}
-use Rattle.solv_rules.specs.Books.{is_bookable, is_held_single, is_no_rich_conflict, PackageRulesAreBookable}
+use Rattle.solv_rules.specs.Making.{IsReady, IsSound, requirement_holds, requirements_of, is_counted_other, against, conflict_of, conflicts_of, rich_conflict_holds, rich_conflicts_of, all_conflicts_of, obsoletions_of, is_barred, namesakes_of}
+use Rattle.solv_rules.specs.Books.{is_bookable, is_held_at, PackageRulesAreBookable}
 use Rattle.solv_rules.proofs.Packages.{sound, asked_is}
 
 left : (a b : Bool) → (a && b) ≡ true → a ≡ true
@@ -82,7 +83,7 @@ all_among start count from (suc n) h k =
 
 module _ (catalog : Catalog) where
   abbrev fine : HardRule → Bool
-  fine r = is_bookable catalog r && is_no_rich_conflict r
+  fine r = is_bookable catalog r
 
   packages_among : list_all (is_among (packages catalog)) (packages catalog) ≡ true
   packages_among = all_among 1 (length catalog.universe.packages) 1 (length catalog.universe.packages) (omega arith) (omega arith)
@@ -104,19 +105,29 @@ module _ (catalog : Catalog) where
           | false ↦ refl
         ]
 
-    needs_fine : (fully : Bool) (needs : List Need) → list_all (λ need. nat_lt need.dep (length catalog.pool.nodes)) needs ≡ true → list_all (λ need. is_single catalog need.dep) needs ≡ true → list_all fine (requirements_of catalog fully p needs) ≡ true
+    needs_fine : (fully : Bool) (needs : List Need) → list_all (λ need. nat_lt need.dep (length catalog.pool.nodes)) needs ≡ true → list_all (λ need. fits_place true (dependency catalog need.dep)) needs ≡ true → list_all fine (requirements_of catalog fully p needs) ≡ true
     needs_fine fully needs h k =
-        all_mapped fine (λ (need : Need). is_held_single catalog need.dep) (λ (need : Need). req p need.dep) (λ need e. rw (here, e) refl) (filter (requirement_holds catalog fully) needs)
-        (all_filter (λ (need : Need). is_held_single catalog need.dep) (requirement_holds catalog fully) needs
-        (all_both (λ (need : Need). nat_lt need.dep (length catalog.pool.nodes)) (λ (need : Need). is_single catalog need.dep) needs h k))
+        all_mapped fine (λ (need : Need). is_held_at catalog true need.dep) (λ (need : Need). req p need.dep) (λ need e. rw (here, e) refl) (filter (requirement_holds catalog fully) needs)
+        (all_filter (λ (need : Need). is_held_at catalog true need.dep) (requirement_holds catalog fully) needs
+        (all_both (λ (need : Need). nat_lt need.dep (length catalog.pool.nodes)) (λ (need : Need). fits_place true (dependency catalog need.dep)) needs h k))
 
     conflicts_fine : (fully : Bool) (ds : List ℕ) → list_all fine (conflicts_of catalog fully p ds) ≡ true
     conflicts_fine fully ds =
-        all_flat fine (λ d. against catalog fully p (con p d) (filter (package_meets catalog (dependency catalog d)) (members catalog)))
+        all_flat fine (conflict_of catalog fully p)
         (λ d.
         all_mapped fine (is_among (members catalog)) (con p d) (λ q e. rw (here, e) refl) (filter (is_counted_other catalog fully p) (filter (package_meets catalog (dependency catalog d)) (members catalog)))
         (all_filter (is_among (members catalog)) (is_counted_other catalog fully p) (filter (package_meets catalog (dependency catalog d)) (members catalog))
-        (all_filter (is_among (members catalog)) (package_meets catalog (dependency catalog d)) (members catalog) members_among))) ds
+        (all_filter (is_among (members catalog)) (package_meets catalog (dependency catalog d)) (members catalog) members_among)))
+        (filter (λ d. package_wise (dependency catalog d)) ds)
+
+    rich_fine : (fully : Bool) (ds : List ℕ) → list_all (λ d. nat_lt d (length catalog.pool.nodes)) ds ≡ true → list_all (λ d. fits_place false (dependency catalog d)) ds ≡ true → list_all fine (rich_conflicts_of catalog fully p ds) ≡ true
+    rich_fine fully ds h k =
+        all_mapped fine (is_held_at catalog false) (rich_con p) (λ d e. rw (here, e) refl) (filter (rich_conflict_holds catalog fully p) ds)
+        (all_filter (is_held_at catalog false) (rich_conflict_holds catalog fully p) ds
+        (all_both (λ d. nat_lt d (length catalog.pool.nodes)) (λ d. fits_place false (dependency catalog d)) ds h k))
+
+    all_conflicts_fine : (fully : Bool) (ds : List ℕ) → list_all (λ d. nat_lt d (length catalog.pool.nodes)) ds ≡ true → list_all (λ d. fits_place false (dependency catalog d)) ds ≡ true → list_all fine (all_conflicts_of catalog fully p ds) ≡ true
+    all_conflicts_fine fully ds h k = all_join fine (conflicts_of catalog fully p ds) (rich_conflicts_of catalog fully p ds) (conflicts_fine fully ds) (rich_fine fully ds h k)
 
     obsoletions_fine : (fully : Bool) (ds : List ℕ) → list_all fine (obsoletions_of catalog fully p ds) ≡ true
     obsoletions_fine fully ds =
@@ -136,8 +147,8 @@ module _ (catalog : Catalog) where
     asked_fine marks a at s =
         rw (asked_is catalog marks p a at s)
         (all_join fine (not_installable_rules catalog p) _ out_fine
-        (all_join fine (requirements_of catalog (is_fully_counted catalog marks p) p a.requires_) _ (needs_fine (is_fully_counted catalog marks p) a.requires_ s.needs s.single_needs)
-        (all_join fine (conflicts_of catalog (is_fully_counted catalog marks p) p a.conflicts) _ (conflicts_fine (is_fully_counted catalog marks p) a.conflicts)
+        (all_join fine (requirements_of catalog (is_fully_counted catalog marks p) p a.requires_) _ (needs_fine (is_fully_counted catalog marks p) a.requires_ s.needs s.formed_needs)
+        (all_join fine (all_conflicts_of catalog (is_fully_counted catalog marks p) p a.conflicts) _ (all_conflicts_fine (is_fully_counted catalog marks p) a.conflicts s.conflicts s.formed_conflicts)
         (all_join fine (obsoletions_of catalog (is_fully_counted catalog marks p) p a.obsoletes) _ (obsoletions_fine (is_fully_counted catalog marks p) a.obsoletes) (namesakes_fine marks a.name)))))
 
 package_fine : (task : Task) (index : Index) (marks : Marks) → IsReady task index marks → (p : ℕ) → is_among (packages (catalog_of task)) p ≡ true → list_all (fine (catalog_of task)) (rules_of_package (catalog_of task) marks p) ≡ true
@@ -166,15 +177,5 @@ all_fine task index marks ready (p ∷ ps) h =
     (package_fine task index marks ready p (left (is_among (packages (catalog_of task)) p) (list_all (is_among (packages (catalog_of task))) ps) h))
     (all_fine task index marks ready ps (right (is_among (packages (catalog_of task)) p) (list_all (is_among (packages (catalog_of task))) ps) h))
 
-all_first : {X : Type 0} (f g : X → Bool) (xs : List X) → list_all (λ x. f x && g x) xs ≡ true → list_all f xs ≡ true
-all_first f g [] h = refl
-all_first f g (x ∷ xs) h = rw (left (f x) (g x) (left (f x && g x) (list_all (λ y. f y && g y) xs) h)) (all_first f g xs (right (f x && g x) (list_all (λ y. f y && g y) xs) h))
-
-all_second : {X : Type 0} (f g : X → Bool) (xs : List X) → list_all (λ x. f x && g x) xs ≡ true → list_all g xs ≡ true
-all_second f g [] h = refl
-all_second f g (x ∷ xs) h = rw (right (f x) (g x) (left (f x && g x) (list_all (λ y. f y && g y) xs) h)) (all_second f g xs (right (f x && g x) (list_all (λ y. f y && g y) xs) h))
-
 pub package_rules_are_bookable : PackageRulesAreBookable
-package_rules_are_bookable task index marks ready =
-    let all = all_fine task index marks ready (packages (catalog_of task)) (packages_among (catalog_of task)) in
-    (all_first (is_bookable (catalog_of task)) is_no_rich_conflict (package_rules (catalog_of task) marks) all, all_second (is_bookable (catalog_of task)) is_no_rich_conflict (package_rules (catalog_of task) marks) all)
+package_rules_are_bookable task index marks ready = all_fine task index marks ready (packages (catalog_of task)) (packages_among (catalog_of task))

@@ -3,16 +3,14 @@ use Rattle.std.proofs.Common.{◌≡◌, ◌≤◌, ◌<◌, ◌+◌, ℕ, zero,
 use Rattle.std.specs.Prelude.{nat_lt, nat_le, ◌==◌}
 use Rattle.std.specs.List.{list_all, range_with_len}
 use Rattle.std.proofs.lemmas.Bool.Decides.{nat_tests}
-use Rattle.solv_base.specs.Dependency.{operators, package_wise}
+use Rattle.solv_base.specs.Places.{fits_place}
 use Rattle.solv_pool.specs.Words.{is_among}
 use Rattle.solv_pool.specs.Catalog.{Catalog, dependency, members, packages}
 use Rattle.solv_pool.specs.Clauses.{rule_clauses}
 use Rattle.solv_pool.specs.RuleMeaning.{rule_with, set_at}
 use Rattle.solv_pool.specs.declared.hard_rules.Rule.{Rule}
 use Rattle.solv_pool.specs.declared.hard_rules.Rule.TheVariants.{NotInstallable, Req, Con, RichCon, Obs, Same, Infarch, Update, Feature, Install, Erase, Lock, BestJob, BestUpdate}
-use Rattle.solv_rich.specs.Counts.{IsSingle}
-use Rattle.solv_rules.specs.Making.{is_single}
-use Rattle.solv_rules.specs.Books.{is_bookable, is_held_single, rich_fault, rises}
+use Rattle.solv_rules.specs.Books.{is_bookable, is_held_at, rich_fault, rises}
 use Rattle.solv_rules.specs.Drafting.{form_of, form_fits, form_fault, form_numbers, is_number}
 use Rattle.solv_rules.proofs.Few.{among_below}
 
@@ -136,13 +134,7 @@ module _ (catalog : Catalog) (most : length catalog.universe.packages ≤ 104857
         | false ↦ λ e k. low_number q 1048575 (omega (arith, most, among_below 1 (length catalog.universe.packages) q k))
       ]) refl h
 
-pub single_is : (catalog : Catalog) (d : ℕ) → is_held_single catalog d ≡ true → IsSingle catalog d
-single_is catalog d h =
-    let form : is_single catalog d ≡ true = right (nat_lt d (length catalog.pool.nodes)) (is_single catalog d) h in
-    let none : (operators (dependency catalog d) == 0) ≡ true = right (package_wise (dependency catalog d)) _ form in
-    let within : nat_lt d (length catalog.pool.nodes) ≡ true = left (nat_lt d (length catalog.pool.nodes)) (is_single catalog d) h in
-    record {
-      held = grind (arith, nat_tests, within);
-      form = left (package_wise (dependency catalog d)) _ form;
-      no_operator = same_numbers (operators (dependency catalog d)) 0 none;
-    }
+pub held_is : (catalog : Catalog) (at : Bool) (d : ℕ) → is_held_at catalog at d ≡ true → d < length catalog.pool.nodes
+held_is catalog at d h =
+    let within : nat_lt d (length catalog.pool.nodes) ≡ true = left (nat_lt d (length catalog.pool.nodes)) (fits_place at (dependency catalog d)) h in
+    grind (arith, nat_tests, within)

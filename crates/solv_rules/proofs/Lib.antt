@@ -10,3 +10,4 @@ pub mod FormWords
 pub mod Bookkeeping
 pub mod Bookable
 pub mod Rising
+pub mod Narrower

@@ -1,12 +1,14 @@
 -- What holds in the set of the installed packages, over the packages that meet it.
-use Rattle.std.proofs.Common.{◌≡◌, ℕ, zero, suc, ◌≤◌, ◌+◌, Bool, true, false, ◌&&◌, ◌||◌, List, [], ◌∷◌, length, drop, refl, sym, ◌∙◌, arith, add-one}
-use Rattle.std.specs.Prelude.{filter, nat_le, ◌==◌, if◌then◌else◌}
+use Rattle.std.proofs.Common.{◌≡◌, ℕ, zero, suc, ◌≤◌, ◌+◌, Bool, true, false, ◌&&◌, ◌||◌, List, [], ◌∷◌, length, drop, None, refl, sym, ap, ◌∙◌, arith, add-one}
+use Rattle.std.specs.Prelude.{filter, nat_le, if◌then◌else◌}
 use Rattle.std.specs.List.{list_any, list_all, range_with_len}
 use Rattle.std.proofs.lemmas.Bool.Decides.{nat_tests}
-use Rattle.solv_base.specs.Dependency.{Dep, one, namespace, and, or, with, without, if_then, if_else, unless, unless_else, missing, operators, package_wise}
-use Rattle.solv_pool.specs.Catalog.{Catalog, members, packages, dependency}
-use Rattle.solv_pool.specs.Holding.{holds, member_meets, package_meets}
-use Rattle.solv_rules.specs.Making.{is_single}
+use Rattle.std.proofs.Math.Path.{fun_ext}
+use Rattle.solv_base.specs.Dependency.{Dep, tree_of_node}
+use Rattle.solv_base.specs.declared.relation.DepNode.{DepNode}
+use Rattle.solv_base.specs.declared.relation.DepNode.TheVariants.{Simple, Versioned, Namespace, And, Or, With, Without, If, IfElse, Unless, UnlessElse}
+use Rattle.solv_pool.specs.Catalog.{Catalog, members, packages}
+use Rattle.solv_pool.specs.Holding.{holds, leaving_out, member_meets, package_meets}
 
 left : (a b : Bool) → (a && b) ≡ true → a ≡ true
 left true b h = refl
@@ -41,28 +43,39 @@ any_filter f g (x ∷ xs) =
     with_false true b = refl
     with_false false b = refl
 
-single_holds : (catalog : Catalog) (d : Dep ℕ) (set : ℕ → Bool) → package_wise d ≡ true → operators d ≡ 0 → holds catalog d set ≡ member_meets catalog d set
-single_holds catalog (one c) set w o = refl
-single_holds catalog (namespace n) set w o = refl
-single_holds catalog (and a b) set w o = absurd (omega (arith, o))
-single_holds catalog (or a b) set w o = absurd (omega (arith, o))
-single_holds catalog (with a b) set w o = absurd (omega (arith, o))
-single_holds catalog (without a b) set w o = absurd (omega (arith, o))
-single_holds catalog (if_then a b) set w o = absurd (omega (arith, o))
-single_holds catalog (if_else a b c) set w o = absurd (omega (arith, o))
-single_holds catalog (unless a b) set w o = absurd (omega (arith, o))
-single_holds catalog (unless_else a b c) set w o = absurd (omega (arith, o))
-single_holds catalog missing set w o = cc
+-- one of the packages that meet a dependency alone is there
+pub met_by : (catalog : Catalog) (d : Dep ℕ) (set : ℕ → Bool) → list_any set (filter (package_meets catalog d) (members catalog)) ≡ member_meets catalog d set
+met_by catalog d set = any_filter set (package_meets catalog d) (members catalog)
 
-pub no_operator : (catalog : Catalog) (d : ℕ) → is_single catalog d ≡ true → operators (dependency catalog d) ≡ 0
-no_operator catalog d h = let zero_ : (operators (dependency catalog d) == 0) ≡ true = right (package_wise (dependency catalog d)) _ h in grind (arith, nat_tests, zero_)
+-- a relation that is neither `&` nor `|` nor a condition
+pub record IsAlone (node : DepNode) : Type 0 where
+  pub not_and : (a b : ℕ) → node ≡ And a b → ⊥
+  pub not_or : (a b : ℕ) → node ≡ Or a b → ⊥
+  pub not_if : (a b : ℕ) → node ≡ If a b → ⊥
+  pub not_if_else : (a b c : ℕ) → node ≡ IfElse a b c → ⊥
+  pub not_unless : (a b : ℕ) → node ≡ Unless a b → ⊥
+  pub not_unless_else : (a b c : ℕ) → node ≡ UnlessElse a b c → ⊥
 
--- a single dependency holds in a set where one of the packages that meet it is there
-pub holds_by : (catalog : Catalog) (d : ℕ) (set : ℕ → Bool) → is_single catalog d ≡ true
-    → list_any set (filter (package_meets catalog (dependency catalog d)) (members catalog)) ≡ holds catalog (dependency catalog d) set
-holds_by catalog d set h =
-    any_filter set (package_meets catalog (dependency catalog d)) (members catalog)
-    ∙ sym (single_holds catalog (dependency catalog d) set (left (package_wise (dependency catalog d)) _ h) (no_operator catalog d h))
+-- it holds where one of the packages that meet it alone is there
+alone_holds : (catalog : Catalog) (at : ℕ → Dep ℕ) (node : DepNode) (set : ℕ → Bool) → IsAlone node → member_meets catalog (tree_of_node at node) set ≡ holds catalog (tree_of_node at node) set
+alone_holds catalog at (Simple n) set h = refl
+alone_holds catalog at (Versioned n c e) set h = refl
+alone_holds catalog at (Namespace n) set h = refl
+alone_holds catalog at (And a b) set h = absurd (h.not_and a b refl)
+alone_holds catalog at (Or a b) set h = absurd (h.not_or a b refl)
+alone_holds catalog at (With a b) set h = refl
+alone_holds catalog at (Without a b) set h = refl
+alone_holds catalog at (If a b) set h = absurd (h.not_if a b refl)
+alone_holds catalog at (Unless a b) set h = absurd (h.not_unless a b refl)
+alone_holds catalog at (IfElse a b c) set h = absurd (h.not_if_else a b c refl)
+alone_holds catalog at (UnlessElse a b c) set h = absurd (h.not_unless_else a b c refl)
+
+pub holds_alone : (catalog : Catalog) (at : ℕ → Dep ℕ) (node : DepNode) (d : Dep ℕ) (set : ℕ → Bool) → d ≡ tree_of_node at node → IsAlone node → member_meets catalog d set ≡ holds catalog d set
+holds_alone catalog at node d set read h =
+    ap (λ t. member_meets catalog t set) read ∙ alone_holds catalog at node set h ∙ sym (ap (λ t. holds catalog t set) read)
+
+pub none_left_out : (set : ℕ → Bool) → leaving_out None set ≡ set
+none_left_out set = fun_ext (λ q. refl)
 
 all_filter : (f p : ℕ → Bool) (qs : List ℕ) → list_all f qs ≡ true → list_all f (filter p qs) ≡ true
 all_filter f p [] h = refl

@@ -1,26 +1,27 @@
 -- What a package asks for, over the lists that the index has.
-use Rattle.std.proofs.Common.{◌≡◌, ◌<◌, ◌+◌, ◌-◌, ℕ, zero, suc, Bool, true, false, not, ◌&&◌, ◌||◌, List, [], ◌∷◌, ◌++◌, map, length, Option, Some, None, refl, ap, ◌∙◌, arith, add-one, append_assoc}
+use Rattle.std.proofs.Common.{◌≡◌, ◌<◌, ◌+◌, ◌-◌, ℕ, zero, suc, Bool, true, false, not, ◌&&◌, ◌||◌, List, [], ◌∷◌, ◌++◌, map, length, Option, Some, None, refl, sym, ap, ◌∙◌, arith, add-one, append_assoc}
 use Rattle.std.specs.Prelude.{filter, flat_map, slice_get, nat_lt, ◌==◌, if◌then◌else◌}
 use Rattle.std.specs.List.{list_all, range_with_len}
 use Rattle.std.proofs.lemmas.Bool.{ltb-true}
 use Rattle.std.proofs.lemmas.Bool.Decides.{nat_tests}
 use Rattle.std.proofs.lemmas.List.{append-nil}
-use Rattle.solv_base.specs.Dependency.{plain, package_wise}
+use Rattle.solv_base.specs.Dependency.{Dep, one, namespace, and, or, with, without, if_then, if_else, unless, unless_else, missing, plain, package_wise}
+use Rattle.solv_base.specs.Places.{fits_place, unconditional}
 use Rattle.solv_pool.specs.Words.{passes}
 use Rattle.solv_pool.specs.Belonging.{fits, names_of, relations_of}
 use Rattle.solv_pool.specs.Catalog.{Catalog, catalog_of, dependency, is_installed, members, package_at, packages, same_name}
-use Rattle.solv_pool.specs.Counting.{is_fully_counted, pair_counts, rich_conflict_counts}
+use Rattle.solv_pool.specs.Counting.{is_fully_counted, pair_counts}
 use Rattle.solv_pool.specs.HardRules.{not_installable_rules, requirement_rules, is_conflicting, conflicting, rich_conflict_rules, is_obsoleted, obsoleted, obsoletion_rules, is_later_namesake, same_name_rules, rules_asked_by, rules_of_package}
 use Rattle.solv_pool.specs.Holding.{package_meets}
 use Rattle.solv_pool.specs.JobMarks.{marked}
 use Rattle.solv_pool.specs.Providing.{covers, is_named}
-use Rattle.solv_pool.specs.RuleMeaning.{con, rich_con, obs, same}
+use Rattle.solv_pool.specs.RuleMeaning.{con, obs, same}
 use Rattle.solv_pool.specs.declared.packages.Package.{Package}
 use Rattle.solv_pool.specs.declared.packages.Need.{Need}
 use Rattle.solv_pool.specs.declared.job_marks.Marks.{Marks}
 use Rattle.solv_pool.specs.declared.tasks.Task.{Task}
 use Rattle.solv_prov.specs.Index.{Index}
-use Rattle.solv_rules.specs.Making.{IsReady, IsSound, asks_singly, is_single, requirements_of, is_counted_other, against, conflicts_of, obsoletions_of, is_barred, namesakes_of}
+use Rattle.solv_rules.specs.Making.{IsReady, IsSound, asks_in_form, requirements_of, is_counted_other, against, conflict_of, conflicts_of, rich_conflicts_of, all_conflicts_of, obsoletions_of, is_barred, namesakes_of}
 
 left : (a b : Bool) → (a && b) ≡ true → a ≡ true
 left true b h = refl
@@ -47,6 +48,26 @@ all_of_map : (p : ℕ → Bool) (needs : List Need) → list_all p (map (λ need
 all_of_map p [] h = refl
 all_of_map p (need ∷ needs) h = rw (left (p need.dep) (list_all p (map (λ (n : Need). n.dep) needs)) h) (all_of_map p needs (right (p need.dep) (list_all p (map (λ (n : Need). n.dep) needs)) h))
 
+-- what has no condition may stand at a conflict
+unconditional_fits : (d : Dep ℕ) → unconditional d ≡ true → fits_place false d ≡ true
+unconditional_fits (one c) h = refl
+unconditional_fits (namespace n) h = refl
+unconditional_fits (and a b) h = rw (unconditional_fits a (left (unconditional a) (unconditional b) h)) (unconditional_fits b (right (unconditional a) (unconditional b) h))
+unconditional_fits (or a b) h = rw (unconditional_fits a (left (unconditional a) (unconditional b) h)) (unconditional_fits b (right (unconditional a) (unconditional b) h))
+unconditional_fits (with a b) h = h
+unconditional_fits (without a b) h = h
+unconditional_fits (if_then a b) h = cc
+unconditional_fits (if_else a b c) h = cc
+unconditional_fits (unless a b) h = cc
+unconditional_fits (unless_else a b c) h = cc
+unconditional_fits missing h = cc
+
+all_fit : (catalog : Catalog) (ds : List ℕ) → list_all (λ d. unconditional (dependency catalog d)) ds ≡ true → list_all (λ d. fits_place false (dependency catalog d)) ds ≡ true
+all_fit catalog [] h = refl
+all_fit catalog (d ∷ ds) h =
+    rw (unconditional_fits (dependency catalog d) (left (unconditional (dependency catalog d)) (list_all (λ d. unconditional (dependency catalog d)) ds) h))
+    (all_fit catalog ds (right (unconditional (dependency catalog d)) (list_all (λ d. unconditional (dependency catalog d)) ds) h))
+
 -- a package of a task that is ready
 module _ (task : Task) (index : Index) (marks : Marks) (k : ℕ) (a : Package) (ready : IsReady task index marks) (at : slice_get task.universe.packages k ≡ Some a) where
   abbrev below : ℕ → Bool
@@ -58,8 +79,8 @@ module _ (task : Task) (index : Index) (marks : Marks) (k : ℕ) (a : Package) (
   fit : fits (length task.pool.names) (length task.pool.nodes) (length task.universe.repos) a ≡ true
   fit = all_at (fits (length task.pool.names) (length task.pool.nodes) (length task.universe.repos)) task.universe.packages k a ready.over.packages at
 
-  singly : asks_singly (catalog_of task) a ≡ true
-  singly = all_at (asks_singly (catalog_of task)) task.universe.packages k a ready.singly at
+  formed : asks_in_form (catalog_of task) a ≡ true
+  formed = all_at (asks_in_form (catalog_of task)) task.universe.packages k a ready.formed at
 
   behind : list_all below (map (λ (n : Need). n.dep) a.requires_ ++ (a.conflicts ++ (a.obsoletes ++ (a.recommends ++ (a.suggests ++ (a.supplements ++ a.enhances)))))) ≡ true
   behind = all_right below a.provides _ (left (list_all below (relations_of a)) _ (right (list_all named (names_of a)) _ fit))
@@ -68,9 +89,9 @@ module _ (task : Task) (index : Index) (marks : Marks) (k : ℕ) (a : Package) (
   sound = record {
     name = ltb-true a.name (length task.pool.names) (left (named a.name) _ (left (list_all named (names_of a)) _ fit));
     needs = all_of_map below a.requires_ (all_left below (map (λ (n : Need). n.dep) a.requires_) _ behind);
-    single_needs = left (list_all (λ (need : Need). is_single (catalog_of task) need.dep) a.requires_) _ singly;
+    formed_needs = left (list_all (λ (need : Need). fits_place true (dependency (catalog_of task) need.dep)) a.requires_) _ formed;
     conflicts = all_left below a.conflicts _ (all_right below (map (λ (n : Need). n.dep) a.requires_) _ behind);
-    single_conflicts = right (list_all (λ (need : Need). is_single (catalog_of task) need.dep) a.requires_) _ singly;
+    formed_conflicts = all_fit (catalog_of task) a.conflicts (right (list_all (λ (need : Need). fits_place true (dependency (catalog_of task) need.dep)) a.requires_) _ formed);
     obsoletes = all_left below a.obsoletes _ (all_right below a.conflicts _ (all_right below (map (λ (n : Need). n.dep) a.requires_) _ behind));
   }
 
@@ -89,9 +110,25 @@ first_second true false c = refl
 first_second false true c = refl
 first_second false false c = refl
 
-in_a_row : {X : Type 0} (a b c d e : List X) → a ++ b ++ c ++ [] ++ d ++ e ≡ a ++ (b ++ (c ++ (d ++ e)))
-in_a_row a b c d e =
-    ap (λ t. t ++ d ++ e) (append-nil (a ++ b ++ c)) ∙ append_assoc (a ++ b ++ c) d e ∙ append_assoc (a ++ b) c (d ++ e) ∙ append_assoc a b (c ++ (d ++ e))
+in_a_row : {X : Type 0} (a b c r d e : List X) → a ++ b ++ c ++ r ++ d ++ e ≡ a ++ (b ++ ((c ++ r) ++ (d ++ e)))
+in_a_row a b c r d e =
+    ap (λ t. t ++ d ++ e) (append_assoc (a ++ b) c r) ∙ append_assoc (a ++ b ++ (c ++ r)) d e ∙ append_assoc (a ++ b) (c ++ r) (d ++ e) ∙ append_assoc a b ((c ++ r) ++ (d ++ e))
+
+-- the conflicts that packages meet alone, the first of them before the others
+module _ (catalog : Catalog) (fully : Bool) (p : ℕ) where
+  pub conflict_alone : (d : ℕ) → package_wise (dependency catalog d) ≡ true → conflicts_of catalog fully p (d ∷ []) ≡ conflict_of catalog fully p d
+  conflict_alone d h = rw h (append-nil (conflict_of catalog fully p d))
+
+  pub no_conflict_alone : (d : ℕ) → package_wise (dependency catalog d) ≡ false → conflicts_of catalog fully p (d ∷ []) ≡ []
+  no_conflict_alone d h = rw h refl
+
+  pub conflicts_first : (d : ℕ) (ds : List ℕ) → conflicts_of catalog fully p (d ∷ ds) ≡ conflicts_of catalog fully p (d ∷ []) ++ conflicts_of catalog fully p ds
+  conflicts_first d ds = step (package_wise (dependency catalog d))
+    where
+      step : (b : Bool) → flat_map (conflict_of catalog fully p) (if b then d ∷ filter (λ e. package_wise (dependency catalog e)) ds else filter (λ e. package_wise (dependency catalog e)) ds)
+          ≡ flat_map (conflict_of catalog fully p) (if b then d ∷ [] else []) ++ flat_map (conflict_of catalog fully p) (filter (λ e. package_wise (dependency catalog e)) ds)
+      step true = ap (λ t. t ++ flat_map (conflict_of catalog fully p) (filter (λ e. package_wise (dependency catalog e)) ds)) (sym (append-nil (conflict_of catalog fully p d)))
+      step false = refl
 
 module _ (catalog : Catalog) (marks : Marks) (p : ℕ) where
   conflicting_is : (d : ℕ) → conflicting catalog marks p d ≡ filter (is_counted_other catalog (is_fully_counted catalog marks p) p) (filter (package_meets catalog (dependency catalog d)) (members catalog))
@@ -104,19 +141,11 @@ module _ (catalog : Catalog) (marks : Marks) (p : ℕ) where
       filter_twice (is_counted_other catalog (is_fully_counted catalog marks p) p) (covers catalog d) (is_obsoleted catalog marks p d)
       (λ q. first_second (not (q == p)) (covers catalog d q) (pair_counts catalog marks p q)) (packages catalog)
 
-  conflict_rules_are : (ds : List ℕ) → list_all (is_single catalog) ds ≡ true
-      → flat_map (λ d. map (con p d) (conflicting catalog marks p d)) (filter (λ d. package_wise (dependency catalog d)) ds) ≡ conflicts_of catalog (is_fully_counted catalog marks p) p ds
-  conflict_rules_are [] h = refl
-  conflict_rules_are (d ∷ ds) h =
-      rw (left (package_wise (dependency catalog d)) _ (left (is_single catalog d) (list_all (is_single catalog) ds) h))
-      (ap (λ qs. map (con p d) qs ++ flat_map (λ e. map (con p e) (conflicting catalog marks p e)) (filter (λ e. package_wise (dependency catalog e)) ds)) (conflicting_is d)
-      ∙ ap (λ rest. against catalog (is_fully_counted catalog marks p) p (con p d) (filter (package_meets catalog (dependency catalog d)) (members catalog)) ++ rest) (conflict_rules_are ds (right (is_single catalog d) (list_all (is_single catalog) ds) h)))
-
-  no_rich_conflicts : (ds : List ℕ) → list_all (is_single catalog) ds ≡ true → filter (λ d. not (package_wise (dependency catalog d)) && rich_conflict_counts catalog marks p d) ds ≡ []
-  no_rich_conflicts [] h = refl
-  no_rich_conflicts (d ∷ ds) h =
-      rw (left (package_wise (dependency catalog d)) _ (left (is_single catalog d) (list_all (is_single catalog) ds) h))
-      (no_rich_conflicts ds (right (is_single catalog d) (list_all (is_single catalog) ds) h))
+  conflict_rules_are : (ds : List ℕ) → flat_map (λ d. map (con p d) (conflicting catalog marks p d)) ds ≡ flat_map (conflict_of catalog (is_fully_counted catalog marks p) p) ds
+  conflict_rules_are [] = refl
+  conflict_rules_are (d ∷ ds) =
+      ap (λ qs. map (con p d) qs ++ flat_map (λ e. map (con p e) (conflicting catalog marks p e)) ds) (conflicting_is d)
+      ∙ ap (λ rest. conflict_of catalog (is_fully_counted catalog marks p) p d ++ rest) (conflict_rules_are ds)
 
   obsoletion_rules_are : (ds : List ℕ) → flat_map (λ d. map (obs p d) (obsoleted catalog marks p d)) ds ≡ obsoletions_of catalog (is_fully_counted catalog marks p) p ds
   obsoletion_rules_are [] = refl
@@ -152,15 +181,14 @@ module _ (catalog : Catalog) (marks : Marks) (p : ℕ) where
         → rules_asked_by catalog marks p a
         ≡ not_installable_rules catalog p
         ++ (requirements_of catalog (is_fully_counted catalog marks p) p a.requires_
-        ++ (conflicts_of catalog (is_fully_counted catalog marks p) p a.conflicts
+        ++ (all_conflicts_of catalog (is_fully_counted catalog marks p) p a.conflicts
         ++ (obsoletions_of catalog (is_fully_counted catalog marks p) p a.obsoletes
         ++ namesakes_of catalog marks p (filter (is_named catalog (plain a.name)) (packages catalog)))))
     asked_is s =
-        ap (λ t. not_installable_rules catalog p ++ requirement_rules catalog marks p a ++ t ++ rich_conflict_rules catalog marks p a ++ obsoletion_rules catalog marks p a ++ same_name_rules catalog marks p) (conflict_rules_are a.conflicts s.single_conflicts)
-        ∙ ap (λ t. not_installable_rules catalog p ++ requirement_rules catalog marks p a ++ conflicts_of catalog (is_fully_counted catalog marks p) p a.conflicts ++ map (rich_con p) t ++ obsoletion_rules catalog marks p a ++ same_name_rules catalog marks p) (no_rich_conflicts a.conflicts s.single_conflicts)
-        ∙ ap (λ t. not_installable_rules catalog p ++ requirement_rules catalog marks p a ++ conflicts_of catalog (is_fully_counted catalog marks p) p a.conflicts ++ [] ++ t ++ same_name_rules catalog marks p) (obsoletion_rules_are a.obsoletes)
-        ∙ ap (λ t. not_installable_rules catalog p ++ requirement_rules catalog marks p a ++ conflicts_of catalog (is_fully_counted catalog marks p) p a.conflicts ++ [] ++ obsoletions_of catalog (is_fully_counted catalog marks p) p a.obsoletes ++ t) namesakes_are
-        ∙ in_a_row (not_installable_rules catalog p) (requirement_rules catalog marks p a) (conflicts_of catalog (is_fully_counted catalog marks p) p a.conflicts) (obsoletions_of catalog (is_fully_counted catalog marks p) p a.obsoletes) (namesakes_of catalog marks p (filter (is_named catalog (plain a.name)) (packages catalog)))
+        ap (λ t. not_installable_rules catalog p ++ requirement_rules catalog marks p a ++ t ++ rich_conflict_rules catalog marks p a ++ obsoletion_rules catalog marks p a ++ same_name_rules catalog marks p) (conflict_rules_are (filter (λ d. package_wise (dependency catalog d)) a.conflicts))
+        ∙ ap (λ t. not_installable_rules catalog p ++ requirement_rules catalog marks p a ++ conflicts_of catalog (is_fully_counted catalog marks p) p a.conflicts ++ rich_conflict_rules catalog marks p a ++ t ++ same_name_rules catalog marks p) (obsoletion_rules_are a.obsoletes)
+        ∙ ap (λ t. not_installable_rules catalog p ++ requirement_rules catalog marks p a ++ conflicts_of catalog (is_fully_counted catalog marks p) p a.conflicts ++ rich_conflict_rules catalog marks p a ++ obsoletions_of catalog (is_fully_counted catalog marks p) p a.obsoletes ++ t) namesakes_are
+        ∙ in_a_row (not_installable_rules catalog p) (requirement_rules catalog marks p a) (conflicts_of catalog (is_fully_counted catalog marks p) p a.conflicts) (rich_conflicts_of catalog (is_fully_counted catalog marks p) p a.conflicts) (obsoletions_of catalog (is_fully_counted catalog marks p) p a.obsoletes) (namesakes_of catalog marks p (filter (is_named catalog (plain a.name)) (packages catalog)))
 
 -- the package after so many
 pub next_package : (catalog : Catalog) (marks : Marks) (before count : ℕ) → before < count

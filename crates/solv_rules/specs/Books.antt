@@ -1,6 +1,7 @@
 -- The clauses of rules in one list, beside them the rule of each, and why there may be none.
 use Rattle.std.specs.Prelude.{ℕ, suc, ℤ, ◌≡◌, ◌⊎◌, ◌+◌, Bool, true, false, ◌&&◌, nat_lt, nat_le, List, [], ◌∷◌, ◌++◌, length, map, flat_map, replicate, slice_get, slice_range, Option, Some, None, if◌then◌else◌}
 use Rattle.std.specs.List.{list_all}
+use Rattle.solv_base.specs.Places.{fits_place}
 use Rattle.solv_pool.specs.Catalog.{Catalog, catalog_of, dependency}
 use Rattle.solv_pool.specs.Clauses.{clause_count, rule_clauses, words, words_of_all, all_true}
 use Rattle.solv_pool.specs.Laws.{IsWellPlaced, names_packages}
@@ -13,7 +14,7 @@ use Rattle.solv_prov.specs.Index.{Index, IsIndexOf}
 use Rattle.solv_rich.specs.Counts.{most_clauses, saturated}
 use Rattle.solv_rich.specs.declared.fault.RichFault.{RichFault}
 use Rattle.solv_rich.specs.declared.fault.RichFault.TheVariants.{TooRich as RichTooRich, Memory as RichMemory}
-use Rattle.solv_rules.specs.Making.{IsReady, is_single}
+use Rattle.solv_rules.specs.Making.{IsReady}
 use Rattle.solv_rules.specs.declared.fault.BookFault.{BookFault}
 use Rattle.solv_rules.specs.declared.fault.BookFault.TheVariants.{TooRich, TooManyWords, Memory}
 
@@ -93,14 +94,14 @@ rises n [] = true
 rises n (q ∷ qs) = nat_le n q && rises (suc q) qs
 
 module _ (catalog : Catalog) where
-  -- the relation is there, and single packages meet it
-  abbrev pub is_held_single : ℕ → Bool
-  is_held_single d = nat_lt d (length catalog.pool.nodes) && is_single catalog d
+  -- the relation is there, and may stand at a requirement (true), or at a conflict (false)
+  abbrev pub is_held_at : Bool → ℕ → Bool
+  is_held_at at d = nat_lt d (length catalog.pool.nodes) && fits_place at (dependency catalog d)
 
-  -- a rule of which clauses can be made today: it names packages, single packages meet its dependency, and the set that it carries rises
+  -- a rule of which clauses can be made: its dependency has a form that may stand there, and the set that it carries rises
   abbrev pub has_form : HardRule → Bool
-  has_form (req p d) = is_held_single d
-  has_form (rich_con p d) = is_held_single d
+  has_form (req p d) = is_held_at true d
+  has_form (rich_con p d) = is_held_at false d
   has_form (update p xs) = rises 1 xs
   has_form (feature p xs) = rises 1 xs
   has_form (install j xs) = rises 1 xs
@@ -128,12 +129,7 @@ abbrev pub BookSaysTheRules : Type 0
 BookSaysTheRules = (catalog : Catalog) (book : Written) → IsBook catalog book
     → (k : ℕ) (r : HardRule) (span : ℕ × ℕ) → slice_get (read_rules book.rules) k ≡ Some r → slice_get book.spans k ≡ Some span → SaysTheRule catalog book r span
 
--- no conflict that is not package-wise
-abbrev pub is_no_rich_conflict : HardRule → Bool
-is_no_rich_conflict (rich_con p d) = false
-is_no_rich_conflict _ = true
-
--- a book can be made of what packages ask for, and no conflict among it is rich
+-- a book can be made of what packages ask for
 abbrev pub PackageRulesAreBookable : Type 0
 PackageRulesAreBookable = (task : Task) (index : Index) (marks : Marks) → IsReady task index marks
-    → (list_all (is_bookable (catalog_of task)) (package_rules (catalog_of task) marks) ≡ true) × (list_all is_no_rich_conflict (package_rules (catalog_of task) marks) ≡ true)
+    → list_all (is_bookable (catalog_of task)) (package_rules (catalog_of task) marks) ≡ true

@@ -8,7 +8,7 @@ use Rattle.solv_pool.specs.Clauses.{Literal, Clause, is_in, is_out, with_package
 use Rattle.solv_pool.specs.RuleMeaning.{HardRule, set_at}
 use Rattle.solv_pool.specs.declared.hard_rules.Rule.{Rule}
 use Rattle.solv_pool.specs.declared.hard_rules.Rule.TheVariants.{NotInstallable, Req, Con, RichCon, Obs, Same, Infarch, Update, Feature, Install, Erase, Lock, BestJob, BestUpdate}
-use Rattle.solv_rules.specs.Books.{most_words, overrun, or_else, rich_by, rule_fault, first_fault, owners_from, spans_from, rises, is_held_single, IsDue}
+use Rattle.solv_rules.specs.Books.{most_words, overrun, or_else, rich_by, rule_fault, first_fault, owners_from, spans_from, rises, is_held_at, IsDue}
 use Rattle.solv_rules.specs.declared.drafts.Draft.{Draft}
 use Rattle.solv_rules.specs.declared.fault.BookFault.{BookFault}
 use Rattle.solv_rules.specs.declared.forms.Form.{Form}
@@ -84,11 +84,11 @@ form_of (Lock j s) = Each s true
 form_of (BestJob j s) = OneOf s
 form_of (BestUpdate j p s) = OneOf s
 
--- the packages of a form are there, single packages meet its dependency, and its set rises
+-- the packages of a form are there, its dependency has a form that may stand there, and its set rises
 abbrev pub form_fits : Catalog → List (List ℕ) → Form → Bool
 form_fits catalog sets (Out p) = is_among (packages catalog) p
-form_fits catalog sets (Requirement p d) = is_among (packages catalog) p && is_held_single catalog d
-form_fits catalog sets (Conflict p d) = is_among (packages catalog) p && is_held_single catalog d
+form_fits catalog sets (Requirement p d) = is_among (packages catalog) p && is_held_at catalog true d
+form_fits catalog sets (Conflict p d) = is_among (packages catalog) p && is_held_at catalog false d
 form_fits catalog sets (Pair p q) = is_among (packages catalog) p && is_among (members catalog) q
 form_fits catalog sets (OneOf s) = list_all (is_among (packages catalog)) (set_at sets s) && rises 1 (set_at sets s)
 form_fits catalog sets (Each s stays) = list_all (is_among (packages catalog)) (set_at sets s)

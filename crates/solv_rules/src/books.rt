@@ -21,8 +21,7 @@ pub fn book_says_the_rules()
     clauses_say_the_rule();
 }
 
-/// A book can be made of the rules that packages ask for: they name packages, and single packages meet their dependencies. None of them is a
-/// conflict that is not package-wise.
+/// A book can be made of the rules that packages ask for: they name packages, and their dependencies have forms that may stand there.
 pub fn package_rules_are_bookable()
     ensures { PackageRulesAreBookable }
 {}

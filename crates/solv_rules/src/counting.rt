@@ -4,10 +4,10 @@ ghost use Rattle.std.specs.List.{list_all, list_any};
 ghost use Rattle.solv_prov.specs.Index.{IsIndexOf};
 ghost use Rattle.solv_pool.specs.Catalog.{catalog_of, dependency, installed_set, is_installed};
 ghost use Rattle.solv_pool.specs.Counting.{is_fully_counted};
-ghost use Rattle.solv_pool.specs.Holding.{holds};
-ghost use Rattle.solv_rules.specs.Making.{HasMarks, is_single, is_counted_other, is_excused, is_barred};
+ghost use Rattle.solv_pool.specs.Holding.{holds, leaving_out, member_meets};
+ghost use Rattle.solv_rules.specs.Making.{HasMarks, rich_conflict_holds, is_counted_other, is_excused, is_barred};
 
-use solv_base::DepId;
+use solv_base::{DepId, DepNode};
 use solv_pool::{Marks, PackNo, Task};
 use solv_prov::Providers;
 
@@ -20,35 +20,106 @@ pub(crate) fn is_fully_counted(task: &Task, marks: &Marks, pack: PackNo) -> bool
     !task.universe.installed(pack) || marks.verify.held()[pack.0 as usize]
 }
 
-/// Whether a package is in the set of the installed packages and the system.
-fn is_present(task: &Task, pack: PackNo) -> bool
+/// Whether a package is in the set of the installed packages and the system, without one that does not count.
+fn is_present(task: &Task, pack: PackNo, except: &Option<PackNo>) -> bool
     requires { pack ≤ length task.now.universe.packages }
-    ensures { result ≡ installed_set (catalog_of task.now) pack }
+    ensures { result ≡ leaving_out except.now (installed_set (catalog_of task.now)) pack }
 {
-    pack.0 == 0 || task.universe.installed(pack)
+    let present = pack.0 == 0 || task.universe.installed(pack);
+    match except {
+        None => present,
+        Some(other) => pack != *other && present,
+    }
 }
 
 /// Whether one of the packages is in that set.
-fn is_one_present(task: &Task, packs: &[PackNo]) -> bool
+fn is_one_present(task: &Task, packs: &[PackNo], except: &Option<PackNo>) -> bool
     requires { list_all (λ p. nat_le p (length task.now.universe.packages)) packs.now ≡ true }
-    ensures { result ≡ list_any (installed_set (catalog_of task.now)) packs.now }
+    ensures { result ≡ list_any (leaving_out except.now (installed_set (catalog_of task.now))) packs.now }
 {
     for pack in packs {
-        if is_present(task, *pack) {
+        if is_present(task, *pack, except) {
             return true;
         }
     }
     false
 }
 
+/// Whether a package in that set meets a dependency alone.
+fn is_met_alone(task: &Task, prov: &Providers, dep: DepId, except: &Option<PackNo>) -> bool
+    requires index { IsIndexOf prov.now (catalog_of task.now) }
+    requires held { dep < length task.now.pool.nodes }
+    ensures { result ≡ member_meets (catalog_of task.now) (dependency (catalog_of task.now) dep) (leaving_out except.now (installed_set (catalog_of task.now))) }
+{
+    is_one_present(task, prov.of(dep), except)
+}
+
+/// Whether a dependency holds in that set.
+fn holds_among(task: &Task, prov: &Providers, dep: DepId, except: &Option<PackNo>) -> bool
+    requires index { IsIndexOf prov.now (catalog_of task.now) }
+    requires held { dep < length task.now.pool.nodes }
+    ensures { result ≡ holds (catalog_of task.now) (dependency (catalog_of task.now) dep) (leaving_out except.now (installed_set (catalog_of task.now))) }
+{
+    match task.pool.dep(dep) {
+        DepNode::And(a, b) => {
+            let own = holds_among(task, prov, a, except);
+            let other = holds_among(task, prov, b, except);
+            own && other
+        }
+        DepNode::Or(a, b) => {
+            let own = holds_among(task, prov, a, except);
+            let other = holds_among(task, prov, b, except);
+            own || other
+        }
+        DepNode::If(a, b) => {
+            let own = holds_among(task, prov, a, except);
+            let condition = holds_among(task, prov, b, except);
+            own || !condition
+        }
+        DepNode::IfElse(a, b, c) => {
+            let condition = holds_among(task, prov, b, except);
+            let operand = if condition { a } else { c };
+            holds_among(task, prov, operand, except)
+        }
+        DepNode::Unless(a, b) => {
+            let own = holds_among(task, prov, a, except);
+            let condition = holds_among(task, prov, b, except);
+            own && !condition
+        }
+        DepNode::UnlessElse(a, b, c) => {
+            let condition = holds_among(task, prov, b, except);
+            let operand = if condition { c } else { a };
+            holds_among(task, prov, operand, except)
+        }
+        _ => is_met_alone(task, prov, dep, except),
+    }
+}
+
 /// Whether a requirement counts: the package is fully counted, or it holds among the installed packages.
 pub(crate) fn requirement_counts(task: &Task, prov: &Providers, fully: bool, dep: DepId) -> bool
     requires index { IsIndexOf prov.now (catalog_of task.now) }
     requires held { dep < length task.now.pool.nodes }
-    requires single { is_single (catalog_of task.now) dep ≡ true }
     ensures { result ≡ (fully || holds (catalog_of task.now) (dependency (catalog_of task.now) dep) (installed_set (catalog_of task.now))) }
 {
-    fully || is_one_present(task, prov.of(dep))
+    fully || holds_among(task, prov, dep, &None)
+}
+
+/// Whether a conflict is one that no package meets alone, and counts: the package is fully counted, or it does not hold among the other installed packages.
+pub(crate) fn rich_conflict_counts(
+    task: &Task,
+    prov: &Providers,
+    fully: bool,
+    pack: PackNo,
+    dep: DepId,
+) -> bool
+    requires index { IsIndexOf prov.now (catalog_of task.now) }
+    requires held { dep < length task.now.pool.nodes }
+    ensures { result ≡ rich_conflict_holds (catalog_of task.now) fully pack dep }
+{
+    if task.pool.package_wise(dep) {
+        return false;
+    }
+    fully || !holds_among(task, prov, dep, &Some(pack))
 }
 
 /// Whether a package is another than one that asks for something, and a conflict or an obsoletion of that one counts against it.

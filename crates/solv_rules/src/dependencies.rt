@@ -1,9 +1,8 @@
 //! The clauses of requirements, and of conflicts that are not package-wise.
-ghost use Rattle.std.specs.Prelude.{◌≡◌, Some, None, true, false};
+ghost use Rattle.std.specs.Prelude.{◌≡◌, ◌<◌, length, Some, None, true, false};
 ghost use Rattle.solv_pool.specs.Catalog.{catalog_of, dependency};
 ghost use Rattle.solv_pool.specs.Clauses.{clause_count, dependency_clauses, guarded};
 ghost use Rattle.solv_prov.specs.Index.{IsIndexOf};
-ghost use Rattle.solv_rich.specs.Counts.{IsSingle};
 ghost use Rattle.solv_rules.specs.Books.{rich_by, fault_by};
 ghost use Rattle.solv_rules.specs.Drafting.{IsDraft, TakesRule, are_few, is_number};
 
@@ -45,7 +44,7 @@ pub(crate) fn add_requirement(
     dep: DepId,
 ) -> Result<(), BookFault>
     requires index { IsIndexOf prov.now (catalog_of task.now) }
-    requires single { IsSingle (catalog_of task.now) dep }
+    requires held { dep < length task.now.pool.nodes }
     requires draft { IsDraft draft.old }
     requires number { is_number pack ≡ true }
     requires few { are_few (guarded pack (dependency_clauses (catalog_of task.now) None true (dependency (catalog_of task.now) dep))) ≡ true }
@@ -71,7 +70,7 @@ pub(crate) fn add_conflict(
     dep: DepId,
 ) -> Result<(), BookFault>
     requires index { IsIndexOf prov.now (catalog_of task.now) }
-    requires single { IsSingle (catalog_of task.now) dep }
+    requires held { dep < length task.now.pool.nodes }
     requires draft { IsDraft draft.old }
     requires number { is_number pack ≡ true }
     requires few { are_few (guarded pack (dependency_clauses (catalog_of task.now) (Some pack) false (dependency (catalog_of task.now) dep))) ≡ true }

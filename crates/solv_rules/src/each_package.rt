@@ -6,7 +6,7 @@ ghost use Rattle.solv_rules.specs.Making.{IsReady, IsSound, Puts};
 
 use crate::counting::is_fully_counted;
 use crate::making::{
-    add_conflicts, add_namesakes, add_not_installable, add_obsoletions, add_requirements,
+    add_all_conflicts, add_namesakes, add_not_installable, add_obsoletions, add_requirements,
 };
 use solv_list::Items;
 use solv_pool::{Marks, PackNo, Package, Rule, Rules, Task};
@@ -31,7 +31,7 @@ fn add_rules_of(
     let fully = is_fully_counted(task, marks, pack);
     add_not_installable(task, pack, list)?;
     add_requirements(task, prov, fully, pack, held.requires_.held(), list)?;
-    add_conflicts(task, prov, fully, pack, held.conflicts.held(), list)?;
+    add_all_conflicts(task, prov, fully, pack, held.conflicts.held(), list)?;
     add_obsoletions(task, prov, fully, pack, held.obsoletes.held(), list)?;
     add_namesakes(task, marks, pack, prov.of_name(held.name), list)
 }
@@ -70,7 +70,7 @@ fn add_packages(
 }
 
 /// Puts the rules that packages ask for behind others: package by package, and for each package that it is not installable, its
-/// requirements, its conflicts, its obsoletions, and the later packages of its name. Only those that count are there. On a
+/// requirements, its conflicts (those that packages meet alone first), its obsoletions, and the later packages of its name. Only those that count are there. On a
 /// refusal it has put the first ones of them.
 pub fn package_rules(
     _alloc: Global,

@@ -7,9 +7,9 @@ ghost use Rattle.solv_pool.specs.HardRules.{not_installable_rules};
 ghost use Rattle.solv_pool.specs.Providing.{covers};
 ghost use Rattle.solv_pool.specs.RuleMeaning.{con, obs};
 ghost use Rattle.solv_prov.specs.Index.{IsIndexOf};
-ghost use Rattle.solv_rules.specs.Making.{HasMarks, Puts, is_single, requirements_of, against, conflicts_of, obsoletions_of, namesakes_of};
+ghost use Rattle.solv_rules.specs.Making.{HasMarks, Puts, requirements_of, against, conflicts_of, rich_conflicts_of, all_conflicts_of, obsoletions_of, namesakes_of};
 
-use crate::counting::{is_barred, is_counted_other, requirement_counts};
+use crate::counting::{is_barred, is_counted_other, requirement_counts, rich_conflict_counts};
 use solv_base::DepId;
 use solv_list::Items;
 use solv_pool::{Marks, Need, PackNo, Rule, Task};
@@ -43,7 +43,6 @@ fn add_requirement(
 ) -> Result<(), AllocError>
     requires index { IsIndexOf prov.now (catalog_of task.now) }
     requires held { need.dep < length task.now.pool.nodes }
-    requires single { is_single (catalog_of task.now) need.dep ≡ true }
     ensures { Puts (requirements_of (catalog_of task.now) fully pack (need ∷ [])) result list.old list.new }
 {
     if requirement_counts(task, prov, fully, need.dep) {
@@ -63,7 +62,6 @@ pub(crate) fn add_requirements(
 ) -> Result<(), AllocError>
     requires index { IsIndexOf prov.now (catalog_of task.now) }
     requires held { list_all (λ need. nat_lt need.dep (length task.now.pool.nodes)) needs.now ≡ true }
-    requires single { list_all (λ need. is_single (catalog_of task.now) need.dep) needs.now ≡ true }
     ensures { Puts (requirements_of (catalog_of task.now) fully pack needs.now) result list.old list.new }
 {
     for need in needs {
@@ -91,7 +89,7 @@ fn add_conflict_against(
 }
 
 /// The rules of a conflict against packages.
-fn add_conflict(
+fn add_conflict_each(
     task: &Task,
     fully: bool,
     pack: PackNo,
@@ -108,8 +106,28 @@ fn add_conflict(
     Ok(())
 }
 
-/// The rules of the conflicts of a package against the packages that meet them.
-pub(crate) fn add_conflicts(
+/// The rules of a conflict against the packages that meet it, if it is one that packages meet alone.
+fn add_conflict(
+    task: &Task,
+    prov: &Providers,
+    fully: bool,
+    pack: PackNo,
+    dep: DepId,
+    list: &mut Items<Rule>,
+) -> Result<(), AllocError>
+    requires index { IsIndexOf prov.now (catalog_of task.now) }
+    requires held { dep < length task.now.pool.nodes }
+    ensures { Puts (conflicts_of (catalog_of task.now) fully pack (dep ∷ [])) result list.old list.new }
+{
+    if task.pool.package_wise(dep) {
+        add_conflict_each(task, fully, pack, dep, prov.of(dep), list)
+    } else {
+        Ok(())
+    }
+}
+
+/// The rules of the conflicts of a package that packages meet alone.
+fn add_conflicts(
     task: &Task,
     prov: &Providers,
     fully: bool,
@@ -119,13 +137,67 @@ pub(crate) fn add_conflicts(
 ) -> Result<(), AllocError>
     requires index { IsIndexOf prov.now (catalog_of task.now) }
     requires held { list_all (λ d. nat_lt d (length task.now.pool.nodes)) conflicts.now ≡ true }
-    requires single { list_all (is_single (catalog_of task.now)) conflicts.now ≡ true }
     ensures { Puts (conflicts_of (catalog_of task.now) fully pack conflicts.now) result list.old list.new }
 {
     for dep in conflicts {
-        add_conflict(task, fully, pack, *dep, prov.of(*dep), list)?;
+        add_conflict(task, prov, fully, pack, *dep, list)?;
     }
     Ok(())
+}
+
+/// The rule of a conflict that no package meets alone, if it counts.
+fn add_rich_conflict(
+    task: &Task,
+    prov: &Providers,
+    fully: bool,
+    pack: PackNo,
+    dep: DepId,
+    list: &mut Items<Rule>,
+) -> Result<(), AllocError>
+    requires index { IsIndexOf prov.now (catalog_of task.now) }
+    requires held { dep < length task.now.pool.nodes }
+    ensures { Puts (rich_conflicts_of (catalog_of task.now) fully pack (dep ∷ [])) result list.old list.new }
+{
+    if rich_conflict_counts(task, prov, fully, pack, dep) {
+        list.push(Rule::RichCon(pack, dep))?;
+    }
+    Ok(())
+}
+
+/// The rules of the other conflicts of a package.
+fn add_rich_conflicts(
+    task: &Task,
+    prov: &Providers,
+    fully: bool,
+    pack: PackNo,
+    conflicts: &[DepId],
+    list: &mut Items<Rule>,
+) -> Result<(), AllocError>
+    requires index { IsIndexOf prov.now (catalog_of task.now) }
+    requires held { list_all (λ d. nat_lt d (length task.now.pool.nodes)) conflicts.now ≡ true }
+    ensures { Puts (rich_conflicts_of (catalog_of task.now) fully pack conflicts.now) result list.old list.new }
+{
+    for dep in conflicts {
+        add_rich_conflict(task, prov, fully, pack, *dep, list)?;
+    }
+    Ok(())
+}
+
+/// The rules of all conflicts of a package: those that packages meet alone first.
+pub(crate) fn add_all_conflicts(
+    task: &Task,
+    prov: &Providers,
+    fully: bool,
+    pack: PackNo,
+    conflicts: &[DepId],
+    list: &mut Items<Rule>,
+) -> Result<(), AllocError>
+    requires index { IsIndexOf prov.now (catalog_of task.now) }
+    requires held { list_all (λ d. nat_lt d (length task.now.pool.nodes)) conflicts.now ≡ true }
+    ensures { Puts (all_conflicts_of (catalog_of task.now) fully pack conflicts.now) result list.old list.new }
+{
+    add_conflicts(task, prov, fully, pack, conflicts, list)?;
+    add_rich_conflicts(task, prov, fully, pack, conflicts, list)
 }
 
 /// The packages that an obsoletion covers.

@@ -15,7 +15,7 @@ package_rules-requires c = record {
   over = c.requires.closed.universe;
   of_task = c.requires.index;
   marks_each = record { verify = c.requires.marks.verify; multiversion = c.requires.marks.multiversion };
-  singly = c.requires.singly;
+  formed = c.requires.formed;
 }
 
 is_made : (c : goal.In-Ok-best_rules) → read_rules c.best_rules.new.rules ≡ hard_rules_by (catalog_of c.args.task.now) c.args.task.now.flags c.args.task.now.jobs c.args.marks.now
@@ -39,10 +39,10 @@ returns-clause-bookable c =
       over = c.requires.closed.universe;
       of_task = c.requires.index;
       marks_each = record { verify = c.requires.marks.verify; multiversion = c.requires.marks.multiversion };
-      singly = c.requires.singly;
+      formed = c.requires.formed;
     } in
     let B : List HardRule → Type 0 = λ l. list_all (is_bookable catalog) l ≡ true in
     record {
       of_task = c.requires.index;
-      each = subst B (sym (is_made c)) (all_bookable catalog c.args.task.now.flags c.args.task.now.jobs c.args.marks.now (c.package_rules_are_bookable.ensures c.args.task.now c.args.prov.now c.args.marks.now ready).0);
+      each = subst B (sym (is_made c)) (all_bookable catalog c.args.task.now.flags c.args.task.now.jobs c.args.marks.now (c.package_rules_are_bookable.ensures c.args.task.now c.args.prov.now c.args.marks.now ready));
     }

@@ -1,31 +1,30 @@
-use Rattle.std.proofs.Common.{[], ◌∷◌, ◌+◌, ◌≡◌, ◌++◌, ◌∙◌, drop, length, nat_le, sym, ap, arith, rules}
-use Rattle.std.proofs.lemmas.List.{drop_more, drop_all}
-use Rattle.solv_pool.specs.Catalog.{catalog_of}
-use Rattle.solv_pool.specs.RuleMeaning.{con}
-use Rattle.solv_rules.specs.Making.{is_counted_other, against}
-use Rattle.solv_rules.proofs.Meeting.{all_behind}
-use Rattle.solv_rules.proofs.Putting.{IsLeft, puts_all, turn, broken, first_of, left_as}
+use Rattle.std.proofs.Common.{◌≡◌, ◌∙◌, ◌∷◌, [], true, false, sym, subst, List}
+use Rattle.std.specs.Prelude.{filter}
+use Rattle.solv_base.specs.Dependency.{package_wise}
+use Rattle.solv_pool.specs.Catalog.{Catalog, catalog_of, dependency, members}
+use Rattle.solv_pool.specs.Holding.{package_meets}
+use Rattle.solv_pool.specs.RuleMeaning.{HardRule, con}
+use Rattle.solv_rules.specs.Making.{Puts, against, conflicts_of}
+use Rattle.solv_rules.proofs.Meeting.{members_within}
+use Rattle.solv_rules.proofs.Packages.{conflict_alone, no_conflict_alone}
+use Rattle.solv_rules.proofs.Putting.{puts_nothing}
 use Rattle.solv_rules.proofs.making.add_conflict.Goals as goal
 
-pub returns-in_err-add_conflict_against : goal.returns-in_err-add_conflict_against
-returns-in_err-add_conflict_against c =
-    let at : drop c.loop-other.other-index c.args.others.now ≡ c.other-item.result ∷ drop (c.loop-other.other-index + 1) c.args.others.now =
-    drop_more c.args.others.now c.loop-other.other-index c.other-item.result (omega arith) ∙ ap (λ x. x ∷ drop (c.loop-other.other-index + 1) c.args.others.now) (sym c.other-item.is) in
-    let here : IsLeft ((against (catalog_of c.args.task.now) c.args.fully c.args.pack (con c.args.pack c.args.dep) (c.other-item.result ∷ [])) ++ against (catalog_of c.args.task.now) c.args.fully c.args.pack (con c.args.pack c.args.dep) (drop (c.loop-other.other-index + 1) c.args.others.now)) c.loop-other.list (against (catalog_of c.args.task.now) c.args.fully c.args.pack (con c.args.pack c.args.dep) c.args.others.now) c.args.list.now =
-    left_as (ap (λ t. against (catalog_of c.args.task.now) c.args.fully c.args.pack (con c.args.pack c.args.dep) t) at ∙ first_of (con c.args.pack c.args.dep) (is_counted_other (catalog_of c.args.task.now) c.args.fully c.args.pack) c.other-item.result (drop (c.loop-other.other-index + 1) c.args.others.now)) c.loop-other.invariant.left in
-    broken (against (catalog_of c.args.task.now) c.args.fully c.args.pack (con c.args.pack c.args.dep) (c.other-item.result ∷ [])) (against (catalog_of c.args.task.now) c.args.fully c.args.pack (con c.args.pack c.args.dep) (drop (c.loop-other.other-index + 1) c.args.others.now)) (against (catalog_of c.args.task.now) c.args.fully c.args.pack (con c.args.pack c.args.dep) c.args.others.now) c.add_conflict_against.result c.from_residual.result _ c.args.list.now c.loop-other.list c.add_conflict_against.new.list (search rules) c.add_conflict_against.ensures here
+pub add_conflict_each-requires : goal.add_conflict_each-requires
+add_conflict_each-requires c =
+    let catalog : Catalog = catalog_of c.args.task.now in
+    rw (c.of.ensures.exact catalog c.requires.index) (members_within catalog (package_meets catalog (dependency catalog c.args.dep)))
 
-pub loop-other-preserved : goal.loop-other-preserved
-loop-other-preserved c =
-    let at : drop c.loop-other.other-index c.args.others.now ≡ c.other-item.result ∷ drop (c.loop-other.other-index + 1) c.args.others.now =
-    drop_more c.args.others.now c.loop-other.other-index c.other-item.result (omega arith) ∙ ap (λ x. x ∷ drop (c.loop-other.other-index + 1) c.args.others.now) (sym c.other-item.is) in
-    let here : IsLeft ((against (catalog_of c.args.task.now) c.args.fully c.args.pack (con c.args.pack c.args.dep) (c.other-item.result ∷ [])) ++ against (catalog_of c.args.task.now) c.args.fully c.args.pack (con c.args.pack c.args.dep) (drop (c.loop-other.other-index + 1) c.args.others.now)) c.loop-other.list (against (catalog_of c.args.task.now) c.args.fully c.args.pack (con c.args.pack c.args.dep) c.args.others.now) c.args.list.now =
-    left_as (ap (λ t. against (catalog_of c.args.task.now) c.args.fully c.args.pack (con c.args.pack c.args.dep) t) at ∙ first_of (con c.args.pack c.args.dep) (is_counted_other (catalog_of c.args.task.now) c.args.fully c.args.pack) c.other-item.result (drop (c.loop-other.other-index + 1) c.args.others.now)) c.loop-other.invariant.left in
-    record {
-      within = all_behind (λ q. nat_le q (length c.args.task.now.universe.packages)) c.args.others.now c.loop-other.other-index c.loop-other.invariant.within;
-      left = turn (against (catalog_of c.args.task.now) c.args.fully c.args.pack (con c.args.pack c.args.dep) (c.other-item.result ∷ [])) (against (catalog_of c.args.task.now) c.args.fully c.args.pack (con c.args.pack c.args.dep) (drop (c.loop-other.other-index + 1) c.args.others.now)) (against (catalog_of c.args.task.now) c.args.fully c.args.pack (con c.args.pack c.args.dep) c.args.others.now) c.add_conflict_against.result _ c.args.list.now c.loop-other.list c.add_conflict_against.new.list c.in_ok-add_conflict_against.was c.add_conflict_against.ensures here;
-    }
+pub returns-then-package_wise : goal.returns-then-package_wise
+returns-then-package_wise c =
+    let catalog : Catalog = catalog_of c.args.task.now in
+    let list : c.of.result.now ≡ filter (package_meets catalog (dependency catalog c.args.dep)) (members catalog) = c.of.ensures.exact catalog c.requires.index in
+    let wise : package_wise (dependency catalog c.args.dep) ≡ true = sym c.package_wise.ensures ∙ c.if-package_wise.true in
+    let put : Puts (against catalog c.args.fully c.args.pack (con c.args.pack c.args.dep) (filter (package_meets catalog (dependency catalog c.args.dep)) (members catalog))) c.add_conflict_each.result c.args.list.now c.add_conflict_each.new.list = rw list at c.add_conflict_each.ensures in
+    subst (λ (t : List HardRule). Puts t c.add_conflict_each.result c.args.list.now c.add_conflict_each.new.list) (sym (conflict_alone catalog c.args.fully c.args.pack c.args.dep wise)) put
 
-pub returns : goal.returns
-returns c = puts_all (against (catalog_of c.args.task.now) c.args.fully c.args.pack (con c.args.pack c.args.dep) c.args.others.now) _ c.args.list.now c.loop-other.list
-    (left_as (ap (λ t. against (catalog_of c.args.task.now) c.args.fully c.args.pack (con c.args.pack c.args.dep) t) (drop_all c.loop-other.other-index c.args.others.now (omega (arith, c.loop-other-test.false)))) c.loop-other.invariant.left)
+pub returns-else-package_wise : goal.returns-else-package_wise
+returns-else-package_wise c =
+    let catalog : Catalog = catalog_of c.args.task.now in
+    let apart : package_wise (dependency catalog c.args.dep) ≡ false = sym c.package_wise.ensures ∙ c.if-package_wise.false in
+    puts_nothing (conflicts_of catalog c.args.fully c.args.pack (c.args.dep ∷ [])) _ c.args.list.now (no_conflict_alone catalog c.args.fully c.args.pack c.args.dep apart)

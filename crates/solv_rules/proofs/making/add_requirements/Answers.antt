@@ -2,7 +2,7 @@ use Rattle.std.proofs.Common.{[], ◌∷◌, ◌+◌, ◌≡◌, ◌++◌, ◌�
 use Rattle.std.proofs.lemmas.List.{drop_more, drop_all}
 use Rattle.solv_pool.specs.Catalog.{catalog_of}
 use Rattle.solv_pool.specs.RuleMeaning.{req}
-use Rattle.solv_rules.specs.Making.{requirements_of, requirement_holds, is_single}
+use Rattle.solv_rules.specs.Making.{requirements_of, requirement_holds}
 use Rattle.solv_rules.proofs.Meeting.{all_behind}
 use Rattle.solv_rules.proofs.Putting.{IsLeft, puts_all, turn, broken, first_of, left_as}
 use Rattle.solv_rules.proofs.making.add_requirements.Goals as goal
@@ -23,7 +23,6 @@ loop-need-preserved c =
     left_as (ap (λ t. requirements_of (catalog_of c.args.task.now) c.args.fully c.args.pack t) at ∙ first_of (λ need. req c.args.pack need.dep) (requirement_holds (catalog_of c.args.task.now) c.args.fully) c.need-item.result (drop (c.loop-need.need-index + 1) c.args.needs.now)) c.loop-need.invariant.left in
     record {
       held = all_behind (λ need. nat_lt need.dep (length c.args.task.now.pool.nodes)) c.args.needs.now c.loop-need.need-index c.loop-need.invariant.held;
-      single = all_behind (λ need. is_single (catalog_of c.args.task.now) need.dep) c.args.needs.now c.loop-need.need-index c.loop-need.invariant.single;
       left = turn (requirements_of (catalog_of c.args.task.now) c.args.fully c.args.pack (c.need-item.result ∷ [])) (requirements_of (catalog_of c.args.task.now) c.args.fully c.args.pack (drop (c.loop-need.need-index + 1) c.args.needs.now)) (requirements_of (catalog_of c.args.task.now) c.args.fully c.args.pack c.args.needs.now) c.add_requirement.result _ c.args.list.now c.loop-need.list c.add_requirement.new.list c.in_ok-add_requirement.was c.add_requirement.ensures here;
     }
 

@@ -4,7 +4,7 @@ use Rattle.solv_pool.specs.Catalog.{catalog_of}
 use Rattle.solv_pool.specs.RuleMeaning.{con}
 use Rattle.solv_rules.specs.Making.{against}
 use Rattle.solv_rules.proofs.Putting.{IsLeft}
-use Rattle.solv_rules.proofs.making.add_conflict.Given as goal
+use Rattle.solv_rules.proofs.making.add_conflict_each.Given as goal
 
 abbrev pub invariant-loop-other : goal.invariant-loop-other
 invariant-loop-other l = record {
