@@ -67,7 +67,7 @@ pub(crate) fn name_rank(
 }
 
 /// Whether a package is installed and not marked for update.
-pub(crate) fn stays(task: &Task, marks: &Marks, pack: PackNo) -> bool
+pub fn stays(task: &Task, marks: &Marks, pack: PackNo) -> bool
     requires pack { IsPlace task.now pack }
     requires marks { HasMarks (length task.now.universe.packages) marks.now }
     ensures { result ≡ stays (catalog_of task.now) marks.now pack }
@@ -80,7 +80,7 @@ pub(crate) fn stays(task: &Task, marks: &Marks, pack: PackNo) -> bool
 }
 
 /// The favour of a package.
-pub(crate) fn favour_at(task: &Task, marks: &Marks, pack: PackNo) -> i8
+pub fn favour_at(task: &Task, marks: &Marks, pack: PackNo) -> i8
     requires pack { IsPlace task.now pack }
     requires marks { HasMarks (length task.now.universe.packages) marks.now }
     ensures { result ≡ favour_at marks.now pack }

@@ -29,7 +29,7 @@ pub(crate) fn numbers_of(alloc: Global, list: &[PackNo]) -> Result<BTreeSet<u32>
 }
 
 /// The packages that obsolete a package.
-fn obsoleters<'a>(task: &Task, prov: &'a Providers, pack: PackNo) -> &'a [PackNo]
+pub fn obsoleters<'a>(task: &Task, prov: &'a Providers, pack: PackNo) -> &'a [PackNo]
     requires index { IsIndexOf prov.now (catalog_of task.now) }
     requires pack { IsPlace task.now pack }
     ensures exact { result.now ≡ filter (λ q. obsoletes (catalog_of task.now) q pack) (packages (catalog_of task.now)) }

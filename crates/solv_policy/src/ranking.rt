@@ -10,7 +10,7 @@ ghost use Rattle.solv_policy.specs.Candidates.{IsPlace, priority_under};
 use solv_pool::{PackNo, Package, Task};
 
 /// The record of a package.
-pub(crate) fn package(task: &Task, pack: PackNo) -> &Package
+pub fn package(task: &Task, pack: PackNo) -> &Package
     requires over { IsOver task.now.pool task.now.universe }
     requires pack { IsPlace task.now pack }
     ensures at { package_at (catalog_of task.now) pack ≡ Some result.now }
@@ -20,7 +20,7 @@ pub(crate) fn package(task: &Task, pack: PackNo) -> &Package
 }
 
 /// Whether two packages have one name.
-pub(crate) fn same_name(task: &Task, pack: PackNo, other: PackNo) -> bool
+pub fn same_name(task: &Task, pack: PackNo, other: PackNo) -> bool
     requires pack { IsPlace task.now pack }
     requires other { IsPlace task.now other }
     ensures { result ≡ same_name (catalog_of task.now) pack other }
@@ -29,7 +29,7 @@ pub(crate) fn same_name(task: &Task, pack: PackNo, other: PackNo) -> bool
 }
 
 /// The priority of a package's repository.
-fn priority_of(task: &Task, pack: PackNo) -> i32
+pub fn priority_of(task: &Task, pack: PackNo) -> i32
     requires over { IsOver task.now.pool task.now.universe }
     requires pack { IsPlace task.now pack }
     ensures { result ≡ priority_of (catalog_of task.now) pack }

@@ -1,20 +1,21 @@
--- Where single packages meet all dependencies, each rule has a form that may stand at its place.
+-- Where what packages ask for has forms for its places, so has each rule.
 use Rattle.std.proofs.Common.{◌≡◌, ℕ, zero, suc, ◌+◌, Bool, true, false, not, ◌&&◌, List, [], ◌∷◌, Option, Some, None, inl, inr, refl, sym, ◌∙◌, ap, subst, arith}
 use Rattle.std.specs.Prelude.{◌==◌, slice_get, unwrap_or}
 use Rattle.std.specs.List.{list_all}
 use Rattle.std.proofs.lemmas.Bool.{and_parts, false≢true, true≢false}
 use Rattle.solv_base.specs.Dependency.{Dep, one, namespace, and, or, with, without, if_then, if_else, unless, unless_else, missing, package_wise, operators}
-use Rattle.solv_base.specs.Places.{fits_place}
+use Rattle.solv_base.specs.Places.{fits_place, unconditional}
 use Rattle.solv_pool.specs.Catalog.{package_at, dependency}
 use Rattle.solv_pool.specs.Counting.{requirement_counts, rich_conflict_counts}
 use Rattle.solv_pool.specs.RuleMeaning.{HardRule, not_installable, req, con, rich_con, obs, same, infarch, update, feature, install, erase, lock, best_job, best_update}
 use Rattle.solv_pool.specs.Laws.{IsWellPlaced}
 use Rattle.solv_pool.specs.declared.packages.Package.{Package}
-use Rattle.solv_rules.specs.Making.{is_single, asks_singly}
-use Rattle.solv_questions.specs.Law.{AsksSingly}
+use Rattle.solv_rules.specs.Making.{asks_in_form}
+use Rattle.solv_questions.specs.Law.{AsksInForm}
 use Rattle.solv_questions.specs.Questions.{Request}
 use Rattle.solv_questions.proofs.Members.{Has, of_filtered, all_at}
 use Rattle.solv_questions.proofs.Asking.{not_so}
+use Rattle.solv_questions.proofs.Unmet.{unconditional_fits}
 use Rattle.solv_questions.proofs.Origins.{IsFrom, IsRequired, IsRichConflict}
 
 not_suc : (k : ℕ) → (suc k == 0) ≡ false
@@ -73,29 +74,28 @@ record_there r (suc k) a e = at r.catalog.universe.packages k e
     at (x ∷ xs) zero s = inl (ap (λ o. unwrap_or o x) s)
     at (x ∷ xs) (suc n) s = inr (at xs n s)
 
-module _ (r : Request) (singly : AsksSingly r) where
-  -- the requirements and conflicts of a package are single
-  single_of : (p : ℕ) (a : Package) → package_at r.catalog p ≡ Some a → asks_singly r.catalog a ≡ true
-  single_of p a e = all_at (asks_singly r.catalog) r.catalog.universe.packages a singly (record_there r p a e)
+module _ (r : Request) (formed : AsksInForm r) where
+  -- the requirements and conflicts of a package have forms for their places
+  formed_of : (p : ℕ) (a : Package) → package_at r.catalog p ≡ Some a → asks_in_form r.catalog a ≡ true
+  formed_of p a e = all_at (asks_in_form r.catalog) r.catalog.universe.packages a formed (record_there r p a e)
 
-  pub required_single : (p d : ℕ) → IsRequired r p d → IsOne (dependency r.catalog d)
-  required_single p d own =
-      let both = and_parts (list_all (λ need. is_single r.catalog need.dep) (own.package_).requires_) (list_all (is_single r.catalog) (own.package_).conflicts) (single_of p own.package_ own.at) in
+  pub required_fits : (p d : ℕ) → IsRequired r p d → fits_place true (dependency r.catalog d) ≡ true
+  required_fits p d own =
+      let both = and_parts (list_all (λ need. fits_place true (dependency r.catalog need.dep)) (own.package_).requires_) (list_all (λ x. unconditional (dependency r.catalog x)) (own.package_).conflicts) (formed_of p own.package_ own.at) in
       let f = of_filtered (λ need. requirement_counts r.catalog r.marks p need.dep) (own.package_).requires_ own.need own.counts in
-      let S : ℕ → Type 0 = λ n. IsOne (dependency r.catalog n) in
-      subst S own.is (is_one (dependency r.catalog own.need.dep) (all_at (λ need. is_single r.catalog need.dep) (own.package_).requires_ own.need both.0 f.0))
+      let S : ℕ → Type 0 = λ n. fits_place true (dependency r.catalog n) ≡ true in
+      subst S own.is (all_at (λ need. fits_place true (dependency r.catalog need.dep)) (own.package_).requires_ own.need both.0 f.0)
 
-  pub no_rich_conflict : (p d : ℕ) → IsRichConflict r p d → ⊥
-  no_rich_conflict p d own =
-      let both = and_parts (list_all (λ need. is_single r.catalog need.dep) (own.package_).requires_) (list_all (is_single r.catalog) (own.package_).conflicts) (single_of p own.package_ own.at) in
+  pub conflict_unconditional : (p d : ℕ) → IsRichConflict r p d → unconditional (dependency r.catalog d) ≡ true
+  conflict_unconditional p d own =
+      let both = and_parts (list_all (λ need. fits_place true (dependency r.catalog need.dep)) (own.package_).requires_) (list_all (λ x. unconditional (dependency r.catalog x)) (own.package_).conflicts) (formed_of p own.package_ own.at) in
       let f = of_filtered (λ x. not (package_wise (dependency r.catalog x)) && rich_conflict_counts r.catalog r.marks p x) (own.package_).conflicts d own.counts in
-      let wise = (and_parts (package_wise (dependency r.catalog d)) (operators (dependency r.catalog d) == 0) (all_at (is_single r.catalog) (own.package_).conflicts d both.1 f.0)).0 in
-      true≢false (sym wise ∙ not_so (package_wise (dependency r.catalog d)) (and_parts (not (package_wise (dependency r.catalog d))) (rich_conflict_counts r.catalog r.marks p d) f.1).0)
+      all_at (λ x. unconditional (dependency r.catalog x)) (own.package_).conflicts d both.1 f.0
 
   -- a rule is well placed
   pub placed : (x : HardRule) → IsFrom r x → IsWellPlaced r.catalog x
-  placed (req p d) h = one_fits true (dependency r.catalog d) (required_single p d h)
-  placed (rich_con p d) h = absurd (no_rich_conflict p d h)
+  placed (req p d) h = required_fits p d h
+  placed (rich_con p d) h = unconditional_fits false (dependency r.catalog d) (conflict_unconditional p d h)
   placed (not_installable z) h = tt
   placed (con z d q) h = tt
   placed (obs z d q) h = tt
