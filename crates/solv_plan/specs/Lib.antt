@@ -1,6 +1,11 @@
+pub mod Inside
 pub mod Wanting
 pub mod Plans
 pub mod Entries
 pub mod Settling
 pub mod PlanOf
 pub mod PlanLaw
+pub mod Trees
+pub mod Choosing
+pub mod Turns
+pub mod Bounds

@@ -5,16 +5,19 @@ ghost use Rattle.solv_pool.specs.Words.{when};
 ghost use Rattle.solv_trail.specs.Asked.{is_enabled};
 ghost use Rattle.solv_trail.specs.declared.questions.Question.TheVariants.{Requires, Recommends};
 ghost use Rattle.solv_questions.specs.Questions.{first_ask, first_possible};
-ghost use Rattle.solv_plan.specs.Plans.{some_enabled, some_inside, demand_queries, keep_query, keep_queries, question_of, want_queries, is_supplementing, named_query, plan_asks};
+ghost use Rattle.solv_plan.specs.Plans.{some_enabled, demand_queries, keep_query, keep_queries, question_of, wanted_holds, row_query, wanted_query, want_queries, is_supplementing, named_query, plan_asks};
+ghost use Rattle.solv_plan.specs.Inside.{some_inside};
 
-use crate::plans::{Demand, Keep, Named, Plan, Supplement, Want};
-use crate::rows::Rows;
+use crate::choosing::ask_tree;
+use crate::plans::{Demand, Keep, Named, Plan, Relations, Supplement, Want, Wanted};
+use crate::trees::holds_by_tree;
 use crate::wants::Wants;
+use solv_base::DepId;
 use solv_pool::PackNo;
 use solv_trail::{Ask, Known, Question};
 
 /// Whether one of these packages is known in.
-fn is_some_in(known: &Known, packs: &[PackNo]) -> bool
+pub(crate) fn is_some_in(known: &Known, packs: &[PackNo]) -> bool
     ensures { result ≡ some_inside (is_fact known.now.lits) packs.now }
 {
     packs.iter().any(|pack| known.is_in(*pack))
@@ -28,7 +31,7 @@ fn first_not_out(known: &Known, packs: &[PackNo]) -> Option<PackNo>
 }
 
 /// An ask for a package, if there is one.
-fn ask_for(pack: Option<PackNo>, question: Question) -> Option<Ask>
+pub(crate) fn ask_for(pack: Option<PackNo>, question: Question) -> Option<Ask>
     ensures { result ≡ option_map (λ p. record { pack = p; question = question }) pack }
 {
     match pack {
@@ -169,34 +172,65 @@ pub enum Asking {
 
 /// Why a package is asked for that meets a dependency of another one.
 fn question(asking: Asking, want: &Want) -> Question
-    ensures { result ≡ question_of asking want.now.pack want.now.dep }
+    ensures { result ≡ question_of asking want.now.pack want.now.wanted.dep }
 {
     match asking {
-        Asking::Requires => Question::Requires(want.pack, want.dep),
-        Asking::Recommends => Question::Recommends(want.pack, want.dep),
+        Asking::Requires => Question::Requires(want.pack, want.wanted.dep),
+        Asking::Recommends => Question::Recommends(want.pack, want.wanted.dep),
+    }
+}
+
+/// What a dependency asks for by its row.
+fn ask_row(known: &Known, relations: &Relations, dep: DepId, question: Question) -> Option<Ask>
+    ensures { result ≡ first_ask (is_fact known.now.lits) (row_query (is_fact known.now.lits) relations.now question dep ∷ []) }
+{
+    let packs = relations.rows.row(dep);
+    if is_some_in(known, packs) {
+        return None;
+    }
+    ask_for(first_not_out(known, packs), question)
+}
+
+/// What a dependency asks for.
+fn ask_wanted(
+    known: &Known,
+    relations: &Relations,
+    wanted: Wanted,
+    question: Question,
+) -> Option<Ask>
+    ensures { result ≡ first_ask (is_fact known.now.lits) (wanted_query (is_fact known.now.lits) relations.now question wanted ∷ []) }
+{
+    if wanted.by_tree {
+        let nodes = relations.nodes.held();
+        let rows = &relations.rows;
+        let standings = &relations.standings;
+        ask_tree(nodes, rows, standings, known, wanted.dep, question)
+    } else {
+        ask_row(known, relations, wanted.dep, question)
     }
 }
 
 /// What a package asks for, where it is in.
-fn ask_want(known: &Known, rows: &Rows, want: &Want, asking: Asking) -> Option<Ask>
-    ensures { result ≡ first_ask (is_fact known.now.lits) (want_queries (is_fact known.now.lits) rows.now (question_of asking) want.now) }
+fn ask_want(known: &Known, relations: &Relations, want: &Want, asking: Asking) -> Option<Ask>
+    ensures { result ≡ first_ask (is_fact known.now.lits) (want_queries (is_fact known.now.lits) relations.now (question_of asking) want.now) }
 {
     if !known.is_in(want.pack) {
         return None;
     }
-    let packs = rows.row(want.dep);
-    if is_some_in(known, packs) {
-        return None;
-    }
-    ask_for(first_not_out(known, packs), question(asking, want))
+    ask_wanted(known, relations, want.wanted, question(asking, want))
 }
 
 /// What the first of these asks for.
-pub(crate) fn ask_each(known: &Known, rows: &Rows, wants: &[Want], asking: Asking) -> Option<Ask>
-    ensures { result ≡ first_ask (is_fact known.now.lits) (flat_map (want_queries (is_fact known.now.lits) rows.now (question_of asking)) wants.now) }
+pub(crate) fn ask_each(
+    known: &Known,
+    relations: &Relations,
+    wants: &[Want],
+    asking: Asking,
+) -> Option<Ask>
+    ensures { result ≡ first_ask (is_fact known.now.lits) (flat_map (want_queries (is_fact known.now.lits) relations.now (question_of asking)) wants.now) }
 {
     for want in wants {
-        let ask = ask_want(known, rows, want, asking);
+        let ask = ask_want(known, relations, want, asking);
         if ask.is_some() {
             return ask;
         }
@@ -205,13 +239,18 @@ pub(crate) fn ask_each(known: &Known, rows: &Rows, wants: &[Want], asking: Askin
 }
 
 /// What the packages that are in ask for, without the system.
-fn ask_wants_from(known: &Known, rows: &Rows, wants: &Wants, asking: Asking) -> Option<Ask>
-    ensures { result ≡ first_ask (is_fact known.now.lits) (flat_map (want_queries (is_fact known.now.lits) rows.now (question_of asking)) (filter (λ w. nat_le 1 w.pack) wants.now)) }
+fn ask_wants_from(
+    known: &Known,
+    relations: &Relations,
+    wants: &Wants,
+    asking: Asking,
+) -> Option<Ask>
+    ensures { result ≡ first_ask (is_fact known.now.lits) (flat_map (want_queries (is_fact known.now.lits) relations.now (question_of asking)) (filter (λ w. nat_le 1 w.pack) wants.now)) }
 {
     wants.rise();
     let mut from = 1;
     while let Some(number) = known.packs_in().next(from) {
-        let ask = ask_each(known, rows, wants.of(PackNo(number)), asking);
+        let ask = ask_each(known, relations, wants.of(PackNo(number)), asking);
         if ask.is_some() {
             return ask;
         }
@@ -221,34 +260,49 @@ fn ask_wants_from(known: &Known, rows: &Rows, wants: &Wants, asking: Asking) -> 
 }
 
 /// What the system asks for, and the packages that are in.
-fn ask_wants(known: &Known, rows: &Rows, wants: &Wants, asking: Asking) -> Option<Ask>
-    ensures { result ≡ first_ask (is_fact known.now.lits) (flat_map (want_queries (is_fact known.now.lits) rows.now (question_of asking)) wants.now) }
+fn ask_wants(known: &Known, relations: &Relations, wants: &Wants, asking: Asking) -> Option<Ask>
+    ensures { result ≡ first_ask (is_fact known.now.lits) (flat_map (want_queries (is_fact known.now.lits) relations.now (question_of asking)) wants.now) }
 {
     wants.rise();
-    let ask = ask_each(known, rows, wants.of(PackNo(0)), asking);
+    let ask = ask_each(known, relations, wants.of(PackNo(0)), asking);
     if ask.is_some() {
         return ask;
     }
-    ask_wants_from(known, rows, wants, asking)
+    ask_wants_from(known, relations, wants, asking)
+}
+
+/// Whether a dependency holds.
+fn is_met(known: &Known, relations: &Relations, wanted: &Wanted) -> bool
+    ensures { result ≡ wanted_holds (is_fact known.now.lits) relations.now wanted.now }
+{
+    if wanted.by_tree {
+        holds_by_tree(relations.nodes.held(), &relations.rows, known, wanted.dep)
+    } else {
+        is_some_in(known, relations.rows.row(wanted.dep))
+    }
 }
 
 /// Whether a supplement of the package holds.
-fn supplements(known: &Known, rows: &Rows, supplement: &Supplement) -> bool
-    ensures { result ≡ is_supplementing (is_fact known.now.lits) rows.now supplement.now }
+fn supplements(known: &Known, relations: &Relations, supplement: &Supplement) -> bool
+    ensures { result ≡ is_supplementing (is_fact known.now.lits) relations.now supplement.now }
 {
     supplement
         .deps
         .held()
         .iter()
-        .any(|dep| is_some_in(known, rows.row(*dep)))
+        .any(|wanted| is_met(known, relations, wanted))
 }
 
 /// The first of these packages of which a supplement holds and that is not out.
-fn first_supplementing(known: &Known, rows: &Rows, candidates: &[Supplement]) -> Option<PackNo>
-    ensures { result ≡ first_possible (is_fact known.now.lits) (map (λ s. s.pack) (filter (is_supplementing (is_fact known.now.lits) rows.now) candidates.now)) }
+fn first_supplementing(
+    known: &Known,
+    relations: &Relations,
+    candidates: &[Supplement],
+) -> Option<PackNo>
+    ensures { result ≡ first_possible (is_fact known.now.lits) (map (λ s. s.pack) (filter (is_supplementing (is_fact known.now.lits) relations.now) candidates.now)) }
 {
     for candidate in candidates {
-        if supplements(known, rows, candidate) && !known.is_out(candidate.pack) {
+        if supplements(known, relations, candidate) && !known.is_out(candidate.pack) {
             return Some(candidate.pack);
         }
     }
@@ -256,22 +310,22 @@ fn first_supplementing(known: &Known, rows: &Rows, candidates: &[Supplement]) ->
 }
 
 /// A package of a name, where none is in and a supplement holds.
-fn ask_named(known: &Known, rows: &Rows, named: &Named) -> Option<Ask>
-    ensures { result ≡ first_ask (is_fact known.now.lits) (named_query (is_fact known.now.lits) rows.now named.now ∷ []) }
+pub(crate) fn ask_named(known: &Known, relations: &Relations, named: &Named) -> Option<Ask>
+    ensures { result ≡ first_ask (is_fact known.now.lits) (named_query (is_fact known.now.lits) relations.now named.now ∷ []) }
 {
     if is_some_in(known, named.packs.held()) {
         return None;
     }
-    let pack = first_supplementing(known, rows, named.candidates.held());
+    let pack = first_supplementing(known, relations, named.candidates.held());
     ask_for(pack, Question::Supplements(named.name))
 }
 
 /// What the first of these names asks for.
-pub(crate) fn ask_all_named(known: &Known, rows: &Rows, names: &[Named]) -> Option<Ask>
-    ensures { result ≡ first_ask (is_fact known.now.lits) (map (named_query (is_fact known.now.lits) rows.now) names.now) }
+fn ask_all_named(known: &Known, relations: &Relations, names: &[Named]) -> Option<Ask>
+    ensures { result ≡ first_ask (is_fact known.now.lits) (map (named_query (is_fact known.now.lits) relations.now) names.now) }
 {
     for named in names {
-        let ask = ask_named(known, rows, named);
+        let ask = ask_named(known, relations, named);
         if ask.is_some() {
             return ask;
         }
@@ -281,18 +335,18 @@ pub(crate) fn ask_all_named(known: &Known, rows: &Rows, names: &[Named]) -> Opti
 
 /// What the dependencies of packages that are in ask for, and then names with supplements.
 fn ask_dependencies(known: &Known, plan: &Plan) -> Option<Ask>
-    ensures { result ≡ first_ask (is_fact known.now.lits) (flat_map (want_queries (is_fact known.now.lits) plan.now.rows Requires) plan.now.required ++ (flat_map (want_queries (is_fact known.now.lits) plan.now.rows Recommends) plan.now.recommended ++ map (named_query (is_fact known.now.lits) plan.now.rows) plan.now.supplements)) }
+    ensures { result ≡ first_ask (is_fact known.now.lits) (flat_map (want_queries (is_fact known.now.lits) plan.now.relations Requires) plan.now.required ++ (flat_map (want_queries (is_fact known.now.lits) plan.now.relations Recommends) plan.now.recommended ++ map (named_query (is_fact known.now.lits) plan.now.relations) plan.now.supplements)) }
 {
-    let rows = &plan.rows;
-    let required = ask_wants(known, rows, &plan.required, Asking::Requires);
+    let relations = &plan.relations;
+    let required = ask_wants(known, relations, &plan.required, Asking::Requires);
     if required.is_some() {
         return required;
     }
-    let recommended = ask_wants(known, rows, &plan.recommended, Asking::Recommends);
+    let recommended = ask_wants(known, relations, &plan.recommended, Asking::Recommends);
     if recommended.is_some() {
         return recommended;
     }
-    ask_all_named(known, rows, plan.supplements.held())
+    ask_all_named(known, relations, plan.supplements.held())
 }
 
 /// What the first open question of a plan asks for.

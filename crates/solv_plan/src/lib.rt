@@ -5,18 +5,24 @@
 #![tactic(auto)]
 
 mod asking;
+mod bracing;
+mod choosing;
+mod holding;
 pub mod laws;
 mod memory;
 mod plans;
 mod recalling;
 mod rows;
 mod settled;
+mod standings;
+mod trees;
 mod wants;
 
 pub use asking::{Asking, next};
 pub use memory::Memory;
-pub use plans::{Demand, Keep, Named, Plan, Supplement, Want};
+pub use plans::{Demand, Keep, Named, Plan, Relations, Supplement, Want, Wanted};
 pub use recalling::next_recalling;
 pub use rows::Rows;
 pub use settled::{Entry, Settled};
+pub use standings::{Standing, Standings};
 pub use wants::Wants;

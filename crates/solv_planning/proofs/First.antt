@@ -6,8 +6,7 @@ use Rattle.std.specs.List.{list_all, list_any, range_with_len}
 use Rattle.std.specs.Option.{option_map_or}
 use Rattle.std.proofs.lemmas.Bool.Decides.{nat_tests}
 use Rattle.solv_base.specs.Dependency.{plain}
-use Rattle.solv_pool.specs.Catalog.{Catalog, packages, package_at, same_name, is_installed}
-use Rattle.solv_pool.specs.Installable.{is_installable}
+use Rattle.solv_pool.specs.Catalog.{Catalog, packages, package_at, same_name}
 use Rattle.solv_pool.specs.Providing.{is_named}
 use Rattle.solv_pool.specs.Words.{passes, when}
 use Rattle.solv_pool.specs.declared.packages.Package.{Package}
@@ -15,7 +14,7 @@ use Rattle.solv_policy.specs.Policy.{by_policy, policy_cmp, sorted_by}
 use Rattle.solv_policy.specs.declared.policy.Asked.TheVariants.{Other}
 use Rattle.solv_questions.proofs.Members.{all_by, all_at, sorted_has}
 use Rattle.solv_questions.specs.Questions.{Request, is_first_of_name}
-use Rattle.solv_plan.specs.PlanOf.{is_supplemented, supplemented, supplement_of, named_by}
+use Rattle.solv_plan.specs.PlanOf.{supplemented, supplement_of, named_by}
 use Rattle.solv_plan.specs.declared.plans.Named.{Named}
 use Rattle.solv_planning.specs.Names.{has_supplement, is_first_of}
 use Rattle.solv_planning.proofs.Lists.{filter_same, filter_twice, some_sorted}

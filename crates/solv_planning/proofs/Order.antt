@@ -1,5 +1,5 @@
 -- What packages ask for stands in the order of the packages.
-use Rattle.std.proofs.Common.{◌≡◌, ℕ, zero, suc, ◌+◌, ◌<◌, ◌≤◌, Bool, true, false, not, ◌&&◌, List, [], ◌∷◌, ◌++◌, map, Option, None, Some, eqb, cond, refl, sym, ap, ◌∙◌, arith, eq-eqb}
+use Rattle.std.proofs.Common.{◌≡◌, ℕ, zero, suc, ◌+◌, ◌≤◌, Bool, true, false, not, List, [], ◌∷◌, ◌++◌, map, Option, None, Some, eqb, cond, refl, sym, ap, ◌∙◌, arith, eq-eqb}
 use Rattle.std.specs.Prelude.{filter, flat_map, nat_le}
 use Rattle.std.specs.List.{list_all, range_with_len}
 use Rattle.std.specs.Option.{option_map_or}
@@ -12,7 +12,7 @@ use Rattle.solv_pool.specs.HardRules.{counted_requirements}
 use Rattle.solv_pool.specs.declared.packages.Package.{Package}
 use Rattle.solv_pool.specs.declared.packages.Need.{Need}
 use Rattle.solv_questions.specs.Questions.{Request}
-use Rattle.solv_plan.specs.PlanOf.{required_by, recommended_by}
+use Rattle.solv_plan.specs.PlanOf.{want_of, required_by, recommended_by}
 use Rattle.solv_plan.specs.Wanting.{is_rising}
 use Rattle.solv_plan.specs.declared.plans.Want.{Want}
 
@@ -69,25 +69,25 @@ all_pass [] = refl
 all_pass (x ∷ xs) = ap (λ l. x ∷ l) (all_pass xs)
 
 module _ (r : Request) where
-  needs_own : (p : ℕ) (needs : List Need) → of_one p (map (λ need. record { pack = p; dep = need.dep }) needs) ≡ true
+  needs_own : (p : ℕ) (needs : List Need) → of_one p (map (λ need. want_of r.catalog p need.dep) needs) ≡ true
   needs_own p [] = refl
   needs_own p (need ∷ needs) = and_from (eqb p p) _ (eq-eqb p p refl) (needs_own p needs)
 
-  deps_own : (p : ℕ) (deps : List DepId) → of_one p (map (λ d. record { pack = p; dep = d }) deps) ≡ true
+  deps_own : (p : ℕ) (deps : List DepId) → of_one p (map (λ d. want_of r.catalog p d) deps) ≡ true
   deps_own p [] = refl
   deps_own p (d ∷ deps) = and_from (eqb p p) _ (eq-eqb p p refl) (deps_own p deps)
 
   required_own : (p : ℕ) → of_one p (required_by r p) ≡ true
   required_own p = go (package_at r.catalog p)
     where
-      go : (o : Option Package) → of_one p (option_map_or (λ a. map (λ need. record { pack = p; dep = need.dep }) (counted_requirements r.catalog r.marks p a)) o []) ≡ true
+      go : (o : Option Package) → of_one p (option_map_or (λ a. map (λ need. want_of r.catalog p need.dep) (counted_requirements r.catalog r.marks p a)) o []) ≡ true
       go None = refl
       go (Some a) = needs_own p (counted_requirements r.catalog r.marks p a)
 
   recommended_own : (p : ℕ) → of_one p (recommended_by r p) ≡ true
   recommended_own p = go (package_at r.catalog p)
     where
-      go : (o : Option Package) → of_one p (option_map_or (λ a. map (λ d. record { pack = p; dep = d }) a.recommends) o []) ≡ true
+      go : (o : Option Package) → of_one p (option_map_or (λ a. map (λ d. want_of r.catalog p d) a.recommends) o []) ≡ true
       go None = refl
       go (Some a) = deps_own p a.recommends
 

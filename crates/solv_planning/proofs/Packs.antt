@@ -1,21 +1,19 @@
 -- Numbers of packages.
-use Rattle.std.proofs.Common.{◌≡◌, ◌<◌, ◌≤◌, ◌+◌, ℕ, zero, suc, Bool, true, false, cond, ◌&&◌, ◌||◌, List, [], ◌∷◌, map, length, Option, Some, refl, sym, ap, ◌∙◌, arith, add-one}
+use Rattle.std.proofs.Common.{◌≡◌, ◌<◌, ◌≤◌, ◌+◌, ℕ, zero, suc, Bool, true, false, cond, ◌||◌, List, [], ◌∷◌, length, Some, refl, sym, ap, ◌∙◌, arith, add-one}
 use Rattle.std.specs.Prelude.{filter, nat_lt, nat_le, ◌==◌, if◌then◌else◌, slice_get}
-use Rattle.std.specs.List.{list_all, list_any, range_with_len}
+use Rattle.std.specs.List.{list_all, range_with_len}
 use Rattle.std.specs.Option.{option_map_or}
 use Rattle.std.proofs.lemmas.Bool.Decides.{nat_tests}
-use Rattle.solv_base.specs.Dependency.{operators}
-use Rattle.solv_pool.specs.Catalog.{Catalog, packages, members, dependency}
+use Rattle.solv_pool.specs.Catalog.{Catalog, packages, dependency}
 use Rattle.solv_pool.specs.Holding.{package_meets}
 use Rattle.solv_pool.specs.TaskBelonging.{is_pack}
-use Rattle.solv_pool.specs.Words.{when, is_among}
+use Rattle.solv_pool.specs.Words.{is_among}
 use Rattle.solv_pool.specs.Belonging.{fits, names_of}
 use Rattle.solv_pool.specs.declared.packages.Package.{Package}
 use Rattle.solv_pool.specs.declared.tasks.Task.{Task}
-use Rattle.solv_pool.specs.declared.job_marks.Marks.{Marks}
 use Rattle.solv_policy.specs.Policy.{by_policy}
 use Rattle.solv_policy.specs.declared.policy.Asked.TheVariants.{Other}
-use Rattle.solv_prov.specs.Index.{Index, index_of, providers_of, IsIndexOf}
+use Rattle.solv_prov.specs.Index.{Index, providers_of, IsIndexOf}
 use Rattle.solv_rules.proofs.Meeting.{members_within}
 use Rattle.solv_updates.specs.Places.{IsPlace}
 use Rattle.solv_questions.specs.Questions.{Request}
@@ -84,17 +82,8 @@ providers_at index catalog d xs is lt at =
     own ∙ ap (providers_of catalog) zero_
 
 pub providers_within : (catalog : Catalog) (d : ℕ) → list_all (λ p. nat_le p (length catalog.universe.packages)) (providers_of catalog d) ≡ true
-providers_within catalog d = step (operators (dependency catalog d) == 0)
-  where
-    step : (b : Bool) → list_all (λ p. nat_le p (length catalog.universe.packages)) (when b (filter (package_meets catalog (dependency catalog d)) (members catalog))) ≡ true
-    step true = members_within catalog (package_meets catalog (dependency catalog d))
-    step false = refl
+providers_within catalog d = members_within catalog (package_meets catalog (dependency catalog d))
 
 -- the row of a relation
 pub row_is : (r : Request) (d : ℕ) → (if is_among (providers_of r.catalog d) 0 then 0 ∷ [] else by_policy r.catalog r.marks Other (providers_of r.catalog d)) ≡ row_of r d
-row_is r d = step (operators (dependency r.catalog d) == 0)
-  where
-    step : (b : Bool) → (if is_among (when b (filter (package_meets r.catalog (dependency r.catalog d)) (members r.catalog))) 0 then 0 ∷ [] else by_policy r.catalog r.marks Other (when b (filter (package_meets r.catalog (dependency r.catalog d)) (members r.catalog))))
-        ≡ when b (if is_among (filter (package_meets r.catalog (dependency r.catalog d)) (members r.catalog)) 0 then 0 ∷ [] else by_policy r.catalog r.marks Other (filter (package_meets r.catalog (dependency r.catalog d)) (members r.catalog)))
-    step true = refl
-    step false = refl
+row_is r d = refl

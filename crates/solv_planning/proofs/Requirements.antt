@@ -1,11 +1,11 @@
 -- The requirements that have a rule are those that count, and what rules ask for are packages.
-use Rattle.std.proofs.Common.{◌≡◌, ℕ, Bool, true, false, not, ◌&&◌, List, [], ◌∷◌, ◌++◌, map, length, Option, Some, None, refl, sym, ap, ◌∙◌, arith}
+use Rattle.std.proofs.Common.{◌≡◌, ℕ, Bool, true, false, not, ◌&&◌, List, [], ◌∷◌, ◌++◌, map, length, Option, Some, None, refl, sym, ap, ◌∙◌}
 use Rattle.std.specs.Prelude.{filter, flat_map}
 use Rattle.std.specs.List.{list_all}
 use Rattle.std.specs.Option.{option_map_or}
 use Rattle.std.proofs.lemmas.Grind.{flat_map-append}
 use Rattle.solv_pool.specs.Words.{when, is_among}
-use Rattle.solv_pool.specs.Catalog.{Catalog, packages, package_at}
+use Rattle.solv_pool.specs.Catalog.{packages, package_at}
 use Rattle.solv_pool.specs.Best.{best, is_beaten}
 use Rattle.solv_pool.specs.Installable.{is_installable}
 use Rattle.solv_pool.specs.Selections.{selects, selection}
@@ -15,48 +15,46 @@ use Rattle.solv_pool.specs.RuleMeaning.{HardRule, not_installable, req, con, ric
 use Rattle.solv_pool.specs.HardRules.{not_installable_rules, counted_requirements, requirement_rules, conflicting, conflict_rules, package_wise_conflicts, counted_rich_conflicts, rich_conflict_rules, obsoleted, obsoletion_rules, later_namesakes, same_name_rules, rules_asked_by, rules_of_package, package_rules, inferior_packages, infarch_rules, update_candidates, feature_candidates, kept_packages, has_update_rule, update_rules, feature_rules, numbered_jobs, rule_of_job, job_rules, best_job_rule, best_job_rules, selected_installed, best_update_rule, best_update_rules}
 use Rattle.solv_pool.specs.declared.packages.Package.{Package}
 use Rattle.solv_pool.specs.declared.packages.Need.{Need}
-use Rattle.solv_pool.specs.declared.jobs.Job.{Job}
 use Rattle.solv_pool.specs.declared.jobs.Action.{Action}
 use Rattle.solv_pool.specs.declared.jobs.Action.TheVariants as action
 use Rattle.solv_questions.specs.Questions.{Request, rules_of}
 use Rattle.solv_questions.proofs.Members.{all_by}
 use Rattle.solv_questions.proofs.Origins.{IsFrom, is_from}
-use Rattle.solv_plan.specs.PlanOf.{required_by}
-use Rattle.solv_plan.specs.declared.plans.Want.{Want}
-use Rattle.solv_plan.proofs.Tables.{flat_flat, flat_alike, flat_when, append_none}
+use Rattle.solv_plan.specs.PlanOf.{want_of, required_by}
+use Rattle.solv_plan.proofs.Tables.{flat_flat, flat_alike, append_none}
 use Rattle.solv_planning.specs.Readiness.{asks_for_packages}
 use Rattle.solv_planning.specs.Rows.{wants_of}
 use Rattle.solv_planning.proofs.Packs.{packs_of}
 
--- lists of rules without a requirement
-no_wants : {X : Type 0} (f : X → HardRule) → ((x : X) → wants_of (f x) ≡ []) → (xs : List X) → flat_map wants_of (map f xs) ≡ []
-no_wants f h [] = refl
-no_wants f h (x ∷ xs) = ap (λ t. t ++ flat_map wants_of (map f xs)) (h x) ∙ no_wants f h xs
-
-none_flat : {X Y : Type 0} (f : X → List Y) → ((x : X) → f x ≡ []) → (xs : List X) → flat_map f xs ≡ []
-none_flat f h [] = refl
-none_flat f h (x ∷ xs) = ap (λ t. t ++ flat_map f xs) (h x) ∙ none_flat f h xs
-
-no_wants_each : {X : Type 0} (f : X → List HardRule) → ((x : X) → flat_map wants_of (f x) ≡ []) → (xs : List X) → flat_map wants_of (flat_map f xs) ≡ []
-no_wants_each f h xs = flat_flat wants_of f xs ∙ none_flat (λ x. flat_map wants_of (f x)) h xs
-
-no_wants_when : (b : Bool) (xs : List HardRule) → flat_map wants_of xs ≡ [] → flat_map wants_of (when b xs) ≡ []
-no_wants_when true xs h = h
-no_wants_when false xs h = refl
-
--- a part behind others that has none
-none_behind : (xs ys : List HardRule) → flat_map wants_of ys ≡ [] → flat_map wants_of (xs ++ ys) ≡ flat_map wants_of xs
-none_behind xs ys h = flat_map-append wants_of xs ys ∙ ap (λ t. flat_map wants_of xs ++ t) h ∙ append_none (flat_map wants_of xs)
-
-none_before : (xs ys : List HardRule) → flat_map wants_of xs ≡ [] → flat_map wants_of (xs ++ ys) ≡ flat_map wants_of ys
-none_before xs ys h = flat_map-append wants_of xs ys ∙ ap (λ t. t ++ flat_map wants_of ys) h
-
 module _ (r : Request) where
-  required_wants : (p : ℕ) (needs : List Need) → flat_map wants_of (map (λ need. req p need.dep) needs) ≡ map (λ need. record { pack = p; dep = need.dep }) needs
-  required_wants p [] = refl
-  required_wants p (need ∷ needs) = ap (λ t. record { pack = p; dep = need.dep } ∷ t) (required_wants p needs)
+  -- lists of rules without a requirement
+  no_wants : {X : Type 0} (f : X → HardRule) → ((x : X) → wants_of r.catalog (f x) ≡ []) → (xs : List X) → flat_map (wants_of r.catalog) (map f xs) ≡ []
+  no_wants f h [] = refl
+  no_wants f h (x ∷ xs) = ap (λ t. t ++ flat_map (wants_of r.catalog) (map f xs)) (h x) ∙ no_wants f h xs
 
-  asked_wants : (p : ℕ) (a : Package) → flat_map wants_of (rules_asked_by r.catalog r.marks p a) ≡ map (λ need. record { pack = p; dep = need.dep }) (counted_requirements r.catalog r.marks p a)
+  none_flat : {X Y : Type 0} (f : X → List Y) → ((x : X) → f x ≡ []) → (xs : List X) → flat_map f xs ≡ []
+  none_flat f h [] = refl
+  none_flat f h (x ∷ xs) = ap (λ t. t ++ flat_map f xs) (h x) ∙ none_flat f h xs
+
+  no_wants_each : {X : Type 0} (f : X → List HardRule) → ((x : X) → flat_map (wants_of r.catalog) (f x) ≡ []) → (xs : List X) → flat_map (wants_of r.catalog) (flat_map f xs) ≡ []
+  no_wants_each f h xs = flat_flat (wants_of r.catalog) f xs ∙ none_flat (λ x. flat_map (wants_of r.catalog) (f x)) h xs
+
+  no_wants_when : (b : Bool) (xs : List HardRule) → flat_map (wants_of r.catalog) xs ≡ [] → flat_map (wants_of r.catalog) (when b xs) ≡ []
+  no_wants_when true xs h = h
+  no_wants_when false xs h = refl
+
+  -- a part behind others that has none
+  none_behind : (xs ys : List HardRule) → flat_map (wants_of r.catalog) ys ≡ [] → flat_map (wants_of r.catalog) (xs ++ ys) ≡ flat_map (wants_of r.catalog) xs
+  none_behind xs ys h = flat_map-append (wants_of r.catalog) xs ys ∙ ap (λ t. flat_map (wants_of r.catalog) xs ++ t) h ∙ append_none (flat_map (wants_of r.catalog) xs)
+
+  none_before : (xs ys : List HardRule) → flat_map (wants_of r.catalog) xs ≡ [] → flat_map (wants_of r.catalog) (xs ++ ys) ≡ flat_map (wants_of r.catalog) ys
+  none_before xs ys h = flat_map-append (wants_of r.catalog) xs ys ∙ ap (λ t. t ++ flat_map (wants_of r.catalog) ys) h
+
+  required_wants : (p : ℕ) (needs : List Need) → flat_map (wants_of r.catalog) (map (λ need. req p need.dep) needs) ≡ map (λ need. want_of r.catalog p need.dep) needs
+  required_wants p [] = refl
+  required_wants p (need ∷ needs) = ap (λ t. want_of r.catalog p need.dep ∷ t) (required_wants p needs)
+
+  asked_wants : (p : ℕ) (a : Package) → flat_map (wants_of r.catalog) (rules_asked_by r.catalog r.marks p a) ≡ map (λ need. want_of r.catalog p need.dep) (counted_requirements r.catalog r.marks p a)
   asked_wants p a =
       let one : List HardRule = not_installable_rules r.catalog p in
       let two : List HardRule = requirement_rules r.catalog r.marks p a in
@@ -71,14 +69,14 @@ module _ (r : Request) where
       ∙ none_before one two (no_wants_when (not (is_installable r.catalog p)) (not_installable p ∷ []) refl)
       ∙ required_wants p (counted_requirements r.catalog r.marks p a)
 
-  package_wants : (p : ℕ) → flat_map wants_of (rules_of_package r.catalog r.marks p) ≡ required_by r p
+  package_wants : (p : ℕ) → flat_map (wants_of r.catalog) (rules_of_package r.catalog r.marks p) ≡ required_by r p
   package_wants p = step (package_at r.catalog p)
     where
-      step : (o : Option Package) → flat_map wants_of (option_map_or (rules_asked_by r.catalog r.marks p) o []) ≡ option_map_or (λ a. map (λ need. record { pack = p; dep = need.dep }) (counted_requirements r.catalog r.marks p a)) o []
+      step : (o : Option Package) → flat_map (wants_of r.catalog) (option_map_or (rules_asked_by r.catalog r.marks p) o []) ≡ option_map_or (λ a. map (λ need. want_of r.catalog p need.dep) (counted_requirements r.catalog r.marks p a)) o []
       step None = refl
       step (Some a) = asked_wants p a
 
-  job_wants : (j : ℕ) (a : Action) (xs : List ℕ) → flat_map wants_of (rule_of_job j a xs) ≡ []
+  job_wants : (j : ℕ) (a : Action) (xs : List ℕ) → flat_map (wants_of r.catalog) (rule_of_job j a xs) ≡ []
   job_wants j action.Install xs = refl
   job_wants j action.Erase xs = refl
   job_wants j action.Lock xs = refl
@@ -90,11 +88,11 @@ module _ (r : Request) where
   job_wants j action.Disfavor xs = refl
   job_wants j action.Noop xs = refl
 
-  best_wants : (j : ℕ) (xs : List ℕ) → flat_map wants_of (best_job_rule j xs) ≡ []
+  best_wants : (j : ℕ) (xs : List ℕ) → flat_map (wants_of r.catalog) (best_job_rule j xs) ≡ []
   best_wants j [] = refl
   best_wants j (x ∷ xs) = refl
 
-  pub required_are : flat_map wants_of (rules_of r) ≡ flat_map (required_by r) (packages r.catalog)
+  pub required_are : flat_map (wants_of r.catalog) (rules_of r) ≡ flat_map (required_by r) (packages r.catalog)
   required_are =
       let one : List HardRule = package_rules r.catalog r.marks in
       let two : List HardRule = infarch_rules r.catalog r.flags in
@@ -111,8 +109,8 @@ module _ (r : Request) where
       ∙ none_behind (one ++ two ++ three) four (no_wants (λ p. feature p (feature_candidates r.catalog r.flags r.marks p)) (λ p. refl) (kept_packages r.catalog r.flags r.marks))
       ∙ none_behind (one ++ two) three (no_wants (λ p. update p (update_candidates r.catalog r.flags r.marks p)) (λ p. refl) (filter (has_update_rule r.catalog r.jobs r.marks) (kept_packages r.catalog r.flags r.marks)))
       ∙ none_behind one two (no_wants_when (not r.flags.no_infarch_check) (map infarch (inferior_packages r.catalog r.flags)) (no_wants infarch (λ p. refl) (inferior_packages r.catalog r.flags)))
-      ∙ flat_flat wants_of (rules_of_package r.catalog r.marks) (packages r.catalog)
-      ∙ flat_alike (λ p. flat_map wants_of (rules_of_package r.catalog r.marks p)) (required_by r) package_wants (packages r.catalog)
+      ∙ flat_flat (wants_of r.catalog) (rules_of_package r.catalog r.marks) (packages r.catalog)
+      ∙ flat_alike (λ p. flat_map (wants_of r.catalog) (rules_of_package r.catalog r.marks p)) (required_by r) package_wants (packages r.catalog)
 
   best_packs : (xs : List ℕ) → list_all (is_pack (length r.catalog.universe.packages)) (best r.catalog xs) ≡ true
   best_packs xs = packs_of r.catalog (λ b. is_among xs b && (is_installable r.catalog b && not (is_beaten r.catalog xs b)))

@@ -2,3 +2,4 @@ pub mod Readiness
 pub mod Filling
 pub mod Rows
 pub mod Names
+pub mod Reading

@@ -1,13 +1,11 @@
 -- What rules add to the rows of jobs and of packages.
-use Rattle.std.specs.Prelude.{ℕ, Bool, not, ◌&&◌, List, [], ◌∷◌, ◌++◌, map, flat_map}
-use Rattle.std.specs.List.{enumerate_from}
+use Rattle.std.specs.Prelude.{ℕ, Bool, not, ◌&&◌, List, [], ◌∷◌, ◌++◌}
 use Rattle.solv_pool.specs.Words.{when}
-use Rattle.solv_pool.specs.Catalog.{is_installed}
+use Rattle.solv_pool.specs.Catalog.{Catalog, is_installed}
 use Rattle.solv_pool.specs.JobMarks.{marked}
 use Rattle.solv_pool.specs.RuleMeaning.{HardRule, req}
 use Rattle.solv_questions.specs.Questions.{Request, is_update_of, is_feature_of, close_candidates, far_candidates}
-use Rattle.solv_plan.specs.PlanOf.{best_job_demand, job_demand, best_update_demand}
-use Rattle.solv_plan.specs.declared.plans.Demand.{Demand}
+use Rattle.solv_plan.specs.PlanOf.{want_of, best_job_demand, job_demand, best_update_demand}
 use Rattle.solv_plan.specs.declared.plans.Keep.{Keep}
 use Rattle.solv_plan.specs.declared.plans.Want.{Want}
 use Rattle.solv_planning.specs.declared.demands.JobDemands.{JobDemands}
@@ -36,9 +34,10 @@ module _ (r : Request) where
   }
 
 -- the requirement of a rule, if it is of one
-abbrev pub wants_of : HardRule → List Want
-wants_of (req p d) = record { pack = p; dep = d } ∷ []
-wants_of _ = []
+module _ (catalog : Catalog) where
+  abbrev pub wants_of : HardRule → List Want
+  wants_of (req p d) = want_of catalog p d ∷ []
+  wants_of _ = []
 
 -- what is asked of a package with these rules on it
 abbrev pub keep_with : Request → PackRules → Keep

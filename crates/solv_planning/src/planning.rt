@@ -10,7 +10,8 @@ ghost use Rattle.solv_plan.specs.PlanOf.{plan_of};
 
 use crate::demands::demands;
 use crate::keeps::keeps;
-use crate::rows::rows;
+use crate::reading::trees;
+use crate::relations::relations;
 use crate::supplements::supplements;
 use crate::wants::{recommended, required};
 use solv_plan::{Plan, Wants};
@@ -35,16 +36,17 @@ pub fn make_plan(
 {
     let demands = demands(alloc, task, prov, marks, rules)?;
     let keeps = keeps(alloc, task, prov, marks, rules)?;
-    let rows = rows(alloc, task, prov, marks)?;
-    let list = required(alloc, rules)?;
+    let trees = trees(alloc, task)?;
+    let relations = relations(alloc, task, prov, marks, &trees)?;
+    let list = required(alloc, rules, &trees)?;
     let required = Wants::new(alloc, list)?;
-    let listed = recommended(alloc, task)?;
+    let listed = recommended(alloc, task, &trees)?;
     let recommended = Wants::new(alloc, listed)?;
-    let supplements = supplements(alloc, task, prov, marks)?;
+    let supplements = supplements(alloc, task, prov, marks, &trees)?;
     Ok(Plan {
         demands,
         keeps,
-        rows,
+        relations,
         required,
         recommended,
         supplements,

@@ -12,9 +12,11 @@ ghost use Rattle.solv_questions.specs.Questions.{request_of, is_first_of_name};
 ghost use Rattle.solv_plan.specs.PlanOf.{named_by, supplement_of};
 ghost use Rattle.solv_updates.specs.Places.{IsPlace};
 ghost use Rattle.solv_planning.specs.Readiness.{IsReady};
+ghost use Rattle.solv_planning.specs.Reading.{trees_of};
 ghost use Rattle.solv_planning.specs.Names.{has_supplement, is_first_of};
 
 use crate::ordering::in_order;
+use crate::reading::all_wanted;
 use solv_list::Items;
 use solv_plan::{Named, Supplement};
 use solv_policy::Asked;
@@ -71,31 +73,36 @@ fn with_supplements(alloc: Global, task: &Task, packs: &[PackNo]) -> Result<Vec<
 }
 
 /// A package with its supplements.
-fn supplement(alloc: Global, task: &Task, pack: PackNo) -> Result<Supplement, AllocError>
+fn supplement(
+    alloc: Global,
+    task: &Task,
+    trees: &[bool],
+    pack: PackNo,
+) -> Result<Supplement, AllocError>
     requires over { IsOver task.now.pool task.now.universe }
+    requires trees { trees.now ≡ trees_of (catalog_of task.now) }
     requires pack { IsPlace task.now pack }
     ensures { (marks : Marks) → IfOk result (λ made. made ≡ supplement_of (request_of task.now marks) pack) }
 {
-    let deps = Vec::from_slice(alloc, package(task, pack).supplements.held())?;
-    Ok(Supplement {
-        pack,
-        deps: Items::wrap(deps),
-    })
+    let deps = all_wanted(alloc, trees, package(task, pack).supplements.held())?;
+    Ok(Supplement { pack, deps })
 }
 
 /// Each of these packages with its supplements.
 fn supplements_of(
     alloc: Global,
     task: &Task,
+    trees: &[bool],
     packs: &[PackNo],
 ) -> Result<Items<Supplement>, AllocError>
     requires over { IsOver task.now.pool task.now.universe }
+    requires trees { trees.now ≡ trees_of (catalog_of task.now) }
     requires within { list_all (is_pack (length task.now.universe.packages)) packs.now ≡ true }
     ensures { (marks : Marks) → IfOk result (λ made. made ≡ map (supplement_of (request_of task.now marks)) packs.now) }
 {
     let mut made = Vec::new(alloc);
     for pack in packs {
-        made.push(supplement(alloc, task, *pack)?)?;
+        made.push(supplement(alloc, task, trees, *pack)?)?;
     }
     Ok(Items::wrap(made))
 }
@@ -104,17 +111,19 @@ fn supplements_of(
 fn named(
     alloc: Global,
     task: &Task,
+    trees: &[bool],
     pack: PackNo,
     packs: &[PackNo],
     candidates: &[PackNo],
 ) -> Result<Named, AllocError>
     requires over { IsOver task.now.pool task.now.universe }
+    requires trees { trees.now ≡ trees_of (catalog_of task.now) }
     requires pack { IsPlace task.now pack }
     requires within { list_all (is_pack (length task.now.universe.packages)) candidates.now ≡ true }
     ensures { (marks : Marks) → IfOk result (λ made. option_map_or (λ a. record { name = a.name; packs = packs.now; candidates = map (supplement_of (request_of task.now marks)) candidates.now } ∷ []) (package_at (catalog_of task.now) pack) [] ≡ made ∷ []) }
 {
     let packs = Items::wrap(Vec::from_slice(alloc, packs)?);
-    let candidates = supplements_of(alloc, task, candidates)?;
+    let candidates = supplements_of(alloc, task, trees, candidates)?;
     Ok(Named {
         name: package(task, pack).name,
         packs,
@@ -128,11 +137,13 @@ fn put_name(
     task: &Task,
     prov: &Providers,
     marks: &Marks,
+    trees: &[bool],
     pack: PackNo,
     packs: &[PackNo],
     made: &mut Items<Named>,
 ) -> Result<(), AllocError>
     requires ready { IsReady task.now prov.now marks.now }
+    requires trees { trees.now ≡ trees_of (catalog_of task.now) }
     requires pack { IsPlace task.now pack }
     requires exact { packs.now ≡ filter (same_name (catalog_of task.now) pack) (packages (catalog_of task.now)) }
     requires within { list_all (is_pack (length task.now.universe.packages)) packs.now ≡ true }
@@ -143,7 +154,7 @@ fn put_name(
         return Ok(());
     }
     let sorted = in_order(alloc, task, prov, marks, Asked::Other, &candidates)?;
-    made.push(named(alloc, task, pack, packs, sorted.held())?)
+    made.push(named(alloc, task, trees, pack, packs, sorted.held())?)
 }
 
 /// Whether a package is the first of these.
@@ -162,10 +173,12 @@ fn put_first(
     task: &Task,
     prov: &Providers,
     marks: &Marks,
+    trees: &[bool],
     pack: PackNo,
     made: &mut Items<Named>,
 ) -> Result<(), AllocError>
     requires ready { IsReady task.now prov.now marks.now }
+    requires trees { trees.now ≡ trees_of (catalog_of task.now) }
     requires pack { IsPlace task.now pack }
     ensures { OnOk result (made.new ≡ made.old ++ when (is_first_of_name (catalog_of task.now) pack) (named_by (request_of task.now marks.now) pack)) }
 {
@@ -173,7 +186,7 @@ fn put_first(
     if !is_first_of(packs, pack) {
         return Ok(());
     }
-    put_name(alloc, task, prov, marks, pack, packs, made)
+    put_name(alloc, task, prov, marks, trees, pack, packs, made)
 }
 
 /// All names of which a package has supplements, in the order of their lowest packages.
@@ -182,13 +195,23 @@ fn all_named(
     task: &Task,
     prov: &Providers,
     marks: &Marks,
+    trees: &[bool],
 ) -> Result<Items<Named>, AllocError>
-    requires { IsReady task.now prov.now marks.now }
+    requires ready { IsReady task.now prov.now marks.now }
+    requires trees { trees.now ≡ trees_of (catalog_of task.now) }
     ensures { IfOk result (λ made. made ≡ flat_map (named_by (request_of task.now marks.now)) (filter (is_first_of_name (catalog_of task.now)) (packages (catalog_of task.now)))) }
 {
     let mut made = Items::wrap(Vec::new(alloc));
     for before in 0..task.universe.count() {
-        put_first(alloc, task, prov, marks, PackNo(before + 1), &mut made)?;
+        put_first(
+            alloc,
+            task,
+            prov,
+            marks,
+            trees,
+            PackNo(before + 1),
+            &mut made,
+        )?;
     }
     Ok(made)
 }
@@ -199,12 +222,14 @@ pub(crate) fn supplements(
     task: &Task,
     prov: &Providers,
     marks: &Marks,
+    trees: &[bool],
 ) -> Result<Items<Named>, AllocError>
-    requires { IsReady task.now prov.now marks.now }
+    requires ready { IsReady task.now prov.now marks.now }
+    requires trees { trees.now ≡ trees_of (catalog_of task.now) }
     ensures { IfOk result (λ made. made ≡ when (not task.now.flags.ignore_recommended) (flat_map (named_by (request_of task.now marks.now)) (filter (is_first_of_name (catalog_of task.now)) (packages (catalog_of task.now))))) }
 {
     if task.flags.ignore_recommended {
         return Ok(Items::wrap(Vec::new(alloc)));
     }
-    all_named(alloc, task, prov, marks)
+    all_named(alloc, task, prov, marks, trees)
 }

@@ -1,10 +1,9 @@
-use Rattle.std.proofs.Common.{ℕ, ◌≡◌, ◌∙◌, ◌∷◌, [], ◌+◌, ◌<◌, ◌≤◌, sym, ap, map, drop, length, arith}
+use Rattle.std.proofs.Common.{◌≡◌, ◌∙◌, ◌∷◌, [], ◌+◌, sym, ap, map, drop, length}
 use Rattle.std.specs.List.{enumerate_from}
-use Rattle.solv_pool.specs.RuleMeaning.{HardRule, rule_with}
-use Rattle.solv_pool.specs.declared.hard_rules.Rule.{Rule}
+use Rattle.solv_pool.specs.RuleMeaning.{rule_with}
 use Rattle.solv_questions.specs.Questions.{request_of}
 use Rattle.solv_planning.specs.Readiness.{asks_for_packages}
-use Rattle.solv_planning.specs.Filling.{filled, entered}
+use Rattle.solv_planning.specs.Filling.{filled}
 use Rattle.solv_planning.specs.Rows.{add_to_job}
 use Rattle.solv_planning.proofs.Lists.{this_turn, all_behind, drop_past}
 use Rattle.solv_planning.proofs.Tables.{filled_turn, filled_end}

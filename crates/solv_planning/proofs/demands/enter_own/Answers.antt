@@ -1,4 +1,4 @@
-use Rattle.std.proofs.Common.{ℕ, Bool, ◌≡◌, ◌∙◌, ◌∷◌, [], ◌++◌, ◌<◌, ◌≤◌, sym, ap, length, get_or, arith}
+use Rattle.std.proofs.Common.{◌∙◌, ◌∷◌, [], ◌++◌, sym, ap, get_or, arith}
 use Rattle.solv_questions.specs.Questions.{request_of}
 use Rattle.solv_planning.specs.declared.demands.JobDemands.{JobDemands}
 use Rattle.solv_plan.specs.declared.plans.Demand.{Demand}

@@ -1,5 +1,4 @@
-use Rattle.std.proofs.Common.{ℕ, Bool, ◌≡◌, ◌∙◌, ◌∷◌, [], ◌++◌, ◌<◌, ◌≤◌, sym, ap, length, get_or, arith}
-use Rattle.solv_planning.specs.declared.keeps.PackRules.{PackRules}
+use Rattle.std.proofs.Common.{get_or, arith}
 use Rattle.solv_planning.specs.Rows.{add_to_pack}
 use Rattle.solv_planning.proofs.Tables.{written, not_written}
 use Rattle.solv_pool.specs.RuleMeaning.{update}

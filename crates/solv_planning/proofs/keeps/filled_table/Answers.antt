@@ -1,6 +1,4 @@
-use Rattle.std.proofs.Common.{◌≡◌, ◌∙◌, length, ap, sym}
-use Rattle.solv_pool.specs.Catalog.{catalog_of}
-use Rattle.std.specs.Prelude.{map}
+use Rattle.std.proofs.Common.{◌∙◌, length, ap, sym}
 use Rattle.solv_questions.specs.Questions.{request_of}
 use Rattle.solv_plan.specs.PlanOf.{numbered}
 use Rattle.solv_rules.specs.Books.{read_rules}

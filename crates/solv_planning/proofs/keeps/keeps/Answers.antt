@@ -1,4 +1,4 @@
-use Rattle.std.proofs.Common.{◌≡◌, ◌∙◌, ◌++◌, ap, map, length, nat_le}
+use Rattle.std.proofs.Common.{◌∙◌, ◌++◌, ap, map, length, nat_le}
 use Rattle.std.specs.Prelude.{filter}
 use Rattle.std.specs.List.{list_all}
 use Rattle.solv_questions.specs.Questions.{request_of}

@@ -1,4 +1,4 @@
-use Rattle.std.proofs.Common.{◌∙◌, ◌+◌, ◌-◌, map}
+use Rattle.std.proofs.Common.{◌+◌, ◌-◌, map}
 use Rattle.std.specs.List.{range_with_len}
 use Rattle.solv_pool.specs.Catalog.{catalog_of, members}
 use Rattle.solv_planning.specs.Rows.{no_rules}

@@ -1,4 +1,4 @@
-use Rattle.std.proofs.Common.{◌≡◌, ◌∙◌, sym, ap}
+use Rattle.std.proofs.Common.{◌∙◌, sym, ap}
 use Rattle.solv_pool.specs.Catalog.{catalog_of}
 use Rattle.solv_questions.specs.Questions.{request_of, is_first_of_name}
 use Rattle.solv_plan.specs.PlanOf.{named_by}

@@ -4,7 +4,7 @@ use Rattle.std.specs.List.{list_all}
 use Rattle.std.specs.Option.{option_map_or}
 use Rattle.std.proofs.lemmas.Bool.Decides.{nat_tests}
 use Rattle.std.proofs.lemmas.Result.{on_ok_weaker}
-use Rattle.solv_pool.specs.Catalog.{catalog_of, packages, package_at, same_name}
+use Rattle.solv_pool.specs.Catalog.{catalog_of, package_at}
 use Rattle.solv_pool.specs.TaskBelonging.{is_pack}
 use Rattle.solv_pool.specs.declared.packages.Package.{Package}
 use Rattle.solv_policy.specs.Policy.{by_policy, policy_cmp}
