@@ -38,7 +38,7 @@ use Rattle.solv_decide.proofs.Enabling.{clauses_are, used_there, lengths_are}
 
 module _ (r : Request) (asker : Asker) (core : CoreOf) (asked : IsAskedFor r asker core) (plans : PlansAskTheQuestions) where
   pub asks_alike : plan_asks asker.plan ≡ asks r
-  asks_alike = fun_ext (λ known. fun_ext (λ enabled. ap (λ p. plan_asks p known enabled) asked.plan ∙ plans r known enabled asked.wants))
+  asks_alike = fun_ext (λ known. fun_ext (λ enabled. ap (λ p. plan_asks p known enabled) asked.plan ∙ plans r known enabled asked.founded))
 
   pub clauses_alike : (enabled : List Bool) → enabled_clauses enabled core.clauses core.owners ≡ clauses_on r enabled
   clauses_alike enabled =
@@ -52,7 +52,7 @@ module _ (r : Request) (asker : Asker) (core : CoreOf) (asked : IsAskedFor r ask
       let A : ((ℤ → Bool) → List Bool → Option Ask) → Type 0 = λ f. KeepsLaw (length r.catalog.universe.packages) (clauses_on r enabled) (λ known. f known enabled) in
       let C : List (List ℤ) → Type 0 = λ cs. KeepsLaw (length r.catalog.universe.packages) cs (λ known. plan_asks asker.plan known enabled) in
       let N : ℕ → Type 0 = λ n. KeepsLaw n (enabled_clauses enabled core.clauses core.owners) (λ known. plan_asks asker.plan known enabled) in
-      subst N (sym asked.packages) (subst C (sym (clauses_alike enabled)) (subst A (sym asks_alike) (law r enabled asked.singly)))
+      subst N (sym asked.packages) (subst C (sym (clauses_alike enabled)) (subst A (sym asks_alike) (law r enabled asked.formed)))
 
   pub same_count : asker.packages ≡ core.packages
   same_count = asked.packages ∙ sym asked.count
@@ -66,7 +66,7 @@ module _ (r : Request) (asker : Asker) (core : CoreOf) (asked : IsAskedFor r ask
 
   module _ (say : ClausesSayTheRule) (enabled : List Bool) where
     well_placed : (x : HardRule) → Has (rules_on r enabled) x → (set : ℕ → Bool) → set 0 ≡ true → list_all (clause_true set) (rule_clauses r.catalog x) ≡ meets_rule r.catalog x set
-    well_placed x h set zero = say r.catalog set x zero (placed r asked.singly x (is_from r x (of_enabled enabled 0 (rules_of r) x h)))
+    well_placed x h set zero = say r.catalog set x zero (placed r asked.formed x (is_from r x (of_enabled enabled 0 (rules_of r) x h)))
 
     -- clauses and rules of the enabled ones
     rules_met : (set : ℕ → Bool) → set 0 ≡ true → list_all (clause_true set) (clauses_on r enabled) ≡ true → meets_all r enabled set ≡ true

@@ -4,6 +4,7 @@ use Rattle.std.specs.Prelude.{ℤ, pos, negsuc, nat_abs, nat_lt, nat_le, flat_ma
 use Rattle.std.specs.List.{list_all, range_with_len}
 use Rattle.std.proofs.lemmas.Bool.{and_parts, and_from, lt-ltb, le-leb, eqb-true, cases_Bool, false≢true}
 use Rattle.std.proofs.lemmas.List.{length-append}
+use Rattle.solv_base.specs.Dependency.{IsWellFounded}
 use Rattle.solv_pool.proofs.Lists.{list_all_join, list_all_imp}
 use Rattle.solv_pool.specs.Words.{is_among}
 use Rattle.solv_pool.specs.Catalog.{Catalog, packages}
@@ -22,9 +23,9 @@ use Rattle.solv_rules.specs.declared.fault.BookFault.{BookFault}
 use Rattle.solv_rules.specs.declared.fault.BookFault.TheVariants.{TooManyWords}
 use Rattle.std.proofs.lemmas.Bool.Decides.{nat_tests}
 use Rattle.solv_rules.specs.Books.{owners_from, read_rules}
-use Rattle.solv_questions.specs.Law.{AsksSingly}
+use Rattle.solv_questions.specs.Law.{AsksInForm}
 use Rattle.solv_questions.specs.Questions.{Request, rules_of, asks}
-use Rattle.solv_plan.specs.PlanOf.{plan_of, wants_singly}
+use Rattle.solv_plan.specs.PlanOf.{plan_of}
 use Rattle.solv_core.specs.declared.verdicts.Verdict.{Verdict}
 use Rattle.solv_decide.specs.Deciding.{Asker, IsAskedFor, IsDecided}
 use Rattle.solv_decide.proofs.Enabling.{owners_below}
@@ -114,12 +115,12 @@ module _ (catalog : Catalog) where
 pub asked_for : (r : Request) (asker : Asker) (core : CoreOf) (clauses : List (List ℤ)) (owners : List ℕ) (rules : List HardRule)
     → asker ≡ record { plan = plan_of r; packages = length r.catalog.universe.packages } → core ≡ record { clauses = clauses; owners = owners; packages = length r.catalog.universe.packages }
     → clauses ≡ flat_map (rule_clauses r.catalog) rules → owners ≡ owners_from r.catalog 0 rules → rules ≡ rules_of r
-    → AsksSingly r → list_all (wants_singly r.catalog) r.catalog.universe.packages ≡ true → are_over (length r.catalog.universe.packages) clauses ≡ true → IsAskedFor r asker core
-asked_for r asker core clauses owners rules is_asker is_core of_clauses of_owners same singly wants over = record {
+    → AsksInForm r → IsWellFounded r.catalog.pool.nodes → are_over (length r.catalog.universe.packages) clauses ≡ true → IsAskedFor r asker core
+asked_for r asker core clauses owners rules is_asker is_core of_clauses of_owners same formed founded over = record {
   plan = ap (λ a. a.plan) is_asker;
   packages = ap (λ a. a.packages) is_asker;
-  singly = singly;
-  wants = wants;
+  formed = formed;
+  founded = founded;
   clauses = ap (λ c. c.clauses) is_core ∙ of_clauses ∙ ap (λ l. flat_map (rule_clauses r.catalog) l) same;
   owners = ap (λ c. c.owners) is_core ∙ of_owners ∙ ap (λ l. owners_from r.catalog 0 l) same;
   count = ap (λ c. c.packages) is_core;

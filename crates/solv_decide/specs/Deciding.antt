@@ -1,6 +1,7 @@
 -- What deciding gives: sets by the questions of a task, and refutations.
 use Rattle.std.specs.Prelude.{◌≡◌, ℕ, ℤ, Bool, true, List, flat_map, length, nat_lt, ◌&&◌, Option}
 use Rattle.std.specs.List.{list_all}
+use Rattle.solv_base.specs.Dependency.{IsWellFounded}
 use Rattle.solv_pool.specs.Clauses.{rule_clauses}
 use Rattle.solv_pool.specs.Propagation.{is_fact}
 use Rattle.solv_pool.specs.RuleMeaning.{HardRule, meets_rule}
@@ -18,9 +19,9 @@ use Rattle.solv_core.specs.declared.verdicts.Verdict.{Verdict}
 use Rattle.solv_core.specs.declared.verdicts.Verdict.TheVariants as verdict
 use Rattle.solv_rules.specs.Books.{owners_from}
 use Rattle.solv_questions.specs.Questions.{Request, rules_of, enabled_rules, asks}
-use Rattle.solv_questions.specs.Law.{AsksSingly}
+use Rattle.solv_questions.specs.Law.{AsksInForm}
 use Rattle.solv_plan.specs.Plans.{plan_asks}
-use Rattle.solv_plan.specs.PlanOf.{plan_of, wants_singly}
+use Rattle.solv_plan.specs.PlanOf.{plan_of}
 use Rattle.solv_plan.specs.declared.plans.Plan.{Plan}
 
 -- who asks: a plan, for so many packages
@@ -36,8 +37,8 @@ IsLawful asker clauses owners = (enabled : List Bool) → KeepsLaw asker.package
 pub record IsAskedFor (r : Request) (asker : Asker) (core : CoreOf) : Type 0 where
   pub plan : asker.plan ≡ plan_of r
   pub packages : asker.packages ≡ length r.catalog.universe.packages
-  pub singly : AsksSingly r
-  pub wants : list_all (wants_singly r.catalog) r.catalog.universe.packages ≡ true
+  pub formed : AsksInForm r
+  pub founded : IsWellFounded r.catalog.pool.nodes
   pub clauses : core.clauses ≡ flat_map (rule_clauses r.catalog) (rules_of r)
   pub owners : core.owners ≡ owners_from r.catalog 0 (rules_of r)
   pub count : core.packages ≡ length r.catalog.universe.packages

@@ -5,12 +5,11 @@ ghost use Rattle.solv_pool.specs.Catalog.{catalog_of};
 ghost use Rattle.solv_pool.specs.TaskBelonging.{IsClosed};
 ghost use Rattle.solv_prov.specs.Index.{IsIndexOf};
 ghost use Rattle.solv_jobs.specs.Marking.{HasMarks};
-ghost use Rattle.solv_rules.specs.Making.{asks_singly};
 ghost use Rattle.solv_rules.specs.Books.{IsBook, first_fault, is_bookable, read_rules};
 ghost use Rattle.solv_core.specs.Ledgers.{IsGoodLedger};
 ghost use Rattle.solv_core.specs.Running.{is_spent_verdict};
+ghost use Rattle.solv_rules.specs.Making.{asks_in_form};
 ghost use Rattle.solv_questions.specs.Questions.{asks, request_of, rules_of};
-ghost use Rattle.solv_plan.specs.PlanOf.{wants_singly};
 ghost use Rattle.solv_decide.specs.Deciding.{IsDecided};
 
 use crate::phases::Phases;
@@ -61,8 +60,7 @@ pub fn decide(
     requires index { IsIndexOf prov.now (catalog_of task.now) }
     requires closed { IsClosed task.now }
     requires marks { HasMarks (length task.now.universe.packages) marks.now }
-    requires singly { list_all (asks_singly (catalog_of task.now)) task.now.universe.packages ≡ true }
-    requires wants { list_all (wants_singly (catalog_of task.now)) task.now.universe.packages ≡ true }
+    requires formed { list_all (asks_in_form (catalog_of task.now)) task.now.universe.packages ≡ true }
     requires book { IsBook (catalog_of task.now) book.now }
     requires rules { read_rules book.now.rules ≡ rules_of (request_of task.now marks.now) }
     requires bookable { list_all (is_bookable (catalog_of task.now)) (read_rules book.now.rules) ≡ true }
@@ -75,6 +73,7 @@ pub fn decide(
     ensures decided { IfOk result (λ d. IsDecided (request_of task.now marks.now) (replicate (length book.now.rules.list) true) (record { clauses = book.now.clauses; owners = book.now.owners; packages = length task.now.universe.packages }) d.verdict) }
 {
     clauses_name_packages();
+    task.pool.holds_each_once();
     let phases = Phases::new(alloc, task, prov, marks, book)?;
     let mut core = core_of(alloc, task, book)?;
     let enabled = all_enabled(alloc, book.rules().list.len())?;

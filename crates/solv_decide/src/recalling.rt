@@ -22,7 +22,7 @@ pub trait Planned {
 }
 
 impl Planned for Brand {
-    ghost plan = { record { demands = []; keeps = []; rows = []; required = []; recommended = []; supplements = [] } };
+    ghost plan = { record { demands = []; keeps = []; relations = record { nodes = []; rows = []; standings = [] }; required = []; recommended = []; supplements = [] } };
 }
 
 /// What is settled of the plan.

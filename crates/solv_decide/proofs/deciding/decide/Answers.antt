@@ -17,7 +17,7 @@ is_asked c =
     let catalog : Catalog = catalog_of c.args.task.now in
     let rules : List HardRule = read_rules c.args.book.now.rules in
     asked_for (request_of c.args.task.now c.args.marks.now) c.in_ok-phases.phases c.in_ok-core.core c.args.book.now.clauses c.args.book.now.owners rules
-    c.in_ok-phases.ensures c.in_ok-core.ensures c.requires.book.clauses c.requires.book.owners c.requires.rules c.requires.singly c.requires.wants
+    c.in_ok-phases.ensures c.in_ok-core.ensures c.requires.book.clauses c.requires.book.owners c.requires.rules c.requires.formed c.holds_each_once.ensures.operands_before
     (ap (are_over (length catalog.universe.packages)) c.requires.book.clauses ∙ clauses_over catalog c.clauses_name_packages.ensures rules c.requires.bookable)
 
 enabled_are : (c : goal.After-ledger-1) → c.deref.result.now ≡ replicate (length c.args.book.now.rules.list) true
@@ -40,7 +40,7 @@ returns-clause-good c =
     let r : Request = request_of c.args.task.now c.args.marks.now in
     let asked : IsAskedFor r c.in_ok-phases.phases c.in_ok-core.core =
     asked_for r c.in_ok-phases.phases c.in_ok-core.core c.args.book.now.clauses c.args.book.now.owners rules
-    c.in_ok-phases.ensures c.in_ok-core.ensures c.requires.book.clauses c.requires.book.owners c.requires.rules c.requires.singly c.requires.wants
+    c.in_ok-phases.ensures c.in_ok-core.ensures c.requires.book.clauses c.requires.book.owners c.requires.rules c.requires.formed c.holds_each_once.ensures.operands_before
     (ap (are_over (length catalog.universe.packages)) c.requires.book.clauses ∙ clauses_over catalog c.clauses_name_packages.ensures rules c.requires.bookable) in
     let core : CoreOf = c.in_ok-core.core in
     let L : CoreOf → Type 0 = λ k. IsGoodLedger k.clauses k.owners k.packages (asks r) c.solve.new.ledger in
@@ -53,7 +53,7 @@ returns-clause-decided c =
     let r : Request = request_of c.args.task.now c.args.marks.now in
     let asked : IsAskedFor r c.in_ok-phases.phases c.in_ok-core.core =
     asked_for r c.in_ok-phases.phases c.in_ok-core.core c.args.book.now.clauses c.args.book.now.owners rules
-    c.in_ok-phases.ensures c.in_ok-core.ensures c.requires.book.clauses c.requires.book.owners c.requires.rules c.requires.singly c.requires.wants
+    c.in_ok-phases.ensures c.in_ok-core.ensures c.requires.book.clauses c.requires.book.owners c.requires.rules c.requires.formed c.holds_each_once.ensures.operands_before
     (ap (are_over (length catalog.universe.packages)) c.requires.book.clauses ∙ clauses_over catalog c.clauses_name_packages.ensures rules c.requires.bookable) in
     let on : List Bool = replicate (length c.args.book.now.rules.list) true in
     let same : c.deref.result.now ≡ on = c.deref.ensures.value ∙ c.in_ok-enabled.ensures ∙ ap (λ n. replicate n true) (c.len.ensures ∙ ap (λ x. length x.list) c.rules.ensures) in
