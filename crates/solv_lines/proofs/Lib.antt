@@ -2,4 +2,3 @@ mod Rising
 mod Provided
 mod Joining
 mod Beyond
-mod Asking

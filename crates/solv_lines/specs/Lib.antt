@@ -1,4 +1,3 @@
-pub mod Fitting
 pub mod RuleTexts
 pub mod LineSets
 pub mod ResultLines

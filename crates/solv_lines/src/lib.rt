@@ -4,16 +4,13 @@
 //! - [`result_lines`]: the lines of an [`Outcome`], of the kinds that a script asks for: what a set changes, and what
 //!   problems list.
 //! - [`line_set`] and [`LineSet`]: lines sorted by bytes, each once; [`text_of`]: their text.
-//! - [`tested_rules_ask_singly`]: that rules which pass a test are fit to be told.
 //!
 //! `specs/RuleTexts` and `specs/ResultLines` say each text byte for byte, and `specs/LineSets` what a set of lines is.
-//! `specs/Fitting` says what is asked of rules today: their requirements are simple, versioned or namespaces. Nothing is
-//! asked of the packages, relations, jobs and sets that they name, nor of the rules that an outcome lists: what is not
-//! there has no text.
+//! Nothing is asked of the packages, relations, jobs and sets that rules name, nor of the rules that an outcome lists: what
+//! is not there has no text.
 #![tactic(auto)]
 
 mod changing;
-mod laws;
 mod line_rows;
 mod line_sets;
 mod outcomes;
@@ -22,7 +19,6 @@ mod results;
 mod telling;
 mod writing;
 
-pub use laws::tested_rules_ask_singly;
 pub use line_rows::{rows_of_result_lines, rows_of_rule_texts};
 pub use line_sets::{LineSet, line_set, text_of};
 pub use outcomes::{Found, Outcome};

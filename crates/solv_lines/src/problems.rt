@@ -5,7 +5,6 @@ ghost use Rattle.std.specs.List.{list_all};
 ghost use Rattle.solv_pool.specs.Belonging.{IsOver};
 ghost use Rattle.solv_pool.specs.Catalog.{catalog_of};
 ghost use Rattle.solv_prov.specs.Index.{IsIndexOf};
-ghost use Rattle.solv_lines.specs.Fitting.{asks_singly};
 ghost use Rattle.solv_lines.specs.LineSets.{with_lines};
 ghost use Rattle.solv_lines.specs.ResultLines.{info_line, problem_lines, all_problem_lines};
 
@@ -36,7 +35,6 @@ fn info_line(
 ) -> Result<Bytes, AllocError>
     requires over { IsOver task.now.pool task.now.universe }
     requires index { IsIndexOf prov.now (catalog_of task.now) }
-    requires single { list_all (asks_singly (catalog_of task.now)) rules.now.list ≡ true }
     ensures { IfOk result (λ line. line ≡ info_line task.now rules.now number rule) }
 {
     let mut line = heading(alloc, number)?;
@@ -56,7 +54,6 @@ fn put_problem(
 ) -> Result<(), AllocError>
     requires over { IsOver task.now.pool task.now.universe }
     requires index { IsIndexOf prov.now (catalog_of task.now) }
-    requires single { list_all (asks_singly (catalog_of task.now)) rules.now.list ≡ true }
     ensures { OnOk result (lines.new.keys ≡ with_lines lines.old.keys (problem_lines task.now rules.now number found.now)) }
 {
     for rule in found.rules.held() {
@@ -76,7 +73,6 @@ pub(crate) fn put_problems(
 ) -> Result<(), AllocError>
     requires over { IsOver task.now.pool task.now.universe }
     requires index { IsIndexOf prov.now (catalog_of task.now) }
-    requires single { list_all (asks_singly (catalog_of task.now)) rules.now.list ≡ true }
     ensures { OnOk result (lines.new.keys ≡ with_lines lines.old.keys (all_problem_lines task.now rules.now founds.now)) }
 {
     for (place, found) in founds.iter().enumerate() {

@@ -4,7 +4,6 @@ ghost use Rattle.std.specs.List.{list_all};
 ghost use Rattle.solv_pool.specs.Belonging.{IsOver};
 ghost use Rattle.solv_pool.specs.Catalog.{catalog_of};
 ghost use Rattle.solv_prov.specs.Index.{IsIndexOf};
-ghost use Rattle.solv_lines.specs.Fitting.{asks_singly};
 ghost use Rattle.solv_lines.specs.LineSets.{line_set};
 ghost use Rattle.solv_lines.specs.ResultLines.{outcome_lines};
 
@@ -30,7 +29,6 @@ fn outcome_lines(
 ) -> Result<BTreeSet<Bytes>, AllocError>
     requires over { IsOver task.now.pool task.now.universe }
     requires index { IsIndexOf prov.now (catalog_of task.now) }
-    requires single { list_all (asks_singly (catalog_of task.now)) rules.now.list ≡ true }
     ensures { IfOk result (λ lines. lines.keys ≡ line_set (outcome_lines task.now rules.now kinds outcome.now)) }
 {
     let mut lines = BTreeSet::new(alloc);
@@ -58,7 +56,6 @@ pub fn result_lines(
 ) -> Result<LineSet, AllocError>
     requires over { IsOver task.now.pool task.now.universe }
     requires index { IsIndexOf prov.now (catalog_of task.now) }
-    requires single { list_all (asks_singly (catalog_of task.now)) rules.now.list ≡ true }
     ensures { IfOk result (λ lines. lines ≡ line_set (outcome_lines task.now rules.now kinds outcome.now)) }
 {
     let lines = outcome_lines(alloc, kinds, task, prov, rules, outcome)?;

@@ -1,31 +1,45 @@
 //! What is said of rules.
-ghost use Rattle.std.specs.Prelude.{◌≡◌, ◌++◌, ◌==◌, length, true, IfOk, OnOk, codes};
+ghost use Rattle.std.specs.Prelude.{◌≡◌, ◌++◌, ◌<◌, ◌==◌, length, IfOk, OnOk, codes};
 ghost use Rattle.std.specs.List.{list_all};
-ghost use Rattle.solv_base.specs.Dependency.{operators};
 ghost use Rattle.solv_pool.specs.Belonging.{IsOver};
 ghost use Rattle.solv_pool.specs.Catalog.{catalog_of, dependency};
 ghost use Rattle.solv_pool.specs.RuleMeaning.{not_installable, same, infarch, set_at, rule_with};
 ghost use Rattle.solv_prov.specs.Index.{IsIndexOf};
-ghost use Rattle.solv_lines.specs.Fitting.{asks_singly};
 ghost use Rattle.solv_lines.specs.RuleTexts.{named, asked, has_provider, requirement_text, dependency_of_job, install_text, text_of_rule, rule_text_at};
 
 use crate::writing::{append_package, write_package, write_relation};
 use solv_base::DepId;
 use solv_list::{Bytes, Items};
 use solv_pool::{Choice, JobNo, PackNo, Rule, Rules, SetNo, Task};
-use solv_prov::Providers;
+use solv_prov::{Parts, Providers, parts_of};
 use std::alloc::{AllocError, Global};
 
-/// Whether a package, or the system, meets a relation without operators. Nothing meets an id that is none.
+/// Whether a package, or the system, meets a part of a relation that is there.
+fn serves_some(task: &Task, prov: &Providers, dep: DepId) -> bool
+    requires index { IsIndexOf prov.now (catalog_of task.now) }
+    requires held { dep < length task.now.pool.nodes }
+    ensures { result ≡ has_provider (catalog_of task.now) (dependency (catalog_of task.now) dep) }
+{
+    match parts_of(&task.pool, dep) {
+        Parts::Itself => !prov.of(dep).is_empty(),
+        Parts::Of(operand) => serves_some(task, prov, operand),
+        Parts::OfBoth(first, second) => {
+            let own = serves_some(task, prov, first);
+            let other = serves_some(task, prov, second);
+            own || other
+        }
+    }
+}
+
+/// Whether a package, or the system, meets a part of a relation. Nothing meets an id that is none.
 fn has_provider(task: &Task, prov: &Providers, dep: DepId) -> bool
     requires index { IsIndexOf prov.now (catalog_of task.now) }
-    requires single { operators (dependency (catalog_of task.now) dep) ≡ 0 }
     ensures { result ≡ has_provider (catalog_of task.now) (dependency (catalog_of task.now) dep) }
 {
     if dep.0 as usize >= task.pool.relation_count() {
         return false;
     }
-    !prov.of(dep).is_empty()
+    serves_some(task, prov, dep)
 }
 
 /// A package and what it does by a relation.
@@ -53,7 +67,6 @@ fn write_requirement(
 ) -> Result<(), AllocError>
     requires over { IsOver task.now.pool task.now.universe }
     requires index { IsIndexOf prov.now (catalog_of task.now) }
-    requires single { operators (dependency (catalog_of task.now) dep) ≡ 0 }
     ensures { OnOk result (into.new.items ≡ into.old.items ++ requirement_text (catalog_of task.now) pack dep) }
 {
     if has_provider(task, prov, dep) {
@@ -171,7 +184,6 @@ fn write_rule(
 ) -> Result<(), AllocError>
     requires over { IsOver task.now.pool task.now.universe }
     requires index { IsIndexOf prov.now (catalog_of task.now) }
-    requires single { asks_singly (catalog_of task.now) rule.now ≡ true }
     ensures { OnOk result (into.new.items ≡ into.old.items ++ text_of_rule task.now (rule_with sets.now rule.now)) }
 {
     match *rule {
@@ -212,7 +224,6 @@ pub(crate) fn write_rule_at(
 ) -> Result<(), AllocError>
     requires over { IsOver task.now.pool task.now.universe }
     requires index { IsIndexOf prov.now (catalog_of task.now) }
-    requires single { list_all (asks_singly (catalog_of task.now)) rules.now.list ≡ true }
     ensures { OnOk result (into.new.items ≡ into.old.items ++ rule_text_at task.now rules.now rule) }
 {
     match rules.list.held().get(rule) {
@@ -231,7 +242,6 @@ pub fn rule_text(
 ) -> Result<Bytes, AllocError>
     requires over { IsOver task.now.pool task.now.universe }
     requires index { IsIndexOf prov.now (catalog_of task.now) }
-    requires single { list_all (asks_singly (catalog_of task.now)) rules.now.list ≡ true }
     ensures { IfOk result (λ text. text ≡ rule_text_at task.now rules.now rule) }
 {
     let mut text = Vec::new(alloc);

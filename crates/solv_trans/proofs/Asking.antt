@@ -5,7 +5,7 @@ use Rattle.std.specs.List.{list_any, list_all}
 use Rattle.std.specs.Option.{option_eq}
 use Rattle.std.proofs.lemmas.Bool.{and_parts, and_from, false≢true, eqb-true, ltb-true}
 use Rattle.std.proofs.lemmas.Bool.Decides.{eqb_tells, nat_tests}
-use Rattle.solv_base.specs.Dependency.{Dep, one, namespace, and, or, with, without, if_then, if_else, unless, unless_else, missing, package_wise, operators}
+use Rattle.solv_base.specs.Dependency.{Dep}
 use Rattle.solv_pool.specs.Words.{passes, is_among}
 use Rattle.solv_pool.specs.Belonging.{IsOver, fits, names_of}
 use Rattle.solv_pool.specs.Catalog.{Catalog, dependency, is_installed, members, package_at, packages}
@@ -19,29 +19,8 @@ use Rattle.solv_graph.specs.declared.orders.Turn.{Turn}
 use Rattle.solv_graph.specs.declared.orders.Turn.TheVariants.{Never, Early, Late}
 use Rattle.solv_trans.specs.Moving.{comes, goes, is_kept, is_part}
 use Rattle.solv_trans.specs.Edges.{is_met_already, brings, serves}
-use Rattle.solv_trans.specs.Readiness.{is_single}
 use Rattle.solv_trans.specs.Joining.{AreTurns, is_early_in, settles}
 use Rattle.solv_trans.proofs.Lists.{or_cases, or_right, or_left, or_false, not_true, not_is, both_ways, here, any_some, some_any, in_filter, filter_in, in_range, range_in, all_at}
-
--- a simple, versioned or namespace dependency is its one part
-some_operators : (n : ℕ) → eqb (n + 1) 0 ≡ true → ⊥
-some_operators n h = let e = eqb-true (n + 1) 0 h in omega (arith, e)
-
-pub single_parts : (d : Dep ℕ) → (package_wise d && eqb (operators d) 0) ≡ true → parts d ≡ d ∷ []
-single_parts (one c) h = refl
-single_parts (namespace n) h = refl
-single_parts (with a b) h = refl
-single_parts (without a b) h = refl
-single_parts (or a b) h = absurd (some_operators (operators a + operators b) (and_parts (package_wise a && package_wise b) (eqb (operators a + operators b + 1) 0) h).1)
-single_parts (and a b) h = absurd (false≢true h)
-single_parts (if_then a b) h = absurd (false≢true h)
-single_parts (if_else a b c) h = absurd (false≢true h)
-single_parts (unless a b) h = absurd (false≢true h)
-single_parts (unless_else a b c) h = absurd (false≢true h)
-single_parts missing h = absurd (false≢true h)
-
-pub no_operators : (catalog : Catalog) (d : ℕ) → is_single catalog d ≡ true → operators (dependency catalog d) ≡ 0
-no_operators catalog d h = eqb-true (operators (dependency catalog d)) 0 (and_parts (package_wise (dependency catalog d)) (eqb (operators (dependency catalog d)) 0) h).1
 
 module _ (catalog : Catalog) (set : ℕ → Bool) where
   abbrev count : ℕ
@@ -148,18 +127,18 @@ module _ (catalog : Catalog) (set : ℕ → Bool) where
         ap (λ b. b && not (late_of turns p)) (part_is p) ∙ ap (λ b. is_part catalog set p && not b) (late_is p)
         ∙ early_cases (comes catalog set p) (goes catalog set p) (not_both p)
 
-  -- a requirement by its one part
-  module _ (id : ℕ) (single : is_single catalog id ≡ true) where
+  -- a requirement that is its own part
+  module _ (id : ℕ) (alone : parts (dependency catalog id) ≡ dependency catalog id ∷ []) where
     abbrev d : Dep ℕ
     d = dependency catalog id
 
     pub brings_is : (a p : ℕ) → brings catalog set a p (dependency catalog id) ≡ (package_meets catalog (dependency catalog id) a && not (is_met_already catalog set p (dependency catalog id)))
     brings_is a p =
-        ap (list_any (λ part. package_meets catalog part a && not (is_met_already catalog set p part))) (single_parts (dependency catalog id) single)
+        ap (list_any (λ part. package_meets catalog part a && not (is_met_already catalog set p part))) alone
         ∙ or_false (package_meets catalog (dependency catalog id) a && not (is_met_already catalog set p (dependency catalog id)))
 
     pub serves_is : (a : ℕ) → serves catalog set a (dependency catalog id) ≡ package_meets catalog (dependency catalog id) a
-    serves_is a = ap (list_any (λ part. package_meets catalog part a)) (single_parts (dependency catalog id) single) ∙ or_false (package_meets catalog (dependency catalog id) a)
+    serves_is a = ap (list_any (λ part. package_meets catalog part a)) alone ∙ or_false (package_meets catalog (dependency catalog id) a)
 
     abbrev providers : List ℕ
     providers = filter (package_meets catalog (dependency catalog id)) (members catalog)

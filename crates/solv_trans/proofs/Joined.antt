@@ -47,3 +47,13 @@ module _ {X : Type 0} (asks : (Need → Bool) → X → ℕ → ℕ → Bool) wh
     all = adds_same (asks (λ need. true)) (others (λ need. true)) xs ys old.all new.all (same (λ need. true)) f.all;
     pre = adds_same (asks (λ need. need.pre)) (others (λ need. need.pre)) xs ys old.pre new.pre (same (λ need. need.pre)) f.pre;
   }
+
+  -- what asks for the same edges in another way, by the requirements and by the pre-requirements
+  pub joins_by : (xs ys : List X) (old new : Edges)
+      → ((a b : ℕ) → list_any (λ x. asks (λ need. true) x a b) xs ≡ list_any (λ y. asks (λ need. true) y a b) ys)
+      → ((a b : ℕ) → list_any (λ x. asks (λ need. need.pre) x a b) xs ≡ list_any (λ y. asks (λ need. need.pre) y a b) ys)
+      → Joins asks xs old new → Joins asks ys old new
+  joins_by xs ys old new same pre f = record {
+    all = adds_same (asks (λ need. true)) (asks (λ need. true)) xs ys old.all new.all same f.all;
+    pre = adds_same (asks (λ need. need.pre)) (asks (λ need. need.pre)) xs ys old.pre new.pre pre f.pre;
+  }

@@ -4,10 +4,11 @@ use Rattle.std.specs.Prelude.{slice_get, nat_lt, if◌then◌else◌}
 use Rattle.std.specs.List.{list_any, list_all}
 use Rattle.std.proofs.lemmas.Bool.{and_parts, and_from, false≢true, eqb-true, ne_eqb, ltb-true}
 use Rattle.std.proofs.lemmas.Bool.Decides.{nat_tests}
+use Rattle.std.proofs.lemmas.List.Folds.{list_any-append}
 use Rattle.solv_base.specs.Dependency.{Dep}
 use Rattle.solv_pool.specs.Words.{passes, is_among}
 use Rattle.solv_pool.specs.Belonging.{fits, names_of, relations_of}
-use Rattle.solv_pool.specs.Catalog.{Catalog, catalog_of, dependency, members, package_at, packages}
+use Rattle.solv_pool.specs.Catalog.{Catalog, dependency, members, package_at, packages}
 use Rattle.solv_pool.specs.Holding.{package_meets}
 use Rattle.solv_pool.specs.Parts.{parts}
 use Rattle.solv_pool.specs.declared.packages.Package.{Package}
@@ -19,9 +20,11 @@ use Rattle.solv_graph.specs.declared.orders.Turn.{Turn}
 use Rattle.solv_graph.specs.declared.orders.Turn.TheVariants.{Never, Early, Late}
 use Rattle.solv_trans.specs.Moving.{comes, goes}
 use Rattle.solv_trans.specs.Edges.{is_met_already, brings, serves, requires_some, coming_edge, going_edge, edge_by}
-use Rattle.solv_trans.specs.Readiness.{IsReady, is_single, needs_singly}
-use Rattle.solv_trans.specs.Joining.{turn_of, AreTurns, is_early_in, from_one, to_one, settles, unsettled, to_coming, from_going, owned_by}
+use Rattle.solv_trans.specs.Readiness.{IsReady}
+use Rattle.solv_trans.specs.Joining.{Joins, turn_of, AreTurns, is_early_in, from_one, to_one, settles, unsettled, to_coming, from_going, owned_by}
 use Rattle.solv_trans.proofs.Lists.{or_cases, or_right, or_left, or_false, not_true, not_is, both_ways, any_some, some_any, in_filter, filter_in, all_at, all_members}
+use Rattle.solv_trans.specs.declared.edges.Edges.{Edges}
+use Rattle.solv_trans.proofs.Joined.{joins_by, joins_more}
 use Rattle.solv_trans.proofs.Asking.{brings_is, serves_is, settled_is, comes_pack, goes_pack, in_members, packages_bound, late_is, early_is, not_both}
 
 unsettled_in : (b : Bool) (qs : List ℕ) (q : ℕ) → is_among (if b then [] else qs) q ≡ true → (b ≡ false) × (is_among qs q ≡ true)
@@ -78,7 +81,7 @@ neither c k r x y z s cp gp e f =
     nothing c k r cp e = ap (λ t. c && (k && (t && r))) e ∙ ap (λ t. c && t) (and_false k) ∙ and_false c
 
 module _ (catalog : Catalog) (set : ℕ → Bool) where
-  module _ (turns : List Turn) (are : AreTurns catalog set turns) (need : Need) (single : is_single catalog need.dep ≡ true) (these : Need → Bool) (a b : ℕ) where
+  module _ (turns : List Turn) (are : AreTurns catalog set turns) (need : Need) (single : parts (dependency catalog need.dep) ≡ dependency catalog need.dep ∷ []) (these : Need → Bool) (a b : ℕ) where
     abbrev meets : ℕ → Bool
     meets = package_meets catalog (dependency catalog need.dep)
 
@@ -151,6 +154,56 @@ module _ (catalog : Catalog) (set : ℕ → Bool) where
             (and_from (these need) (not (eqb p b) && (late_of turns b && (eqb p a && eqb b b))) one.0
             (and_from (not (eqb p b)) (late_of turns b && (eqb p a && eqb b b)) three.0
             (and_from (late_of turns b) (eqb p a && eqb b b) (late_is catalog set turns are b ∙ four.0) (and_from (eqb p a) (eqb b b) two.0 (eq-eqb b b refl)))))
+
+  -- the edges of a requirement by the operands of its dependency
+  module _ (need : Need) (x : ℕ) (old mid new : Edges) where
+    abbrev at : ℕ → Need
+    at d = record need { dep = d }
+
+    one_side : (t f g : Bool) → f ≡ g → ((t && f) || false) ≡ ((t && g) || false)
+    one_side t f g e = ap (λ b. (t && b) || false) e
+
+    pub coming_operand : (a : ℕ) → parts (dependency catalog need.dep) ≡ parts (dependency catalog a) → Joins (to_coming catalog set x) (at a ∷ []) old new → Joins (to_coming catalog set x) (need ∷ []) old new
+    coming_operand a same = joins_by (to_coming catalog set x) (at a ∷ []) (need ∷ []) old new
+        (λ p q. one_side true (eqb x q && (comes catalog set p && brings catalog set p x (dependency catalog a))) (eqb x q && (comes catalog set p && brings catalog set p x (dependency catalog need.dep))) (ap (λ ds. eqb x q && (comes catalog set p && list_any (λ part. package_meets catalog part p && not (is_met_already catalog set x part)) ds)) (sym same)))
+        (λ p q. one_side need.pre (eqb x q && (comes catalog set p && brings catalog set p x (dependency catalog a))) (eqb x q && (comes catalog set p && brings catalog set p x (dependency catalog need.dep))) (ap (λ ds. eqb x q && (comes catalog set p && list_any (λ part. package_meets catalog part p && not (is_met_already catalog set x part)) ds)) (sym same)))
+
+    pub going_operand : (a : ℕ) → parts (dependency catalog need.dep) ≡ parts (dependency catalog a) → Joins (from_going catalog set x) (at a ∷ []) old new → Joins (from_going catalog set x) (need ∷ []) old new
+    going_operand a same = joins_by (from_going catalog set x) (at a ∷ []) (need ∷ []) old new
+        (λ p q. one_side true (eqb x p && (not (eqb x q) && (goes catalog set q && serves catalog set q (dependency catalog a)))) (eqb x p && (not (eqb x q) && (goes catalog set q && serves catalog set q (dependency catalog need.dep)))) (ap (λ ds. eqb x p && (not (eqb x q) && (goes catalog set q && list_any (λ part. package_meets catalog part q) ds))) (sym same)))
+        (λ p q. one_side need.pre (eqb x p && (not (eqb x q) && (goes catalog set q && serves catalog set q (dependency catalog a)))) (eqb x p && (not (eqb x q) && (goes catalog set q && serves catalog set q (dependency catalog need.dep)))) (ap (λ ds. eqb x p && (not (eqb x q) && (goes catalog set q && list_any (λ part. package_meets catalog part q) ds))) (sym same)))
+
+    spread : (t c k f g h : Bool) → h ≡ (f || g) → ((t && (c && (k && f))) || ((t && (c && (k && g))) || false)) ≡ ((t && (c && (k && h))) || false)
+    spread true true true f g h e = ap (λ b. f || b) (or_false g) ∙ sym e ∙ sym (or_false h)
+    spread true true false f g h e = refl
+    spread true false k f g h e = refl
+    spread false c k f g h e = refl
+
+    wide : (t c k l f g h : Bool) → h ≡ (f || g) → ((t && (c && (k && (l && f)))) || ((t && (c && (k && (l && g)))) || false)) ≡ ((t && (c && (k && (l && h)))) || false)
+    wide true true true l f g h e = spread true true l f g h e
+    wide true true false l f g h e = refl
+    wide true false k l f g h e = refl
+    wide false c k l f g h e = refl
+
+    pub coming_both : (a b : ℕ) → parts (dependency catalog need.dep) ≡ parts (dependency catalog a) ++ parts (dependency catalog b)
+        → Joins (to_coming catalog set x) (at a ∷ []) old mid → Joins (to_coming catalog set x) (at b ∷ []) mid new → Joins (to_coming catalog set x) (need ∷ []) old new
+    coming_both a b same f g = joins_by (to_coming catalog set x) (at a ∷ at b ∷ []) (need ∷ []) old new
+        (λ p q. spread true (eqb x q) (comes catalog set p) (brings catalog set p x (dependency catalog a)) (brings catalog set p x (dependency catalog b)) (brings catalog set p x (dependency catalog need.dep)) (whole p))
+        (λ p q. spread need.pre (eqb x q) (comes catalog set p) (brings catalog set p x (dependency catalog a)) (brings catalog set p x (dependency catalog b)) (brings catalog set p x (dependency catalog need.dep)) (whole p))
+        (joins_more (to_coming catalog set x) (at a ∷ []) (at b ∷ []) old mid new f g)
+      where
+        whole : (p : ℕ) → brings catalog set p x (dependency catalog need.dep) ≡ (brings catalog set p x (dependency catalog a) || brings catalog set p x (dependency catalog b))
+        whole p = ap (list_any (λ part. package_meets catalog part p && not (is_met_already catalog set x part))) same ∙ list_any-append (λ part. package_meets catalog part p && not (is_met_already catalog set x part)) (parts (dependency catalog a)) (parts (dependency catalog b))
+
+    pub going_both : (a b : ℕ) → parts (dependency catalog need.dep) ≡ parts (dependency catalog a) ++ parts (dependency catalog b)
+        → Joins (from_going catalog set x) (at a ∷ []) old mid → Joins (from_going catalog set x) (at b ∷ []) mid new → Joins (from_going catalog set x) (need ∷ []) old new
+    going_both a b same f g = joins_by (from_going catalog set x) (at a ∷ at b ∷ []) (need ∷ []) old new
+        (λ p q. wide true (eqb x p) (not (eqb x q)) (goes catalog set q) (serves catalog set q (dependency catalog a)) (serves catalog set q (dependency catalog b)) (serves catalog set q (dependency catalog need.dep)) (whole q))
+        (λ p q. wide need.pre (eqb x p) (not (eqb x q)) (goes catalog set q) (serves catalog set q (dependency catalog a)) (serves catalog set q (dependency catalog b)) (serves catalog set q (dependency catalog need.dep)) (whole q))
+        (joins_more (from_going catalog set x) (at a ∷ []) (at b ∷ []) old mid new f g)
+      where
+        whole : (q : ℕ) → serves catalog set q (dependency catalog need.dep) ≡ (serves catalog set q (dependency catalog a) || serves catalog set q (dependency catalog b))
+        whole q = ap (list_any (λ part. package_meets catalog part q)) same ∙ list_any-append (λ part. package_meets catalog part q) (parts (dependency catalog a)) (parts (dependency catalog b))
 
   -- the edges of all requirements of a package
   module _ (p : ℕ) (held : Package) (at : package_at catalog p ≡ Some held) (these : Need → Bool) (a b : ℕ) where
@@ -256,9 +309,6 @@ all_of_map p (need ∷ needs) h = let both = and_parts (p need.dep) (list_all p 
 
 -- a requirement of a package of a task that is ready
 module _ (task : Task) (index : Index) (k : ℕ) (held : Package) (ready : IsReady task index) (at : slice_get task.universe.packages k ≡ Some held) (i : ℕ) (need : Need) (lt : i < length held.requires_) (is : need ≡ get_or held.requires_ i need) where
-  pub need_single : is_single (catalog_of task) need.dep ≡ true
-  need_single = all_get (λ (n : Need). is_single (catalog_of task) n.dep) held.requires_ i need (all_at (needs_singly (catalog_of task)) task.universe.packages k held ready.singly at) lt is
-
   pub need_below : need.dep < length task.pool.nodes
   need_below =
       let fit : fits (length task.pool.names) (length task.pool.nodes) (length task.universe.repos) held ≡ true = all_at (fits (length task.pool.names) (length task.pool.nodes) (length task.universe.repos)) task.universe.packages k held ready.over.packages at in

@@ -6,12 +6,13 @@ ghost use Rattle.solv_pool.specs.Catalog.{catalog_of, dependency, members, packa
 ghost use Rattle.solv_pool.specs.Holding.{package_meets};
 ghost use Rattle.solv_prov.specs.Index.{IsIndexOf};
 ghost use Rattle.solv_trans.specs.Moving.{comes, goes};
-ghost use Rattle.solv_trans.specs.Readiness.{IsReady, is_single};
-ghost use Rattle.solv_trans.specs.Joining.{is_marked, AreTurns, Joins, from_one, to_one, settles, unsettled, owned_by, AreEdges};
+ghost use Rattle.solv_trans.specs.Readiness.{IsReady};
+ghost use Rattle.solv_trans.specs.Joining.{is_marked, AreTurns, Joins, from_one, to_one, settles, unsettled, to_coming, from_going, owned_by, AreEdges};
 
+use solv_base::DepId;
 use solv_graph::{Graph, Turn};
 use solv_pool::{Need, PackNo, Task};
-use solv_prov::Providers;
+use solv_prov::{Parts, Providers, parts_of};
 use std::alloc::{AllocError, Global};
 
 /// All edges, and the pre edges among them.
@@ -36,6 +37,16 @@ fn put_edge(edges: &mut Edges, from: PackNo, to: PackNo, pre: bool) -> Result<()
         edges.pre.join(from.0, to.0)?;
     }
     Ok(())
+}
+
+/// A requirement by an operand of its dependency.
+fn by(need: Need, operand: DepId) -> Need
+    ensures { result ≡ record need { dep = operand } }
+{
+    Need {
+        dep: operand,
+        pre: need.pre,
+    }
 }
 
 /// Whether what is met by a package needs nothing that comes: it is the package that requires it, the system, or kept.
@@ -134,6 +145,43 @@ fn join_brought(
     Ok(())
 }
 
+/// Puts the edges to a package that comes, by one requirement of it.
+fn join_need_coming(
+    task: &Task,
+    prov: &Providers,
+    in_set: &[bool],
+    turns: &[Turn],
+    pack: PackNo,
+    need: Need,
+    edges: &mut Edges,
+) -> Result<(), AllocError>
+    requires index { IsIndexOf prov.now (catalog_of task.now) }
+    requires in_set { length in_set.now ≡ length task.now.universe.packages + 1 }
+    requires turns { AreTurns (catalog_of task.now) (is_marked in_set.now) turns.now }
+    requires size { length edges.old.all ≡ length turns.now }
+    requires pre_size { length edges.old.pre ≡ length turns.now }
+    requires pack { pack < length turns.now }
+    requires comes { comes (catalog_of task.now) (is_marked in_set.now) pack ≡ true }
+    requires held { need.dep < length task.now.pool.nodes }
+    ensures { OnOk result (Joins (to_coming (catalog_of task.now) (is_marked in_set.now) pack) (need ∷ []) edges.old edges.new) }
+{
+    match parts_of(&task.pool, need.dep) {
+        Parts::Itself => {
+            join_brought(task, in_set, turns, pack, &need, prov.of(need.dep), edges)?;
+            Ok(())
+        }
+        Parts::Of(operand) => {
+            join_need_coming(task, prov, in_set, turns, pack, by(need, operand), edges)?;
+            Ok(())
+        }
+        Parts::OfBoth(first, second) => {
+            join_need_coming(task, prov, in_set, turns, pack, by(need, first), edges)?;
+            join_need_coming(task, prov, in_set, turns, pack, by(need, second), edges)?;
+            Ok(())
+        }
+    }
+}
+
 /// Puts the edges to a package that comes.
 fn join_coming(
     task: &Task,
@@ -154,7 +202,7 @@ fn join_coming(
     ensures { OnOk result (Joins (owned_by (catalog_of task.now) (is_marked in_set.now)) (pack ∷ []) edges.old edges.new) }
 {
     for need in task.universe.package(pack).requires_.held() {
-        join_brought(task, in_set, turns, pack, need, prov.of(need.dep), edges)?;
+        join_need_coming(task, prov, in_set, turns, pack, *need, edges)?;
     }
     Ok(())
 }
@@ -207,6 +255,42 @@ fn join_all_to(
     Ok(())
 }
 
+/// Puts the edges from a package that goes, by one requirement of it.
+fn join_need_going(
+    task: &Task,
+    prov: &Providers,
+    turns: &[Turn],
+    pack: PackNo,
+    need: Need,
+    edges: &mut Edges,
+) -> Result<(), AllocError>
+    requires index { IsIndexOf prov.now (catalog_of task.now) }
+    requires turns { length turns.now ≡ length task.now.universe.packages + 1 }
+    requires size { length edges.old.all ≡ length turns.now }
+    requires pre_size { length edges.old.pre ≡ length turns.now }
+    requires pack { pack < length turns.now }
+    requires held { need.dep < length task.now.pool.nodes }
+    ensures size { OnOk result (length edges.new.all ≡ length edges.old.all) }
+    ensures pre_size { OnOk result (length edges.new.pre ≡ length edges.old.pre) }
+    ensures joined { (set : ℕ → Bool) → AreTurns (catalog_of task.now) set turns.now → OnOk result (Joins (from_going (catalog_of task.now) set pack) (need ∷ []) edges.old edges.new) }
+{
+    match parts_of(&task.pool, need.dep) {
+        Parts::Itself => {
+            join_all_to(turns, pack, &need, prov.of(need.dep), edges)?;
+            Ok(())
+        }
+        Parts::Of(operand) => {
+            join_need_going(task, prov, turns, pack, by(need, operand), edges)?;
+            Ok(())
+        }
+        Parts::OfBoth(first, second) => {
+            join_need_going(task, prov, turns, pack, by(need, first), edges)?;
+            join_need_going(task, prov, turns, pack, by(need, second), edges)?;
+            Ok(())
+        }
+    }
+}
+
 /// Puts the edges from a package that goes.
 fn join_going(
     task: &Task,
@@ -224,7 +308,7 @@ fn join_going(
     ensures { (set : ℕ → Bool) → AreTurns (catalog_of task.now) set turns.now → goes (catalog_of task.now) set pack ≡ true → OnOk result (Joins (owned_by (catalog_of task.now) set) (pack ∷ []) edges.old edges.new) }
 {
     for need in task.universe.package(pack).requires_.held() {
-        join_all_to(turns, pack, need, prov.of(need.dep), edges)?;
+        join_need_going(task, prov, turns, pack, *need, edges)?;
     }
     Ok(())
 }

@@ -4,7 +4,7 @@
 //!
 //! `specs/Moving` says what comes and goes, `specs/Edges` which part comes before which, and `specs/Orders` what a good order
 //! is, in the words of `solv_graph`; `specs/Readiness` says what a task has to be for it. `specs/Joining` serves inner contracts
-//! alone. Dependencies with operators come later: today a requirement is simple, versioned or a namespace.
+//! alone. A requirement is looked at by its parts.
 #![tactic(auto)]
 
 mod counting;
