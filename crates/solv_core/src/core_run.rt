@@ -5,6 +5,7 @@ ghost use Rattle.solv_derive.specs.Range.{are_over};
 ghost use Rattle.solv_trail.specs.Propagated.{in_use};
 ghost use Rattle.solv_watch.specs.Watching.{AreChained, AreHeads, AreNarrow};
 ghost use Rattle.solv_core.specs.Ledgers.{are_of_run, IsGoodLedger};
+ghost use Rattle.solv_core.specs.Contradictions.{IsWhatRefutes};
 ghost use Rattle.solv_core.specs.Settling.{HasLearnt};
 ghost use Rattle.solv_core.specs.Running.{is_spent_verdict, is_log_over, IsRefutation, IsFound};
 ghost use Rattle.solv_core.specs.declared.ledger.Entry.{Entry};
@@ -13,6 +14,7 @@ use crate::events::events_of;
 use crate::flags::Flags;
 use crate::ledger::{Ledger, Run};
 use crate::refutation::log_of;
+use crate::refuting::{Contradiction, refuted_over};
 use crate::settling::{Outcome, settle};
 use crate::verdicts::{Trail, Verdict};
 use solv_learn::Search;
@@ -230,6 +232,30 @@ impl Core {
             guide,
             ledger,
             run,
+        )
+    }
+
+    /// What the clauses of enabled owners refute where nothing is chosen: each other, or some of the owners of these clauses,
+    /// each with a derivation. Of the others nothing is told. It learns nothing, and no ledger notes it.
+    pub fn refuted_by(
+        &mut self,
+        enabled: &[bool],
+        clauses: &[RuleNo],
+    ) -> Result<Contradiction, AllocError>
+        requires enabled { list_all (λ o. nat_lt o (length enabled.now)) self.old.owners ≡ true }
+        ensures core { self.new ≡ self.old }
+        ensures refuted { IfOk result (IsWhatRefutes self.old.clauses self.old.owners self.old.packages enabled.now clauses.now) }
+    {
+        let alloc = *self.owners.allocator();
+        refuted_over(
+            alloc,
+            &mut self.known,
+            &mut self.search,
+            &mut self.book,
+            &self.owners,
+            &mut self.watches,
+            enabled,
+            clauses,
         )
     }
 }

@@ -1,0 +1,217 @@
+//! What enabled rules refute where nothing is chosen.
+ghost use Rattle.std.specs.Prelude.{◌≡◌, ◌<◌, ◌≤◌, ◌+◌, ◌*◌, ◌^◌, ◌||◌, ◌∷◌, [], ℕ, ℤ, Bool, true, List, length, nat_lt, slice_get, Some, IfOk};
+ghost use Rattle.std.specs.List.{list_all};
+ghost use Rattle.std.specs.Option.{IfSome};
+ghost use Rattle.solv_derive.specs.Forced.{is_falsified as is_false};
+ghost use Rattle.solv_derive.specs.Range.{is_over, are_over};
+ghost use Rattle.solv_trail.specs.Propagated.{in_use, IsReasoned, Propagated};
+ghost use Rattle.solv_watch.specs.Watching.{AreChained, AreHeads, AreNarrow};
+ghost use Rattle.solv_core.specs.Contradictions.{AreRefuted, IsLogWith, IsRefutedRule, IsWhatRefutes};
+
+use crate::refutation::log_of;
+use solv_derive::Log;
+use solv_learn::Search;
+use solv_list::Items;
+use solv_pack::{Lit, RuleMem, RuleNo};
+use solv_trail::Known;
+use solv_watch::{Watches, propagate};
+use std::alloc::{AllocError, Global};
+
+/// A rule that is refuted, and the derivation that shows it.
+#[derive(Drop)]
+pub struct RefutedRule {
+    pub rule: usize,
+    pub log: Log,
+}
+
+/// What enabled rules refute where nothing is chosen.
+#[derive(Drop)]
+pub enum Contradiction {
+    /// They refute each other.
+    Themselves(Log),
+    /// Each of these other rules.
+    Others(Items<RefutedRule>),
+}
+
+/// Whether each literal of a clause is known to be false.
+fn is_falsified(known: &Known, clause: &[Lit]) -> bool
+    requires { is_over known.now.count clause.now ≡ true }
+    ensures { result ≡ is_false known.now.lits clause.now }
+{
+    for lit in clause {
+        if !known.is_fact(lit.negated()) {
+            return false;
+        }
+    }
+    true
+}
+
+/// The derivation by a falsified clause, where nothing is chosen. Its leaves are clauses of enabled rules, or that one.
+fn log_by(
+    alloc: Global,
+    known: &Known,
+    search: &mut Search,
+    book: &RuleMem,
+    owners: &[usize],
+    enabled: &[bool],
+    clause: u32,
+) -> Result<Log, AllocError>
+    requires over { are_over known.now.count book.now.rules ≡ true }
+    requires count { search.old.marked.count ≡ known.now.count }
+    requires few { length book.now.rules ≤ 2 ^ 27 }
+    requires clause { clause < length book.now.rules }
+    requires clash { (c : List ℤ) → slice_get book.now.rules clause ≡ Some c → is_false known.now.lits c ≡ true }
+    requires reasoned { IsReasoned book.now.rules (in_use owners.now enabled.now) known.now }
+    requires no_choice { known.now.marks ≡ [] }
+    ensures count { search.new.marked.count ≡ search.old.marked.count }
+    ensures log { IfOk result (λ log. (other : ℕ → Bool) → (in_use owners.now enabled.now clause || other clause) ≡ true → IsLogWith book.now.rules owners.now known.now.count enabled.now other log) }
+{
+    let _ = owners;
+    let _ = enabled;
+    let none = RuleMem::new(alloc);
+    search.refute(known, book, &none, 0, clause)?;
+    let log = log_of(alloc, &[], 0, &search.hints)?;
+    Ok(log)
+}
+
+/// The rule of a clause, if the clause is falsified, and the derivation that refutes it.
+fn consider(
+    alloc: Global,
+    known: &Known,
+    search: &mut Search,
+    book: &RuleMem,
+    owners: &[usize],
+    enabled: &[bool],
+    clause: RuleNo,
+) -> Result<Option<RefutedRule>, AllocError>
+    requires over { are_over known.now.count book.now.rules ≡ true }
+    requires count { search.old.marked.count ≡ known.now.count }
+    requires each { length owners.now ≡ length book.now.rules }
+    requires few { length book.now.rules ≤ 2 ^ 27 }
+    requires reasoned { IsReasoned book.now.rules (in_use owners.now enabled.now) known.now }
+    requires no_choice { known.now.marks ≡ [] }
+    ensures count { search.new.marked.count ≡ search.old.marked.count }
+    ensures refuted { IfOk result (λ found. IfSome found (IsRefutedRule book.now.rules owners.now known.now.count enabled.now (clause ∷ []))) }
+{
+    if clause.0 as usize >= book.len() {
+        return Ok(None);
+    }
+    if !is_falsified(known, book.lits(clause)) {
+        return Ok(None);
+    }
+    let log = log_by(alloc, known, search, book, owners, enabled, clause.0)?;
+    Ok(Some(RefutedRule {
+        rule: owners[clause.0 as usize],
+        log,
+    }))
+}
+
+/// Whether the last one found is the rule of a clause.
+fn is_last(found: &[RefutedRule], owners: &[usize], clause: RuleNo) -> bool {
+    match found.last() {
+        Some(last) => match owners.get(clause.0 as usize) {
+            Some(owner) => last.rule == *owner,
+            None => false,
+        },
+        None => false,
+    }
+}
+
+/// The rules of these clauses that are refuted. Of clauses of one rule that follow each other the first serves.
+fn refuted_among(
+    alloc: Global,
+    known: &Known,
+    search: &mut Search,
+    book: &RuleMem,
+    owners: &[usize],
+    enabled: &[bool],
+    clauses: &[RuleNo],
+) -> Result<Vec<RefutedRule>, AllocError>
+    requires over { are_over known.now.count book.now.rules ≡ true }
+    requires count { search.old.marked.count ≡ known.now.count }
+    requires each { length owners.now ≡ length book.now.rules }
+    requires few { length book.now.rules ≤ 2 ^ 27 }
+    requires reasoned { IsReasoned book.now.rules (in_use owners.now enabled.now) known.now }
+    requires no_choice { known.now.marks ≡ [] }
+    ensures count { search.new.marked.count ≡ search.old.marked.count }
+    ensures refuted { IfOk result (λ found. AreRefuted book.now.rules owners.now known.now.count enabled.now clauses.now found.items) }
+{
+    let mut found = Vec::new(alloc);
+    for clause in clauses {
+        if is_last(&found, owners, *clause) {
+            continue;
+        }
+        if let Some(one) = consider(alloc, known, search, book, owners, enabled, *clause)? {
+            found.push(one)?;
+        }
+    }
+    Ok(found)
+}
+
+/// Adds what enabled rules force where nothing is known yet, without learnt rules. Names the clause that is falsified, if one is.
+fn force(
+    alloc: Global,
+    known: &mut Known,
+    book: &mut RuleMem,
+    owners: &[usize],
+    watches: &mut Watches,
+    enabled: &[bool],
+) -> Option<u32>
+    requires over { are_over known.old.count book.old.rules ≡ true }
+    requires each { length owners.now ≡ length book.old.rules }
+    requires owners { list_all (λ o. nat_lt o (length enabled.now)) owners.now ≡ true }
+    requires few { length book.old.rules ≤ 2 ^ 27 }
+    requires chained { AreChained known.old.count book.old.rules watches.old.book.heads.items book.old.links watches.old.book.watched.items }
+    requires narrow { AreNarrow book.old.rules watches.old.narrow.items }
+    requires heads { AreHeads known.old.count watches.old.learnt.heads.items watches.old.learnt.watched.items }
+    ensures count { known.new.count ≡ known.old.count }
+    ensures no_choice { known.new.marks ≡ [] }
+    ensures reasoned { IsReasoned book.old.rules (in_use owners.now enabled.now) known.new }
+    ensures done { Propagated book.old.rules (in_use owners.now enabled.now) known.new.lits result }
+    ensures rules { book.new.rules ≡ book.old.rules }
+    ensures chained { AreChained known.old.count book.old.rules watches.new.book.heads.items book.new.links watches.new.book.watched.items }
+    ensures narrow { AreNarrow book.old.rules watches.new.narrow.items }
+    ensures heads { AreHeads known.old.count watches.new.learnt.heads.items watches.new.learnt.watched.items }
+{
+    known.clear();
+    let mut none = RuleMem::new(alloc);
+    watches.learnt.forget();
+    propagate(known, book, &mut none, watches, owners, enabled)
+}
+
+/// What enabled rules refute, over the parts of a core: themselves, or some of the rules of these clauses.
+pub fn refuted_over(
+    alloc: Global,
+    known: &mut Known,
+    search: &mut Search,
+    book: &mut RuleMem,
+    owners: &[usize],
+    watches: &mut Watches,
+    enabled: &[bool],
+    clauses: &[RuleNo],
+) -> Result<Contradiction, AllocError>
+    requires over { are_over known.old.count book.old.rules ≡ true }
+    requires count { search.old.marked.count ≡ known.old.count }
+    requires each { length owners.now ≡ length book.old.rules }
+    requires owners { list_all (λ o. nat_lt o (length enabled.now)) owners.now ≡ true }
+    requires few { length book.old.rules ≤ 2 ^ 27 }
+    requires chained { AreChained known.old.count book.old.rules watches.old.book.heads.items book.old.links watches.old.book.watched.items }
+    requires narrow { AreNarrow book.old.rules watches.old.narrow.items }
+    requires heads { AreHeads known.old.count watches.old.learnt.heads.items watches.old.learnt.watched.items }
+    ensures count { known.new.count ≡ known.old.count }
+    ensures marked { search.new.marked.count ≡ search.old.marked.count }
+    ensures rules { book.new.rules ≡ book.old.rules }
+    ensures chained { AreChained known.old.count book.old.rules watches.new.book.heads.items book.new.links watches.new.book.watched.items }
+    ensures narrow { AreNarrow book.old.rules watches.new.narrow.items }
+    ensures heads { AreHeads known.old.count watches.new.learnt.heads.items watches.new.learnt.watched.items }
+    ensures refuted { IfOk result (IsWhatRefutes book.old.rules owners.now known.old.count enabled.now clauses.now) }
+{
+    match force(alloc, known, book, owners, watches, enabled) {
+        Some(clause) => Ok(Contradiction::Themselves(log_by(
+            alloc, known, search, book, owners, enabled, clause,
+        )?)),
+        None => Ok(Contradiction::Others(Items::wrap(refuted_among(
+            alloc, known, search, book, owners, enabled, clauses,
+        )?))),
+    }
+}
