@@ -1,6 +1,6 @@
 -- A set that meets the rules whose clauses a log rests on makes its leaves true.
 use Rattle.std.proofs.Common.{◌≡◌, ◌⊎◌, ◌+◌, add-one, ℕ, zero, suc, Bool, true, false, eq-eqb, List, [], ◌∷◌, ◌++◌, Option, Some, None, inl, inr, refl, sym, ap, ◌∙◌, subst}
-use Rattle.std.specs.Prelude.{ℤ, ◌==◌, filter, flat_map, fold, length, replicate, slice_get, option_to_list, unwrap_or}
+use Rattle.std.specs.Prelude.{ℤ, ◌==◌, nat_lt, filter, flat_map, fold, length, replicate, slice_get, option_to_list, unwrap_or}
 use Rattle.std.specs.BTreeSet.{insert_key}
 use Rattle.std.specs.List.{list_all, enumerate_from}
 use Rattle.std.specs.Ordering.{nat_cmp, match_ordering}
@@ -8,6 +8,7 @@ use Rattle.std.specs.Cmp.{nat_cmp_is}
 use Rattle.std.specs.declared.cmp.Ordering.{Ordering}
 use Rattle.std.specs.declared.cmp.Ordering.TheVariants.{Less, Equal, Greater}
 use Rattle.std.proofs.lemmas.Bool.{and_parts, cases_order, false≢true}
+use Rattle.solv_base.specs.Places.{fits_place}
 use Rattle.solv_pool.specs.Catalog.{Catalog, dependency}
 use Rattle.solv_pool.specs.Clauses.{rule_clauses, clause_true}
 use Rattle.solv_pool.specs.Laws.{ClausesNamePackages, ClausesSayTheRule, IsWellPlaced, names_packages}
@@ -19,9 +20,7 @@ use Rattle.solv_derive.specs.Range.{steps_over}
 use Rattle.solv_derive.specs.declared.logs.Step.{Step}
 use Rattle.solv_derive.specs.Leaves.{leaves, leaves_true, rule_true}
 use Rattle.solv_rules.specs.Books.{is_bookable, has_form, owners_from}
-use Rattle.solv_rules.specs.Making.{is_single}
 use Rattle.solv_questions.proofs.Members.{Has, has_filtered, has_mapped, has_flat, all_by, all_at, any_at}
-use Rattle.solv_questions.proofs.Placed.{is_one, one_fits}
 use Rattle.solv_decide.proofs.Whole.{clauses_over}
 use Rattle.solv_remedy.specs.Problems.{owners_of, listed_rules, rested_on, meets_listed, GoodLogsRefuteTheirRules}
 
@@ -63,15 +62,15 @@ module _ (catalog : Catalog) where
   of_numbered k (x ∷ rules) i r (inr h) = inr (of_numbered (k + 1) rules i r h)
 
   -- a number that is kept where it comes from is one of them
-  kept : (owners clauses : List ℕ) (n i : ℕ) → Has clauses n → slice_get owners n ≡ Some i → Has (owners_of owners clauses) i
+  pub kept : (owners clauses : List ℕ) (n i : ℕ) → Has clauses n → slice_get owners n ≡ Some i → Has (owners_of owners clauses) i
   kept owners clauses n i h e =
       let O : Option ℕ → Type 0 = λ o. Has (option_to_list o) i in
       has_flat (λ clause. option_to_list (slice_get owners clause)) clauses n i h (subst O (sym e) (inl refl))
 
   -- a rule of which a book can be made is well placed
   pub well_placed : (r : HardRule) → is_bookable catalog r ≡ true → IsWellPlaced catalog r
-  well_placed (req p d) h = one_fits true (dependency catalog d) (is_one (dependency catalog d) (and_parts _ (is_single catalog d) (and_parts (names_packages catalog (req p d)) (has_form catalog (req p d)) h).1).1)
-  well_placed (rich_con p d) h = one_fits false (dependency catalog d) (is_one (dependency catalog d) (and_parts _ (is_single catalog d) (and_parts (names_packages catalog (rich_con p d)) (has_form catalog (rich_con p d)) h).1).1)
+  well_placed (req p d) h = (and_parts (nat_lt d (length catalog.pool.nodes)) (fits_place true (dependency catalog d)) (and_parts (names_packages catalog (req p d)) (has_form catalog (req p d)) h).1).1
+  well_placed (rich_con p d) h = (and_parts (nat_lt d (length catalog.pool.nodes)) (fits_place false (dependency catalog d)) (and_parts (names_packages catalog (rich_con p d)) (has_form catalog (rich_con p d)) h).1).1
   well_placed (not_installable p) h = tt
   well_placed (con p d q) h = tt
   well_placed (obs p d q) h = tt
@@ -108,7 +107,7 @@ has_inserted k x (y ∷ ys) h =
     later go (inr (inl e)) = inl e
     later go (inr (inr g)) = inr (go (inr g))
 
-has_folded : (x : ℕ) (ns start : List ℕ) → Has start x ⊎ Has ns x → Has (fold (insert_key nat_cmp) start ns) x
+pub has_folded : (x : ℕ) (ns start : List ℕ) → Has start x ⊎ Has ns x → Has (fold (insert_key nat_cmp) start ns) x
 has_folded x [] start (inl h) = h
 has_folded x [] start (inr h) = absurd h
 has_folded x (n ∷ ns) start (inl h) = has_folded x ns (insert_key nat_cmp start n) (inl (has_inserted n x start (inr h)))

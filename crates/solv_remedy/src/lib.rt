@@ -1,14 +1,37 @@
 //! Problems of a task, and their solutions.
 //!
-//! - [`Problem`]: rules that no set meets together, with the derivation that shows it, and the ways out.
-//! - [`problem_of`]: the problem that a refutation gives.
+//! - [`Problem`]: rules that no set meets together, with the derivation that shows it, and the ways out. [`Solution`]: rules
+//!   that are dropped, the set that is then found, and for each dropped rule the derivation that it can't be given back.
+//! - [`finding::problems`]: from a first refutation all problems, each with a solution for each rule that may be dropped, within a
+//!   bounded number of runs; or that the ledger is spent.
+//! - [`problem_of`]: the problem that a refutation gives, with all rules that it rests on and no solutions.
 //!
-//! `specs/Problems` says what a problem is.
+//! `specs/Remedies` says what good problems, good solutions and good lists are, `specs/Runs` what runs leave of a ledger,
+//! `specs/Problems` what a refutation gives. The others serve inner contracts: `specs/Trying`, `specs/Dropping` and
+//! `specs/GivingBack` say by tests on the numbers of rules which have a set and which have none, `specs/Conflicts` has conflicts
+//! beside each other, `specs/WaysOut` the way out of one.
+//!
+//! A conflict is a list of rules that may be dropped, with a log: they and the fixed rules have no set. `singles` finds those of one
+//! rule by what follows from the fixed rules alone, without a run; `collecting` takes the others from runs without all that is
+//! listed, and `smallest` tries their rules off. For a rule of a conflict `looking` finds what must be dropped with it in any case,
+//! `dropping` drops rules until a set is found, and `giving_back` tries each of those back. `running` has the one run that all
+//! of them do, `ways_out` and `finding` put together what is handed out.
 #![tactic(auto)]
 
+mod collecting;
+mod conflicts;
+mod dropping;
+pub mod examples;
+pub mod finding;
+mod giving_back;
 pub mod laws;
 mod listing;
+mod looking;
 mod problems;
+mod running;
+mod singles;
+mod smallest;
+mod ways_out;
 
 pub use listing::problem_of;
 pub use problems::{Problem, Remedies, Solution};

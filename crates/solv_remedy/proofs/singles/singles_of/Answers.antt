@@ -1,0 +1,26 @@
+use Rattle.std.proofs.Common.{◌≡◌, ◌∷◌, ℕ, List, sym, subst, rules}
+use Rattle.std.specs.Vec.Iter.{into_iter_items}
+use Rattle.solv_core.specs.Contradictions.{AreRefuted}
+use Rattle.solv_core.specs.Cores.{CoreOf}
+use Rattle.solv_core.specs.declared.refuting.RefutedRule.{RefutedRule}
+use Rattle.solv_remedy.proofs.singles.singles_of.Goals as goal
+
+pub loop-one-preserved : goal.loop-one-preserved
+loop-one-preserved c =
+    let inv = c.loop-one.invariant in
+    let fixed = c.args.fixed.now in
+    let next : into_iter_items c.loop-one.one-iterator ≡ c.in-Some.one ∷ into_iter_items c.next.new.self = search rules in
+    let first = λ (core : CoreOf) (asked : List ℕ) (h : AreRefuted core.clauses core.owners core.packages fixed asked (into_iter_items c.loop-one.one-iterator)).
+    (let P : List RefutedRule → Type 0 = λ l. AreRefuted core.clauses core.owners core.packages fixed asked l in subst P next h) in
+    record {
+      apart = c.in_ok-put_apart.ensures.apart fixed inv.apart c.in_ok-single.ensures.rules;
+      filled = c.in_ok-put_apart.ensures.filled inv.filled;
+      settled = λ r asker core asked up all. c.in_ok-put_apart.ensures.settled r core (inv.settled r asker core asked up all) (c.in_ok-single.ensures.settled r asker core asked up (first core asked (inv.left core asked all)).0);
+      left = λ core asked all. (first core asked (inv.left core asked all)).1;
+      long = search rules;
+    }
+
+pub returns-clause-settled : goal.returns-clause-settled
+returns-clause-settled c = λ r asker core asked up all.
+    let P : List RefutedRule → Type 0 = λ l. AreRefuted core.clauses core.owners core.packages c.args.fixed.now asked l in
+    c.loop-one.invariant.settled r asker core asked up (subst P (sym c.into_iter-one-iterator.ensures.into_iter_gives.0) all)

@@ -1,0 +1,327 @@
+//! Problems with their solutions.
+ghost use Rattle.std.specs.Prelude.{◌≡◌, ◌≤◌, ◌<◌, ◌+◌, ◌*◌, ◌∷◌, [], ℕ, Bool, List, true, false, not, length, map, nat_lt, is_none, IfOk, ◌&&◌};
+ghost use Rattle.std.specs.List.{list_all, AllZip};
+ghost use Rattle.std.specs.Option.{IfSome};
+ghost use Rattle.solv_pool.specs.RuleMeaning.{is_fixed as is_fixed_rule, rule_with};
+ghost use Rattle.solv_pool.specs.Words.{is_among};
+ghost use Rattle.solv_derive.specs.Leaves.{leaves};
+ghost use Rattle.solv_derive.specs.Logs.{is_good_log};
+ghost use Rattle.solv_derive.specs.Range.{steps_over};
+ghost use Rattle.solv_core.specs.Cores.{CoreOf};
+ghost use Rattle.solv_questions.specs.Questions.{Request};
+ghost use Rattle.solv_decide.specs.Deciding.{Asker};
+ghost use Rattle.solv_remedy.specs.Dropping.{IsFoundOn};
+ghost use Rattle.solv_rules.specs.Books.{Written, read_rules};
+ghost use Rattle.solv_remedy.specs.Remedies.{IsMadeFor, IsGoodList, IsRemedies, droppable_rules, most_runs, is_spent_remedies};
+ghost use Rattle.solv_remedy.specs.Trying.{is_off_in, IsLogOf, IsSetUp};
+ghost use Rattle.solv_remedy.specs.Runs.{HasRuns, is_spent};
+ghost use Rattle.solv_remedy.specs.Conflicts.{droppable_count, listed_of, AreApart, IsRuleList, AreAll, IsSettled, AreSettled};
+ghost use Rattle.solv_remedy.specs.WaysOut.{is_of_some, IsConflictAmong, IsWayOut, IsProblemOf};
+
+use crate::collecting::{Collected, all_conflicts};
+use crate::conflicts::{clauses_of, unlisted_rules};
+use crate::laws::good_logs_refute_their_rules;
+use crate::listing::rules_of_log;
+use crate::problems::{Problem, Remedies, Solution};
+use crate::singles::singles;
+use crate::smallest::{Conflict, conflict_of};
+use crate::ways_out::{all_refuted, copy_of, solution_with, way_out};
+use solv_core::{Core, Ledger, Trail};
+use solv_decide::Phases;
+use solv_derive::Log;
+use solv_list::Items;
+use solv_pack::RuleNo;
+use solv_pool::Rule;
+use solv_rules::Book;
+use std::alloc::{AllocError, Global};
+
+/// Whether a rule may not be dropped.
+fn is_fixed(rule: &Rule) -> bool
+    ensures { (sets : List (List ℕ)) → result ≡ is_fixed_rule (rule_with sets rule.now) }
+{
+    match *rule {
+        Rule::NotInstallable(_) => true,
+        Rule::Req(_, _) => true,
+        Rule::Con(_, _, _) => true,
+        Rule::RichCon(_, _) => true,
+        Rule::Obs(_, _, _) => true,
+        Rule::Same(_, _) => true,
+        Rule::Infarch(_) => false,
+        Rule::Update(_, _) => false,
+        Rule::Feature(_, _) => false,
+        Rule::Install(_, _) => false,
+        Rule::Erase(_, _) => false,
+        Rule::Lock(_, _) => false,
+        Rule::BestJob(_, _) => false,
+        Rule::BestUpdate(_, _, _) => false,
+    }
+}
+
+/// For each rule whether it may not be dropped.
+fn fixed_rules(alloc: Global, rules: &[Rule]) -> Result<Vec<bool>, AllocError>
+    ensures { IfOk result (λ fixed. (sets : List (List ℕ)) → fixed.items ≡ map is_fixed_rule (map (rule_with sets) rules.now)) }
+{
+    let mut fixed = Vec::new(alloc);
+    for rule in rules {
+        fixed.push(is_fixed(rule))?;
+    }
+    Ok(fixed)
+}
+
+/// The ways out of a conflict, one for each of its rules. Nothing, where the ledger is spent.
+fn ways_out(
+    alloc: Global,
+    phases: &Phases,
+    core: &mut Core,
+    ledger: &mut Ledger,
+    book: &Book,
+    fixed: &[bool],
+    conflict: &Conflict,
+    rules: &[usize],
+    unlisted: &[usize],
+    clauses: &[RuleNo],
+) -> Result<Option<Vec<Solution>>, AllocError>
+    requires set_up { (r : Request) × (IsSetUp r phases.now core.old book.now fixed.now × IsSettled r core.old conflict.now) }
+    requires rules { rules.now ≡ conflict.now.rules }
+    requires droppable { list_all (is_off_in fixed.now) rules.now ≡ true }
+    requires apart { (k : ℕ) → is_among rules.now k ≡ true → is_among unlisted.now k ≡ false }
+    requires clauses { list_all (is_of_some core.old.owners unlisted.now) clauses.now ≡ true }
+    requires budget { ledger.old.budget ≤ 1000000 }
+    requires unspent { length ledger.old.entries ≤ ledger.old.budget }
+    ensures core { core.new ≡ core.old }
+    ensures runs { HasRuns phases.now core.old fixed.now (length rules.now * ((length unlisted.now + 1) + length unlisted.now)) ledger.old ledger.new }
+    ensures spent { IfOk result (λ o. is_none o ≡ is_spent ledger.new) }
+    ensures ways_out { (r : Request) (listed : List ℕ) → IsSetUp r phases.now core.old book.now fixed.now → IsConflictAmong r core.old conflict.now.rules conflict.now.log listed unlisted.now → IfOk result (λ o. IfSome o (λ s. AllZip (IsWayOut r core.old conflict.now.rules listed) rules.now s.items)) }
+{
+    let mut solutions = Vec::new(alloc);
+    for rule in rules {
+        match way_out(
+            alloc, phases, core, ledger, book, fixed, conflict, *rule, unlisted, clauses,
+        )? {
+            Some(solution) => solutions.push(solution)?,
+            None => return Ok(None),
+        }
+    }
+    Ok(Some(solutions))
+}
+
+/// The way out of a conflict of one rule, where the set over all that no conflict lists is given.
+fn lone_way_out(
+    alloc: Global,
+    conflict: &Conflict,
+    off: usize,
+    trail: &Trail,
+) -> Result<Vec<Solution>, AllocError>
+    ensures { (r : Request) (asker : Asker) (core : CoreOf) (book : Written) (fixed : List Bool) (listed unlisted : List ℕ) → IsSetUp r asker core book fixed → IsConflictAmong r core conflict.now.rules conflict.now.log listed unlisted → conflict.now.rules ≡ off ∷ [] → IsFoundOn r (λ k. not (is_among listed k)) trail.now → IfOk result (λ s. AllZip (IsWayOut r core conflict.now.rules listed) conflict.now.rules s.items) }
+{
+    let log = copy_of(alloc, &conflict.log)?;
+    let refuted = all_refuted(Vec::new(alloc), Vec::new(alloc), off, log)?;
+    let solution = solution_with(alloc, trail, refuted)?;
+    let mut solutions = Vec::new(alloc);
+    solutions.push(solution)?;
+    Ok(solutions)
+}
+
+/// The ways out of a conflict. One of a single rule takes no run.
+fn each_way_out(
+    alloc: Global,
+    phases: &Phases,
+    core: &mut Core,
+    ledger: &mut Ledger,
+    book: &Book,
+    fixed: &[bool],
+    conflict: &Conflict,
+    unlisted: &[usize],
+    clauses: &[RuleNo],
+    trail: &Trail,
+) -> Result<Option<Vec<Solution>>, AllocError>
+    requires set_up { (r : Request) × (IsSetUp r phases.now core.old book.now fixed.now × IsSettled r core.old conflict.now) }
+    requires droppable { list_all (is_off_in fixed.now) conflict.now.rules ≡ true }
+    requires apart { (k : ℕ) → is_among conflict.now.rules k ≡ true → is_among unlisted.now k ≡ false }
+    requires clauses { list_all (is_of_some core.old.owners unlisted.now) clauses.now ≡ true }
+    requires budget { ledger.old.budget ≤ 1000000 }
+    requires unspent { length ledger.old.entries ≤ ledger.old.budget }
+    ensures core { core.new ≡ core.old }
+    ensures runs { HasRuns phases.now core.old fixed.now (length conflict.now.rules * ((length unlisted.now + 1) + length unlisted.now)) ledger.old ledger.new }
+    ensures spent { IfOk result (λ o. is_none o ≡ is_spent ledger.new) }
+    ensures ways_out { (r : Request) (listed : List ℕ) → IsSetUp r phases.now core.old book.now fixed.now → IsConflictAmong r core.old conflict.now.rules conflict.now.log listed unlisted.now → IsFoundOn r (λ k. not (is_among listed k)) trail.now → IfOk result (λ o. IfSome o (λ s. AllZip (IsWayOut r core.old conflict.now.rules listed) conflict.now.rules s.items)) }
+{
+    let own = conflict.rules.held();
+    if own.len() == 1 {
+        return Ok(Some(lone_way_out(alloc, conflict, own[0], trail)?));
+    }
+    ways_out(
+        alloc, phases, core, ledger, book, fixed, conflict, own, unlisted, clauses,
+    )
+}
+
+/// The problem of a conflict, with its solutions. Nothing, where the ledger is spent.
+fn problem_with(
+    alloc: Global,
+    phases: &Phases,
+    core: &mut Core,
+    ledger: &mut Ledger,
+    book: &Book,
+    fixed: &[bool],
+    conflict: &Conflict,
+    unlisted: &[usize],
+    clauses: &[RuleNo],
+    trail: &Trail,
+) -> Result<Option<Problem>, AllocError>
+    requires set_up { (r : Request) × (IsSetUp r phases.now core.old book.now fixed.now × IsSettled r core.old conflict.now) }
+    requires droppable { list_all (is_off_in fixed.now) conflict.now.rules ≡ true }
+    requires apart { (k : ℕ) → is_among conflict.now.rules k ≡ true → is_among unlisted.now k ≡ false }
+    requires clauses { list_all (is_of_some core.old.owners unlisted.now) clauses.now ≡ true }
+    requires budget { ledger.old.budget ≤ 1000000 }
+    requires unspent { length ledger.old.entries ≤ ledger.old.budget }
+    ensures core { core.new ≡ core.old }
+    ensures runs { HasRuns phases.now core.old fixed.now (length conflict.now.rules * ((length unlisted.now + 1) + length unlisted.now)) ledger.old ledger.new }
+    ensures spent { IfOk result (λ o. is_none o ≡ is_spent ledger.new) }
+    ensures problem { (r : Request) (listed : List ℕ) → IsSetUp r phases.now core.old book.now fixed.now → IsConflictAmong r core.old conflict.now.rules conflict.now.log listed unlisted.now → IsFoundOn r (λ k. not (is_among listed k)) trail.now → IfOk result (λ o. IfSome o (IsProblemOf r core.old listed conflict.now)) }
+{
+    match each_way_out(
+        alloc, phases, core, ledger, book, fixed, conflict, unlisted, clauses, trail,
+    )? {
+        Some(solutions) => Ok(Some(Problem {
+            rules: Items::wrap(rules_of_log(alloc, book, &conflict.log)?),
+            log: copy_of(alloc, &conflict.log)?,
+            solutions: Items::wrap(solutions),
+        })),
+        None => Ok(None),
+    }
+}
+
+/// The problems of conflicts, with their solutions. Nothing, where the ledger is spent.
+fn problems_with(
+    alloc: Global,
+    phases: &Phases,
+    core: &mut Core,
+    ledger: &mut Ledger,
+    book: &Book,
+    fixed: &[bool],
+    conflicts: &[Conflict],
+    unlisted: &[usize],
+    clauses: &[RuleNo],
+    trail: &Trail,
+) -> Result<Option<Vec<Problem>>, AllocError>
+    requires set_up { (r : Request) × (IsSetUp r phases.now core.old book.now fixed.now × AreSettled r core.old conflicts.now) }
+    requires droppable { list_all (is_off_in fixed.now) (listed_of conflicts.now) ≡ true }
+    requires unlisted { (k : ℕ) → is_among unlisted.now k ≡ (is_off_in fixed.now k && not (is_among (listed_of conflicts.now) k)) }
+    requires clauses { list_all (is_of_some core.old.owners unlisted.now) clauses.now ≡ true }
+    requires budget { ledger.old.budget ≤ 1000000 }
+    requires unspent { length ledger.old.entries ≤ ledger.old.budget }
+    ensures core { core.new ≡ core.old }
+    ensures runs { HasRuns phases.now core.old fixed.now (length (listed_of conflicts.now) * ((length unlisted.now + 1) + length unlisted.now)) ledger.old ledger.new }
+    ensures spent { IfOk result (λ o. is_none o ≡ is_spent ledger.new) }
+    ensures problems { (r : Request) → IsSetUp r phases.now core.old book.now fixed.now → AreSettled r core.old conflicts.now → IsFoundOn r (λ k. not (is_among (listed_of conflicts.now) k)) trail.now → IfOk result (λ o. IfSome o (λ found. AllZip (IsProblemOf r core.old (listed_of conflicts.now)) conflicts.now found.items)) }
+{
+    let mut problems = Vec::new(alloc);
+    for conflict in conflicts {
+        match problem_with(
+            alloc, phases, core, ledger, book, fixed, conflict, unlisted, clauses, trail,
+        )? {
+            Some(problem) => problems.push(problem)?,
+            None => return Ok(None),
+        }
+    }
+    Ok(Some(problems))
+}
+
+/// What all conflicts give.
+fn remedies_of(
+    alloc: Global,
+    phases: &Phases,
+    core: &mut Core,
+    ledger: &mut Ledger,
+    book: &Book,
+    fixed: &[bool],
+    found: Collected,
+) -> Result<Remedies, AllocError>
+    requires set_up { (r : Request) × (IsSetUp r phases.now core.old book.now fixed.now × AreAll r core.old found) }
+    requires apart { AreApart fixed.now found.conflicts }
+    requires some { 0 < length found.conflicts }
+    requires budget { ledger.old.budget ≤ 1000000 }
+    requires unspent { length ledger.old.entries ≤ ledger.old.budget }
+    ensures core { core.new ≡ core.old }
+    ensures runs { HasRuns phases.now core.old fixed.now (droppable_count fixed.now * ((droppable_count fixed.now + 1) + droppable_count fixed.now)) ledger.old ledger.new }
+    ensures spent { IfOk result (λ m. is_spent_remedies m ≡ is_spent ledger.new) }
+    ensures listed { (r : Request) → IsSetUp r phases.now core.old book.now fixed.now → AreAll r core.old found → IfOk result (IsRemedies r core.old) }
+{
+    good_logs_refute_their_rules();
+    let conflicts = found.conflicts.held();
+    let unlisted = unlisted_rules(alloc, fixed, conflicts)?;
+    let clauses = clauses_of(alloc, book.owners(), fixed.len(), &unlisted)?;
+    match problems_with(
+        alloc,
+        phases,
+        core,
+        ledger,
+        book,
+        fixed,
+        conflicts,
+        &unlisted,
+        &clauses,
+        &found.trail,
+    )? {
+        Some(problems) => Ok(Remedies::Listed(Items::wrap(problems))),
+        None => Ok(Remedies::Spent),
+    }
+}
+
+/// What a first conflict gives.
+fn remedies_from(
+    alloc: Global,
+    phases: &Phases,
+    core: &mut Core,
+    ledger: &mut Ledger,
+    book: &Book,
+    fixed: &[bool],
+    first: Conflict,
+) -> Result<Remedies, AllocError>
+    requires set_up { (r : Request) × (IsSetUp r phases.now core.old book.now fixed.now × IsLogOf r core.old first.rules first.log) }
+    requires rules { IsRuleList fixed.now first.rules }
+    requires budget { ledger.old.budget ≤ 1000000 }
+    requires unspent { length ledger.old.entries ≤ ledger.old.budget }
+    ensures core { core.new ≡ core.old }
+    ensures runs { HasRuns phases.now core.old fixed.now (most_runs (droppable_count fixed.now)) ledger.old ledger.new }
+    ensures spent { IfOk result (λ m. is_spent_remedies m ≡ is_spent ledger.new) }
+    ensures listed { (r : Request) → IsSetUp r phases.now core.old book.now fixed.now → IsLogOf r core.old first.rules first.log → IfOk result (IsRemedies r core.old) }
+{
+    let start = singles(alloc, phases, core, book, fixed)?;
+    match all_conflicts(alloc, phases, core, ledger, book, fixed, start, first)? {
+        Some(found) => remedies_of(alloc, phases, core, ledger, book, fixed, found),
+        None => Ok(Remedies::Spent),
+    }
+}
+
+/// The problems of a task that no set meets, each with its solutions, where a first refutation is given; or that the ledger is spent.
+///
+/// With m rules that may be dropped the ledger gets 4 (m + 1) (m + 1) runs at most, each with every other rule on. After want of memory the core and the ledger
+/// hold what was learnt before, and it may be tried again.
+pub fn problems(
+    alloc: Global,
+    phases: &Phases,
+    book: &Book,
+    core: &mut Core,
+    first: Log,
+    ledger: &mut Ledger,
+) -> Result<Remedies, AllocError>
+    requires made { (r : Request) × IsMadeFor r phases.now core.old book.now }
+    requires good { is_good_log core.old.clauses first.steps ≡ true }
+    requires over { steps_over core.old.packages first.steps ≡ true }
+    requires leaves { list_all (λ n. nat_lt n (length core.old.clauses)) (leaves first.steps) ≡ true }
+    requires budget { ledger.old.budget ≤ 1000000 }
+    requires few { length ledger.old.entries ≤ ledger.old.budget + 1 }
+    ensures core { core.new ≡ core.old }
+    ensures runs { HasRuns phases.now core.old (map is_fixed_rule (read_rules book.now.rules)) (most_runs (droppable_rules (read_rules book.now.rules))) ledger.old ledger.new }
+    ensures spent { IfOk result (λ m. is_spent_remedies m ≡ is_spent ledger.new) }
+    ensures listed { (r : Request) → IsMadeFor r phases.now core.old book.now → IfOk result (IsRemedies r core.old) }
+{
+    good_logs_refute_their_rules();
+    if ledger.spent() {
+        return Ok(Remedies::Spent);
+    }
+    let fixed = fixed_rules(alloc, book.rules().list.held())?;
+    let conflict = conflict_of(alloc, book, &fixed, first)?;
+    remedies_from(alloc, phases, core, ledger, book, &fixed, conflict)
+}
