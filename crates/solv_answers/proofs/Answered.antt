@@ -20,7 +20,6 @@ use Rattle.solv_derive.specs.Logs.{is_good_log}
 use Rattle.solv_derive.specs.Range.{steps_over}
 use Rattle.solv_derive.specs.declared.logs.Log.{Log}
 use Rattle.solv_rules.specs.Books.{is_bookable, owners_from}
-use Rattle.solv_rules.specs.Making.{asks_singly, is_single}
 use Rattle.solv_trail.specs.Asked.{set_of}
 use Rattle.solv_core.specs.GoodTrails.{IsGoodTrail, facts_of}
 use Rattle.solv_core.specs.Ledgers.{IsGoodLedger}
@@ -35,7 +34,6 @@ use Rattle.solv_changes.specs.declared.kinds.Change.{Change}
 use Rattle.solv_trans.specs.Moving.{goes, is_part}
 use Rattle.solv_trans.specs.Edges.{edge, pre_edge}
 use Rattle.solv_trans.specs.Orders.{IsOrdered}
-use Rattle.solv_trans.specs.Readiness.{needs_singly}
 use Rattle.solv_trans.specs.declared.ordering.Ordered.{Ordered}
 use Rattle.solv_remedy.specs.Problems.{owning, meets_listed, GoodLogsRefuteTheirRules}
 use Rattle.solv_remedy.specs.declared.problems.Problem.{Problem}
@@ -91,13 +89,6 @@ module _ (task : Task) (trail : Trail) (agree : ClausesAgree task) (found : IsSo
       let K : List ℕ → Type 0 = λ s. IsTransaction task trail s put ordered in
       let M : List Change → Type 0 = λ m. IsTransaction task trail set m ordered in
       subst K (sym k) (subst M (sym p) (made_transaction made ordered (subst C l changed) (subst A l leaves) (subst O l2 in_order)))
-
--- what packages ask for singly, they need singly
-needs_of : (catalog : Catalog) (a : Package) → asks_singly catalog a ≡ true → needs_singly catalog a ≡ true
-needs_of catalog a h = (and_parts (list_all (λ (need : Need). is_single catalog need.dep) a.requires_) (list_all (is_single catalog) a.conflicts) h).0
-
-pub needs_single : (task : Task) → list_all (asks_singly (catalog_of task)) task.universe.packages ≡ true → list_all (needs_singly (catalog_of task)) task.universe.packages ≡ true
-needs_single task h = list_all_imp (asks_singly (catalog_of task)) (needs_singly (catalog_of task)) (needs_of (catalog_of task)) task.universe.packages h
 
 -- the problem of a refutation
 pub problem_made : (task : Task) (log : Log) (problem : Problem) (problems : List Problem) → GoodLogsRefuteTheirRules → list_all (is_bookable (catalog_of task)) (hard_rules task) ≡ true

@@ -13,7 +13,7 @@ use Rattle.solv_pool.specs.Propagation.{is_fact, unit, clashes}
 use Rattle.solv_pool.specs.RuleMeaning.{HardRule}
 use Rattle.solv_pool.specs.declared.tasks.Task.{Task}
 use Rattle.solv_rules.specs.Books.{is_bookable}
-use Rattle.solv_rules.specs.Making.{asks_singly}
+use Rattle.solv_rules.specs.Making.{asks_in_form}
 use Rattle.solv_trail.specs.Asked.{KeepsLaw, enabled_clauses, set_of}
 use Rattle.solv_trail.specs.Descends.{asked_pack}
 use Rattle.solv_trail.specs.Walk.{asserts, known_after, met_by_choices, walk, without_last}
@@ -70,13 +70,13 @@ module _ (task : Task) where
       first_clashes ledger.entries budget spent.spent (subst G spent.runs spent.good.entries)
 
   module _ (law : QuestionsKeepTheLaw) (names : ClausesNamePackages) (say : ClausesSayTheRule)
-      (singly : list_all (asks_singly (catalog_of task)) task.universe.packages ≡ true)
+      (formed : list_all (asks_in_form (catalog_of task)) task.universe.packages ≡ true)
       (bookable : list_all (is_bookable (catalog_of task)) (hard_rules task) ≡ true) where
     abbrev lawful : List HardRule → Type 0
     lawful rules = KeepsLaw (length task.universe.packages) (flat_map (rule_clauses (catalog_of task)) rules) (λ known. asked task known (all_enabled task))
 
     keeps_law : lawful (hard_rules task)
-    keeps_law = subst lawful (all_rules (hard_rules task)) (law (request task) (all_enabled task) singly)
+    keeps_law = subst lawful (all_rules (hard_rules task)) (law (request task) (all_enabled task) formed)
 
     -- the packages that are known in at the end of the choices
     abbrev chosen : ℕ → Bool

@@ -6,8 +6,7 @@ ghost use Rattle.solv_pool.specs.HardRules.{hard_rules};
 ghost use Rattle.solv_pool.specs.TaskBelonging.{IsClosed};
 ghost use Rattle.solv_prov.specs.Index.{IsIndexOf};
 ghost use Rattle.solv_rules.specs.Books.{is_bookable};
-ghost use Rattle.solv_rules.specs.Making.{asks_singly};
-ghost use Rattle.solv_plan.specs.PlanOf.{wants_singly};
+ghost use Rattle.solv_rules.specs.Making.{asks_in_form};
 ghost use Rattle.solv_decide.specs.Deciding.{IsSolution, IsRefuted};
 ghost use Rattle.solv_answers.specs.Answers.{ClausesAgree, IsPrepared, IsAnswer, IsTransactionUnlessChoicesClash, request, all_enabled, hard_clauses, hard_owners};
 
@@ -36,7 +35,7 @@ fn transaction_of(
     trail: Trail,
 ) -> Result<Answer, AllocError>
     requires closed { IsClosed task.now }
-    requires singly { list_all (asks_singly (catalog_of task.now)) task.now.universe.packages ≡ true }
+    requires formed { list_all (asks_in_form (catalog_of task.now)) task.now.universe.packages ≡ true }
     requires index { IsIndexOf prov.now (catalog_of task.now) }
     requires agree { ClausesAgree task.now }
     requires found { IsSolution (request task.now) (all_enabled task.now) trail }
@@ -80,8 +79,7 @@ pub fn answer(
     budget: u32,
 ) -> Result<Answer, AllocError>
     requires closed { IsClosed task.now }
-    requires singly { list_all (asks_singly (catalog_of task.now)) task.now.universe.packages ≡ true }
-    requires wants { list_all (wants_singly (catalog_of task.now)) task.now.universe.packages ≡ true }
+    requires formed { list_all (asks_in_form (catalog_of task.now)) task.now.universe.packages ≡ true }
     requires prepared { IsPrepared task.now prepared.now }
     requires budget { budget ≤ 1000000 }
     ensures good { IfOk result (IsAnswer task.now budget) }

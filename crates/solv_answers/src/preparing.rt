@@ -8,7 +8,7 @@ ghost use Rattle.solv_pool.specs.TaskBelonging.{IsClosed};
 ghost use Rattle.solv_prov.specs.Index.{IsIndexOf};
 ghost use Rattle.solv_jobs.specs.Marking.{HasMarks};
 ghost use Rattle.solv_rules.specs.Books.{AreBookable, IsDue, first_fault, read_rules};
-ghost use Rattle.solv_rules.specs.Making.{asks_singly};
+ghost use Rattle.solv_rules.specs.Making.{asks_in_form};
 ghost use Rattle.solv_answers.specs.Answers.{IsPrepared};
 
 use solv_jobs::read_marks;
@@ -29,7 +29,7 @@ pub struct Prepared {
 /// The index, the marks and the hard rules of a task.
 fn made(alloc: Global, task: &Task) -> Result<(Providers, Marks, Rules), AllocError>
     requires closed { IsClosed task.now }
-    requires singly { list_all (asks_singly (catalog_of task.now)) task.now.universe.packages ≡ true }
+    requires formed { list_all (asks_in_form (catalog_of task.now)) task.now.universe.packages ≡ true }
     ensures index { IfOk result (λ made. IsIndexOf made.0 (catalog_of task.now)) }
     ensures marks { IfOk result (λ made. made.1 ≡ marks_of task.now) }
     ensures each { IfOk result (λ made. HasMarks (length task.now.universe.packages) made.1) }
@@ -45,7 +45,7 @@ fn made(alloc: Global, task: &Task) -> Result<(Providers, Marks, Rules), AllocEr
 /// The index, the marks and the book of a task, or the first limit that its clauses pass.
 pub fn prepare(alloc: Global, task: &Task) -> Result<Prepared, BookFault>
     requires closed { IsClosed task.now }
-    requires singly { list_all (asks_singly (catalog_of task.now)) task.now.universe.packages ≡ true }
+    requires formed { list_all (asks_in_form (catalog_of task.now)) task.now.universe.packages ≡ true }
     ensures prepared { IfOk result (λ prepared. IsPrepared task.now prepared) }
     ensures fault { IfErr result (IsDue (first_fault (catalog_of task.now) 0 (all_rules task.now))) }
 {

@@ -1,8 +1,11 @@
 //! The answers to tasks, by their budgets.
+ghost use Rattle.std.specs.Prelude.{◌≡◌, true};
+ghost use Rattle.std.specs.List.{list_all};
+ghost use Rattle.solv_pool.specs.Catalog.{catalog_of};
 ghost use Rattle.solv_pool.specs.TaskBelonging.{IsClosed};
+ghost use Rattle.solv_rules.specs.Making.{asks_in_form};
 
 use crate::fixture::{are, read};
-use crate::singles::are_asking_singly;
 use solv_answers::{Answer, answer, prepare};
 use solv_core::Ledger;
 use solv_pool::Task;
@@ -84,9 +87,9 @@ fn is_wanted(answer: &Answer, wanted: Wanted) -> bool {
 /// The answer to a task. A book at its limits is told as want of memory, which fails a test.
 fn answered(rt: &impl Abort, alloc: Global, task: &Task, budget: u32) -> Result<Answer, AllocError>
     requires closed { IsClosed task.now }
+    requires formed { list_all (asks_in_form (catalog_of task.now)) task.now.universe.packages ≡ true }
 {
     assert!(rt; budget <= 1_000_000);
-    assert!(rt; are_asking_singly(task));
     let Ok(prepared) = prepare(alloc, task) else {
         return Err(AllocError);
     };

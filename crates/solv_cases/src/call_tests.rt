@@ -1,16 +1,12 @@
 //! Calls that no script reaches.
-ghost use Rattle.std.specs.Prelude.{◌≡◌, true, IfOk};
-ghost use Rattle.std.specs.List.{list_all};
-ghost use Rattle.solv_pool.specs.Catalog.{Catalog, catalog_of};
+ghost use Rattle.solv_pool.specs.Catalog.{catalog_of};
 ghost use Rattle.solv_prov.specs.Index.{IsIndexOf};
-ghost use Rattle.solv_rich.specs.Counts.{IsSingle};
-ghost use Rattle.solv_lines.specs.Fitting.{asks_singly};
 
 use crate::fixture::{Trial, are, trial_of};
-use solv_base::{DepId, DepNode};
+use solv_base::DepId;
 use solv_lines::{line_set, rule_text};
 use solv_list::{Bytes, Items, Text};
-use solv_pool::{Arch, JobNo, PackNo, RepoNo, Rule, Rules, SetNo, Task, Universe};
+use solv_pool::{Arch, JobNo, PackNo, RepoNo, Rule, Rules, SetNo, Universe};
 use solv_rich::clause_count;
 use solv_updates::feature;
 use std::alloc::{AllocError, Global};
@@ -26,9 +22,7 @@ job install name nosuch
 ";
 
 /// The rule of that job.
-fn rule_of_job(alloc: Global) -> Result<Rules, AllocError>
-    ensures { IfOk result (λ rules. (catalog : Catalog) → list_all (asks_singly catalog) rules.list ≡ true) }
-{
+fn rule_of_job(alloc: Global) -> Result<Rules, AllocError> {
     let list = vec![in alloc; Rule::Install(JobNo(0), SetNo(0))]?;
     let sets = vec![in alloc; Items::wrap(Vec::new(alloc))]?;
     Ok(Rules {
@@ -53,25 +47,12 @@ fn packages_and_rules_are_told(rt: HostRuntime) -> Result<(), Fail> {
     Ok(())
 }
 
-/// Whether a relation is a name alone.
-fn is_simple(task: &Task, dep: DepId) -> bool
-    ensures { result ≡ true → IsSingle (catalog_of task.now) dep }
-{
-    if dep.0 as usize >= task.pool.relation_count() {
-        return false;
-    }
-    match task.pool.dep(dep) {
-        DepNode::Simple(_) => true,
-        _ => false,
-    }
-}
-
 /// Whether a relation has one clause, and so many where it is not to hold.
 fn has_clauses(made: &Trial, dep: DepId, negated: u64) -> bool
     requires { IsIndexOf made.now.prov (catalog_of made.now.task) }
 {
     let (task, prov) = (&made.task, &made.prov);
-    if !is_simple(task, dep) {
+    if dep.0 as usize >= task.pool.relation_count() {
         return false;
     }
     task.pool.package_wise(dep)

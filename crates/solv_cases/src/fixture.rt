@@ -5,7 +5,7 @@ ghost use Rattle.solv_pool.specs.Catalog.{catalog_of};
 ghost use Rattle.solv_pool.specs.JobMarks.{marks_of};
 ghost use Rattle.solv_pool.specs.TaskBelonging.{IsClosed};
 ghost use Rattle.solv_prov.specs.Index.{IsIndexOf};
-ghost use Rattle.solv_tags.specs.EntryForms.{asks_for_singles};
+ghost use Rattle.solv_rules.specs.Making.{asks_in_form};
 ghost use Rattle.solv_jobs.specs.Marking.{HasMarks};
 
 use solv_io::AllFiles;
@@ -27,7 +27,7 @@ pub(crate) struct Trial {
 /// The task of a script. A script that is refused is told as want of memory, which fails a test.
 pub(crate) fn read(alloc: Global, text: &str) -> Result<Task, AllocError>
     ensures closed { IfOk result (λ task. IsClosed task) }
-    ensures singly { IfOk result (λ task. list_all (asks_for_singles (catalog_of task)) task.universe.packages ≡ true) }
+    ensures formed { IfOk result (λ task. list_all (asks_in_form (catalog_of task)) task.universe.packages ≡ true) }
 {
     let mut files = AllFiles {
         held: Items::wrap(Vec::new(alloc)),
@@ -48,7 +48,7 @@ fn task_of(script: Script) -> Task
 /// A script's task, with its index and marks.
 pub(crate) fn trial_of(alloc: Global, text: &str) -> Result<Trial, AllocError>
     ensures closed { IfOk result (λ made. IsClosed made.task) }
-    ensures singly { IfOk result (λ made. list_all (asks_for_singles (catalog_of made.task)) made.task.universe.packages ≡ true) }
+    ensures formed { IfOk result (λ made. list_all (asks_in_form (catalog_of made.task)) made.task.universe.packages ≡ true) }
     ensures index { IfOk result (λ made. IsIndexOf made.prov (catalog_of made.task)) }
     ensures marks { IfOk result (λ made. HasMarks (length made.task.universe.packages) made.marks) }
 {

@@ -23,6 +23,4 @@ mod run_tests;
 #[cfg(test)]
 mod script_tests;
 #[cfg(test)]
-mod singles;
-#[cfg(test)]
 mod switch_tests;

@@ -5,13 +5,11 @@ ghost use Rattle.solv_pool.specs.Catalog.{catalog_of};
 ghost use Rattle.solv_pool.specs.TaskBelonging.{IsClosed};
 ghost use Rattle.solv_prov.specs.Index.{IsIndexOf};
 ghost use Rattle.solv_jobs.specs.Marking.{HasMarks};
-ghost use Rattle.solv_rules.specs.Making.{asks_singly};
+ghost use Rattle.solv_rules.specs.Making.{asks_in_form};
 ghost use Rattle.solv_rules.specs.Books.{IsBook, first_fault, is_bookable, read_rules};
 ghost use Rattle.solv_questions.specs.Questions.{request_of, rules_of};
-ghost use Rattle.solv_plan.specs.PlanOf.{wants_singly};
 
 use crate::fixture::{Trial, are, trial_of};
-use crate::singles::are_asking_singly;
 use solv_core::{Core, Ledger, Verdict};
 use solv_decide::{Phases, set_of, solve};
 use solv_makers::hard_rules;
@@ -44,8 +42,7 @@ fn verdict_of(
     requires closed { IsClosed made.now.task }
     requires index { IsIndexOf made.now.prov (catalog_of made.now.task) }
     requires marks { HasMarks (length made.now.task.universe.packages) made.now.marks }
-    requires singly { list_all (asks_singly (catalog_of made.now.task)) made.now.task.universe.packages ≡ true }
-    requires wants { list_all (wants_singly (catalog_of made.now.task)) made.now.task.universe.packages ≡ true }
+    requires formed { list_all (asks_in_form (catalog_of made.now.task)) made.now.task.universe.packages ≡ true }
     requires book { IsBook (catalog_of made.now.task) book.now }
     requires rules { read_rules book.now.rules ≡ rules_of (request_of made.now.task made.now.marks) }
     requires bookable { list_all (is_bookable (catalog_of made.now.task)) (read_rules book.now.rules) ≡ true }
@@ -53,6 +50,7 @@ fn verdict_of(
     requires each { length enabled.now ≡ length book.now.rules.list }
 {
     clauses_name_packages();
+    made.task.pool.holds_each_once();
     let phases = Phases::new(alloc, &made.task, &made.prov, &made.marks, book)?;
     let mut core = core_of(alloc, &made.task, book)?;
     let mut ledger = Ledger::new(alloc, 100);
@@ -106,9 +104,9 @@ fn gives(
     requires closed { IsClosed made.now.task }
     requires index { IsIndexOf made.now.prov (catalog_of made.now.task) }
     requires marks { HasMarks (length made.now.task.universe.packages) made.now.marks }
+    requires formed { list_all (asks_in_form (catalog_of made.now.task)) made.now.task.universe.packages ≡ true }
 {
     let (task, prov, marks) = (&made.task, &made.prov, &made.marks);
-    assert!(rt; are_asking_singly(task));
     let rules = hard_rules(alloc, task, prov, marks)?;
     let Ok(book) = Book::make(alloc, task, prov, rules) else {
         return Err(AllocError);

@@ -1,8 +1,7 @@
 mod Reported
 mod Fetched
 mod Explaining
-mod Singles
+pub mod Forming
 mod CheckLines
 mod Said
-mod Bookable
 mod AnswerLines

@@ -9,7 +9,7 @@ ghost use Rattle.solv_lines.specs.LineSets.{line_set};
 
 use crate::checks::append_false;
 use solv_answers::{Answer, Prepared};
-use solv_lines::{Found, Outcome, result_lines, tested_rules_ask_singly, text_of};
+use solv_lines::{Found, Outcome, result_lines, text_of};
 use solv_list::Items;
 use solv_remedy::Problem;
 use solv_script::Script;
@@ -56,7 +56,6 @@ pub(crate) fn printed(
     requires prepared { IsPrepared script.now.task prepared.now }
     ensures { IfOk result (λ text. text.items ≡ printed script.now answer.now) }
 {
-    tested_rules_ask_singly();
     let outcome = outcome_of(alloc, answer)?;
     let (task, rules) = (&script.task, prepared.book.rules());
     let lines = result_lines(alloc, script.kinds, task, &prepared.prov, rules, &outcome)?;

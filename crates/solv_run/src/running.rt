@@ -4,7 +4,8 @@ ghost use Rattle.std.specs.List.{list_all};
 ghost use Rattle.solv_pool.specs.Catalog.{catalog_of};
 ghost use Rattle.solv_pool.specs.HardRules.{hard_rules};
 ghost use Rattle.solv_pool.specs.TaskBelonging.{IsClosed};
-ghost use Rattle.solv_tags.specs.EntryForms.{asks_for_singles};
+ghost use Rattle.solv_pool.specs.TaskForms.{HasForms};
+ghost use Rattle.solv_tags.specs.EntryForms.{conflicts_unconditionally};
 ghost use Rattle.solv_rules.specs.Books.{first_fault};
 ghost use Rattle.solv_answers.specs.Answers.{IsAnswer, IsPrepared};
 ghost use Rattle.solv_run.specs.Cases.{IsSaidFor};
@@ -81,7 +82,8 @@ fn say_answered<O: Sink, E: Sink>(
     err: &mut E,
 ) -> Result<Report, AllocError>
     requires closed { IsClosed script.now.task }
-    requires singly { list_all (asks_for_singles (catalog_of script.now.task)) script.now.task.universe.packages ≡ true }
+    requires forms { HasForms script.now.task }
+    requires unconditional { list_all (conflicts_unconditionally (catalog_of script.now.task)) script.now.task.universe.packages ≡ true }
     requires prepared { IsPrepared script.now.task prepared.now }
     ensures { IfOk result (λ report. IsSaidFor script.now report
         (record { before = O.written out.old; after = O.written out.new; faults_before = O.faults out.old; faults_after = O.faults out.new })
@@ -117,7 +119,8 @@ pub(crate) fn run_script<O: Sink, E: Sink>(
     err: &mut E,
 ) -> Result<Report, AllocError>
     requires closed { IsClosed script.now.task }
-    requires singly { list_all (asks_for_singles (catalog_of script.now.task)) script.now.task.universe.packages ≡ true }
+    requires forms { HasForms script.now.task }
+    requires unconditional { list_all (conflicts_unconditionally (catalog_of script.now.task)) script.now.task.universe.packages ≡ true }
     ensures { IfOk result (λ report. IsSaidFor script.now report
         (record { before = O.written out.old; after = O.written out.new; faults_before = O.faults out.old; faults_after = O.faults out.new })
         (record { before = E.written err.old; after = E.written err.new; faults_before = E.faults err.old; faults_after = E.faults err.new })) }

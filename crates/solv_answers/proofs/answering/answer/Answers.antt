@@ -23,17 +23,17 @@ returns-in-Spent-clause-good c =
 
 pub returns-in-Sat-clause-direct : goal.returns-in-Sat-clause-direct
 returns-in-Sat-clause-direct c =
-    solved_if c.args.task.now c.questions_keep_the_law.ensures c.clauses_name_packages.ensures c.clauses_say_the_rule.ensures c.requires.singly c.requires.prepared.bookable
+    solved_if c.args.task.now c.questions_keep_the_law.ensures c.clauses_name_packages.ensures c.clauses_say_the_rule.ensures c.requires.formed c.requires.prepared.bookable
     c.args.budget c.transaction_of.result (c.transaction_of.ensures c.args.budget)
 
 pub returns-in-Unsat-clause-direct : goal.returns-in-Unsat-clause-direct
 returns-in-Unsat-clause-direct c =
-    solved_if c.args.task.now c.questions_keep_the_law.ensures c.clauses_name_packages.ensures c.clauses_say_the_rule.ensures c.requires.singly c.requires.prepared.bookable
+    solved_if c.args.task.now c.questions_keep_the_law.ensures c.clauses_name_packages.ensures c.clauses_say_the_rule.ensures c.requires.formed c.requires.prepared.bookable
     c.args.budget c.problems_of.result (c.problems_of.ensures c.args.budget)
 
 pub returns-in-Spent-clause-direct : goal.returns-in-Spent-clause-direct
 returns-in-Spent-clause-direct c =
-    solved_if c.args.task.now c.questions_keep_the_law.ensures c.clauses_name_packages.ensures c.clauses_say_the_rule.ensures c.requires.singly c.requires.prepared.bookable
+    solved_if c.args.task.now c.questions_keep_the_law.ensures c.clauses_name_packages.ensures c.clauses_say_the_rule.ensures c.requires.formed c.requires.prepared.bookable
     c.args.budget (Ok (Spent c.in_ok-verdict.field-0.ledger))
     (spent_made c.args.task.now c.args.prepared.now c.args.budget c.in_ok-verdict.field-0.ledger c.requires.prepared c.in_ok-verdict.ensures.budget c.in_ok-verdict.ensures.run
     c.in_ok-verdict.ensures.good (sym c.in_ok-verdict.ensures.spent ∙ ap is_spent_verdict c.in-Spent.is))

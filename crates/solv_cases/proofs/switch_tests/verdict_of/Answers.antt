@@ -19,6 +19,6 @@ solve-requires-clause-asked c =
     let r : Request = request_of c.args.made.now.task c.args.made.now.marks in (
       r,
       asked_for r c.in_ok-phases.phases c.in_ok-core.core c.args.book.now.clauses c.args.book.now.owners rules
-          c.in_ok-phases.ensures c.in_ok-core.ensures c.requires.book.clauses c.requires.book.owners c.requires.rules c.requires.singly c.requires.wants
+          c.in_ok-phases.ensures c.in_ok-core.ensures c.requires.book.clauses c.requires.book.owners c.requires.rules c.requires.formed c.holds_each_once.ensures.operands_before
           (ap (are_over (length catalog.universe.packages)) c.requires.book.clauses ∙ clauses_over catalog c.clauses_name_packages.ensures rules c.requires.bookable),
     )

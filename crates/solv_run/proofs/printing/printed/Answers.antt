@@ -1,26 +1,12 @@
 use Rattle.std.proofs.Common.{◌≡◌, ◌++◌, List, ℕ, true, sym, ap, ◌∙◌, subst}
-use Rattle.std.specs.List.{list_all}
 use Rattle.solv_io.specs.Lines.{ended_lines}
-use Rattle.solv_pool.specs.Catalog.{catalog_of}
-use Rattle.solv_pool.specs.RuleMeaning.{HardRule}
-use Rattle.solv_pool.specs.declared.hard_rules.Rules.{Rules}
-use Rattle.solv_rules.specs.Books.{is_bookable}
-use Rattle.solv_lines.specs.Fitting.{asks_singly}
 use Rattle.solv_lines.specs.LineSets.{line_set}
 use Rattle.solv_lines.specs.ResultLines as lines
 use Rattle.solv_run.specs.Checks.{false_lines}
 use Rattle.solv_run.specs.Texts.{answer_lines}
-use Rattle.solv_run.proofs.Bookable.{rules_ask_singly}
 use Rattle.solv_run.proofs.CheckLines.{ended_join}
 use Rattle.solv_run.proofs.AnswerLines.{lines_alike}
 use Rattle.solv_run.proofs.printing.printed.Goals as goal
-
-pub result_lines-requires-clause-single : goal.result_lines-requires-clause-single
-result_lines-requires-clause-single c =
-    let catalog = catalog_of c.args.script.now.task in
-    let R : Rules → Type 0 = λ r. list_all (asks_singly catalog) r.list ≡ true in
-    let B : List HardRule → Type 0 = λ rules. list_all (is_bookable catalog) rules ≡ true in
-    subst R (sym c.rules-rules.ensures) (rules_ask_singly c.tested_rules_ask_singly.ensures catalog c.args.prepared.now.book.rules (subst B (sym c.requires.prepared.rules) c.requires.prepared.bookable))
 
 pub returns : goal.returns
 returns c =

@@ -1,5 +1,5 @@
-use Rattle.solv_run.proofs.Singles.{asks_single}
+use Rattle.solv_run.proofs.Forming.{asks_formed}
 use Rattle.solv_run.proofs.running.run_script.Goals as goal
 
-pub prepare-requires-clause-singly : goal.prepare-requires-clause-singly
-prepare-requires-clause-singly g c = asks_single c.args.script.now.task c.requires.closed c.requires.singly
+pub prepare-requires-clause-formed : goal.prepare-requires-clause-formed
+prepare-requires-clause-formed g c = asks_formed c.args.script.now.task c.requires.forms c.requires.unconditional

@@ -1,13 +1,10 @@
 use Rattle.solv_run.proofs.Reported.{ok_map}
 use Rattle.solv_run.proofs.Said.{said_answer}
-use Rattle.solv_run.proofs.Singles.{asks_single, wants_single}
+use Rattle.solv_run.proofs.Forming.{asks_formed}
 use Rattle.solv_run.proofs.running.say_answered.Goals as goal
 
-pub answer-requires-clause-singly : goal.answer-requires-clause-singly
-answer-requires-clause-singly g c = asks_single c.args.script.now.task c.requires.closed c.requires.singly
-
-pub answer-requires-clause-wants : goal.answer-requires-clause-wants
-answer-requires-clause-wants g c = wants_single c.args.script.now.task c.requires.closed c.requires.singly
+pub answer-requires-clause-formed : goal.answer-requires-clause-formed
+answer-requires-clause-formed g c = asks_formed c.args.script.now.task c.requires.forms c.requires.unconditional
 
 pub returns : goal.returns
 returns g c =

@@ -1,0 +1,9 @@
+# Of the operands of | the package that comes first serves.
+repo system 0 empty
+repo available 0 testtags <inline>
+#>=Pkg: P 1 1 noarch
+#>=Req: a | b
+#>=Pkg: b 1 1 noarch
+#>=Pkg: a 1 1 noarch
+system x86_64 rpm system
+job install name P

@@ -1,0 +1,10 @@
+# Where the condition does not hold, what stands behind <ELSE> is needed.
+repo system 0 empty
+repo available 0 testtags <inline>
+#>=Pkg: P 1 1 noarch
+#>=Req: a <IF> c <ELSE> b
+#>=Pkg: a 1 1 noarch
+#>=Pkg: b 1 1 noarch
+#>=Pkg: c 1 1 noarch
+system x86_64 rpm system
+job install name P

@@ -1,0 +1,9 @@
+# Nothing is there behind <ELSE>, so the condition is made to hold.
+repo system 0 empty
+repo available 0 testtags <inline>
+#>=Pkg: P 1 1 noarch
+#>=Req: a <IF> c <ELSE> b
+#>=Pkg: a 1 1 noarch
+#>=Pkg: c 1 1 noarch
+system x86_64 rpm system
+job install name P

@@ -1,0 +1,9 @@
+# Both operands of a recommendation with & are taken.
+repo system 0 empty
+repo available 0 testtags <inline>
+#>=Pkg: P 1 1 noarch
+#>=Rec: a & b
+#>=Pkg: a 1 1 noarch
+#>=Pkg: b 1 1 noarch
+system x86_64 rpm system
+job install name P

@@ -1,0 +1,9 @@
+# A package may stand in a dependency twice.
+repo system 0 empty
+repo available 0 testtags <inline>
+#>=Pkg: P 1 1 noarch
+#>=Req: a & (a | b) & a
+#>=Pkg: a 1 1 noarch
+#>=Pkg: b 1 1 noarch
+system x86_64 rpm system
+job install name P
