@@ -26,7 +26,6 @@ use std::alloc::{AllocError, Global};
 use std::marker::Model;
 
 /// The clause-learning core over clauses with their owners. Contracts see these and the number of packages.
-#[derive(Drop)]
 pub struct Core {
     packages: u32,
     book: RuleMem,
@@ -34,6 +33,19 @@ pub struct Core {
     watches: Watches,
     known: Known,
     search: Search,
+}
+
+impl Drop for Core {
+    fn drop(self) {
+        let Core {
+            packages: _,
+            book: _,
+            owners: _,
+            watches: _,
+            known: _,
+            search: _,
+        } = self;
+    }
 }
 
 impl Model for Core {

@@ -18,12 +18,22 @@ use solv_trail::{Known, lits_of};
 use std::alloc::{AllocError, Global};
 
 /// What a search has collected: the marked literals; the hints, the last first found; and of a learnt clause all literals but the first.
-#[derive(Drop)]
 pub struct Search {
     pub marked: Marked,
     pub hints: Vec<Hint>,
     pub clause: Vec<Lit>,
     pub lowest: usize,
+}
+
+impl Drop for Search {
+    fn drop(self) {
+        let Search {
+            marked: _,
+            hints: _,
+            clause: _,
+            lowest: _,
+        } = self;
+    }
 }
 
 /// The hint at a rule: the learnt ones stand behind those of the book, and are entries from this number on.

@@ -2,7 +2,6 @@
 use solv_list::Items;
 
 /// One entry per package number, the system's included, which is false and 0.
-#[derive(Drop)]
 pub struct Marks {
     /// Installed, and an update job selects it.
     pub update: Items<bool>,
@@ -16,4 +15,17 @@ pub struct Marks {
     pub erased: Items<bool>,
     /// 1 for a favoured package, -1 for a disfavoured one, 0 for all others.
     pub favour: Items<i8>,
+}
+
+impl Drop for Marks {
+    fn drop(self) {
+        let Marks {
+            update: _,
+            verify: _,
+            multiversion: _,
+            allow_uninstall: _,
+            erased: _,
+            favour: _,
+        } = self;
+    }
 }

@@ -35,13 +35,24 @@ pub enum UniverseFault {
 }
 
 /// Packages by their numbers, repositories by their places, and the system.
-#[derive(Drop)]
 pub struct Universe {
     packages: Vec<Package>,
     repos: Vec<Repo>,
     arch: Option<Arch>,
     installed: Option<RepoNo>,
     disabled: Vec<bool>,
+}
+
+impl Drop for Universe {
+    fn drop(self) {
+        let Universe {
+            packages: _,
+            repos: _,
+            arch: _,
+            installed: _,
+            disabled: _,
+        } = self;
+    }
 }
 
 impl Model for Universe {

@@ -23,7 +23,6 @@ const CHOSEN: u32 = u32::MAX;
 ///
 /// Contracts see the number of packages, the literals, the rule of each, the places of the choices, and what was asked at
 /// each choice.
-#[derive(Drop)]
 pub struct Known {
     count: u32,
     values: Vec<u8>,
@@ -33,6 +32,21 @@ pub struct Known {
     reasons: Vec<u32>,
     marks: Vec<u32>,
     questions: Vec<Question>,
+}
+
+impl Drop for Known {
+    fn drop(self) {
+        let Known {
+            count: _,
+            values: _,
+            ins: _,
+            places: _,
+            lits: _,
+            reasons: _,
+            marks: _,
+            questions: _,
+        } = self;
+    }
 }
 
 impl Model for Known {

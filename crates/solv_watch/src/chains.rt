@@ -11,18 +11,35 @@ pub const NOWHERE: u32 = u32::MAX;
 
 /// For each literal the first of the watches of one memory's rules that are at it, and for each rule the two literals that it
 /// watches. Where one watch leads to the next is a link of the memory.
-#[derive(Drop)]
 pub struct Chains {
     pub heads: Vec<u32>,
     pub watched: Vec<Lit>,
 }
 
+impl Drop for Chains {
+    fn drop(self) {
+        let Chains {
+            heads: _,
+            watched: _,
+        } = self;
+    }
+}
+
 /// The watches of a book and of learnt rules, and the numbers of the book's rules with fewer than two literals.
-#[derive(Drop)]
 pub struct Watches {
     pub book: Chains,
     pub learnt: Chains,
     pub narrow: Vec<u32>,
+}
+
+impl Drop for Watches {
+    fn drop(self) {
+        let Watches {
+            book: _,
+            learnt: _,
+            narrow: _,
+        } = self;
+    }
 }
 
 /// The other watch of the same rule.

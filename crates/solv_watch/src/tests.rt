@@ -158,7 +158,8 @@ fn one_package_is_taken(rt: HostRuntime) -> Result<(), Fail> {
 #[test]
 fn learnt_rules_are_hung_and_forgotten(rt: HostRuntime) -> Result<(), Fail> {
     let mut book = RuleMem::new(rt.alloc());
-    let mut chains = Watches::over(rt.alloc(), &mut book, 3)?.learnt;
+    let mut watches = Watches::over(rt.alloc(), &mut book, 3)?;
+    let chains = &mut watches.learnt;
     let mut learnt = RuleMem::new(rt.alloc());
     learnt.push(&[Lit::new(1), Lit::new(-2)])?;
     chains.watched.reserve(4)?;

@@ -15,10 +15,18 @@ use std::alloc::AllocError;
 const FEW: usize = 32;
 
 /// Finds packages by their texts. Its index is made when many texts were looked for, and kept until packages are added.
-#[derive(Drop)]
 pub(crate) struct Finder {
     pub(crate) index: Option<TextIndex>,
     pub(crate) looked: usize,
+}
+
+impl Drop for Finder {
+    fn drop(self) {
+        let Finder {
+            index: _,
+            looked: _,
+        } = self;
+    }
 }
 
 /// The number of a package. It takes as long as there are packages.

@@ -10,10 +10,18 @@ use solv_pool::{PackNo, Task};
 use std::alloc::{AllocError, Global};
 
 /// Texts, and for each the lowest number of a package that has it.
-#[derive(Drop)]
 pub(crate) struct TextIndex {
     pub(crate) texts: Pool,
     pub(crate) numbers: Vec<u32>,
+}
+
+impl Drop for TextIndex {
+    fn drop(self) {
+        let TextIndex {
+            texts: _,
+            numbers: _,
+        } = self;
+    }
 }
 
 /// Enters a text, and says whether it is new.
