@@ -7,7 +7,8 @@ ghost use Rattle.solv_rich.specs.Expansions.{IsExpansion, package_clauses};
 ghost use Rattle.solv_rich.specs.Singles.{without, rising};
 
 use crate::expansion::{Expansion, cross, join};
-use solv_base::{DepId, DepNode};
+use crate::operators::{Parts, parts_of};
+use solv_base::DepId;
 use solv_pool::{PackNo, Task};
 use solv_prov::Providers;
 use std::alloc::{AllocError, Global};
@@ -98,69 +99,27 @@ pub(crate) fn expand<'a>(
     requires held { dep < length task.now.pool.nodes }
     ensures { IfOk result (IsExpansion (clauses_of (catalog_of task.now) except.now positive (dependency (catalog_of task.now) dep))) }
 {
-    let wise = task.pool.package_wise(dep);
-    match task.pool.dep(dep) {
-        DepNode::Or(a, b) => {
-            if wise {
-                return Ok(leaf(task, prov, dep, positive, except));
-            }
-            let own = expand(alloc, task, prov, a, positive, except)?;
-            let other = expand(alloc, task, prov, b, positive, except)?;
-            if positive {
-                cross(alloc, own, other)
-            } else {
-                join(alloc, own, other)
-            }
-        }
-        DepNode::And(a, b) => {
+    match parts_of(task, dep, positive) {
+        Parts::Packages => Ok(leaf(task, prov, dep, positive, except)),
+        Parts::Joined(a, b) => {
             let left = expand(alloc, task, prov, a, positive, except)?;
             let right = expand(alloc, task, prov, b, positive, except)?;
-            if positive {
-                join(alloc, left, right)
-            } else {
-                cross(alloc, left, right)
-            }
+            join(alloc, left, right)
         }
-        DepNode::If(a, b) => {
-            if !positive {
-                return Ok(Expansion::Nothing);
-            }
-            let own = expand(alloc, task, prov, a, true, except)?;
-            let condition = expand(alloc, task, prov, b, false, except)?;
-            cross(alloc, own, condition)
+        Parts::Crossed(a, b, holds) => {
+            let own = expand(alloc, task, prov, a, positive, except)?;
+            let other = expand(alloc, task, prov, b, holds, except)?;
+            cross(alloc, own, other)
         }
-        DepNode::IfElse(a, b, c) => {
-            if !positive {
-                return Ok(Expansion::Nothing);
-            }
-            let own = expand(alloc, task, prov, a, true, except)?;
-            let refuted = expand(alloc, task, prov, b, false, except)?;
+        Parts::Chosen(a, b, c) => {
+            let own = expand(alloc, task, prov, a, positive, except)?;
+            let refuted = expand(alloc, task, prov, b, !positive, except)?;
             let first = cross(alloc, own, refuted)?;
-            let other = expand(alloc, task, prov, c, true, except)?;
-            let against = expand(alloc, task, prov, b, true, except)?;
+            let other = expand(alloc, task, prov, c, positive, except)?;
+            let against = expand(alloc, task, prov, b, positive, except)?;
             let second = cross(alloc, other, against)?;
             join(alloc, first, second)
         }
-        DepNode::Unless(a, b) => {
-            if positive {
-                return Ok(Expansion::Nothing);
-            }
-            let own = expand(alloc, task, prov, a, false, except)?;
-            let condition = expand(alloc, task, prov, b, true, except)?;
-            cross(alloc, own, condition)
-        }
-        DepNode::UnlessElse(a, b, c) => {
-            if positive {
-                return Ok(Expansion::Nothing);
-            }
-            let own = expand(alloc, task, prov, a, false, except)?;
-            let condition = expand(alloc, task, prov, b, true, except)?;
-            let front = cross(alloc, own, condition)?;
-            let other = expand(alloc, task, prov, c, false, except)?;
-            let against = expand(alloc, task, prov, b, false, except)?;
-            let back = cross(alloc, other, against)?;
-            join(alloc, front, back)
-        }
-        _ => Ok(leaf(task, prov, dep, positive, except)),
+        Parts::Nothing => Ok(Expansion::Nothing),
     }
 }

@@ -12,7 +12,10 @@
 //! The count comes first, so that a dependency with too many clauses is refused before any is made. A dependency that packages
 //! meet alone then goes straight from its list to literals (`singles`). Any other is an expansion: lists of packages, joined and
 //! crossed. Its clauses are made one at a time, each by its number: no product is ever formed, and one with an empty factor is
-//! never entered.
+//! never entered. Both the count and the expansion go by what `operators` says that the clauses of a relation are made of.
+//!
+//! Of the literals of a clause each is put once. In a short clause they are compared with each other, and in a longer one
+//! they are looked up in sets (`long_clauses`).
 #![tactic(auto)]
 
 mod appending;
@@ -21,6 +24,9 @@ mod counting;
 mod expanding;
 mod expansion;
 mod fault;
+mod literals;
+mod long_clauses;
+mod operators;
 mod relations;
 mod shortening;
 mod singles;

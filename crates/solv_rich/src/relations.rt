@@ -1,12 +1,13 @@
 //! How many clauses a relation of any form gives, before any of them is made.
 ghost use Rattle.std.specs.Prelude.{◌≡◌, ◌≤◌, ◌<◌, ◌+◌, ◌*◌, ℕ, length};
-ghost use Rattle.solv_pool.specs.Catalog.{Catalog, catalog_of, dependency};
+ghost use Rattle.solv_pool.specs.Catalog.{catalog_of, dependency};
 ghost use Rattle.solv_pool.specs.Clauses.{clause_count, count_package_wise};
 ghost use Rattle.solv_prov.specs.Index.{IsIndexOf};
 ghost use Rattle.solv_rich.specs.Counts.{saturated};
 
+use crate::operators::{Parts, parts_of};
 use crate::singles::count_of;
-use solv_base::{DepId, DepNode};
+use solv_base::DepId;
 use solv_pool::{PackNo, Task};
 use solv_prov::Providers;
 
@@ -66,65 +67,25 @@ pub(crate) fn count_relation(
     ensures exact { result ≡ saturated (clause_count (catalog_of task.now) except.now positive (dependency (catalog_of task.now) dep)) }
     ensures within { result ≤ 65537 }
 {
-    let wise = task.pool.package_wise(dep);
-    match task.pool.dep(dep) {
-        DepNode::Or(a, b) => {
-            if wise {
-                return leaf_count(task, prov, dep, positive, except);
-            }
+    match parts_of(task, dep, positive) {
+        Parts::Packages => leaf_count(task, prov, dep, positive, except),
+        Parts::Joined(a, b) => {
             let own = count_relation(task, prov, a, positive, except);
             let other = count_relation(task, prov, b, positive, except);
-            if positive {
-                product(own, other)
-            } else {
-                sum(own, other)
-            }
+            sum(own, other)
         }
-        DepNode::And(a, b) => {
+        Parts::Crossed(a, b, holds) => {
             let own = count_relation(task, prov, a, positive, except);
-            let other = count_relation(task, prov, b, positive, except);
-            if positive {
-                sum(own, other)
-            } else {
-                product(own, other)
-            }
+            let other = count_relation(task, prov, b, holds, except);
+            product(own, other)
         }
-        DepNode::If(a, b) => {
-            if !positive {
-                return 0;
-            }
-            let own = count_relation(task, prov, a, true, except);
-            let condition = count_relation(task, prov, b, false, except);
-            product(own, condition)
+        Parts::Chosen(a, b, c) => {
+            let own = count_relation(task, prov, a, positive, except);
+            let refuted = count_relation(task, prov, b, !positive, except);
+            let other = count_relation(task, prov, c, positive, except);
+            let against = count_relation(task, prov, b, positive, except);
+            sum(product(own, refuted), product(other, against))
         }
-        DepNode::IfElse(a, b, c) => {
-            if !positive {
-                return 0;
-            }
-            let own = count_relation(task, prov, a, true, except);
-            let condition = count_relation(task, prov, b, false, except);
-            let other = count_relation(task, prov, c, true, except);
-            let against = count_relation(task, prov, b, true, except);
-            sum(product(own, condition), product(other, against))
-        }
-        DepNode::Unless(a, b) => {
-            if positive {
-                return 0;
-            }
-            let own = count_relation(task, prov, a, false, except);
-            let condition = count_relation(task, prov, b, true, except);
-            product(own, condition)
-        }
-        DepNode::UnlessElse(a, b, c) => {
-            if positive {
-                return 0;
-            }
-            let own = count_relation(task, prov, a, false, except);
-            let condition = count_relation(task, prov, b, true, except);
-            let other = count_relation(task, prov, c, false, except);
-            let against = count_relation(task, prov, b, false, except);
-            sum(product(own, condition), product(other, against))
-        }
-        _ => leaf_count(task, prov, dep, positive, except),
+        Parts::Nothing => 0,
     }
 }

@@ -1,5 +1,5 @@
 //! Clauses without what is said of the system or twice.
-ghost use Rattle.std.specs.Prelude.{◌≡◌, ◌≤◌, ◌<◌, ◌∷◌, ◌++◌, [], ◌&&◌, ◌||◌, not, length, map, take, nat_lt, nat_le, OnOk, true};
+ghost use Rattle.std.specs.Prelude.{◌≡◌, ◌≤◌, ◌∷◌, ◌++◌, [], ◌&&◌, ◌||◌, not, length, map, take, nat_lt, IfOk, OnOk, true};
 ghost use Rattle.std.specs.List.{list_all};
 ghost use Rattle.solv_pool.specs.Clauses.{is_in, same_literal, negation as negation_of, contains_literal, is_always_true as is_true_always, number_of, kept, in_numbers};
 ghost use Rattle.solv_rich.specs.Counts.{HasAppended};
@@ -7,35 +7,14 @@ ghost use Rattle.solv_rich.specs.Expansions.{literal_of};
 ghost use Rattle.solv_rich.specs.Shortening.{package_of, has_number, each_first};
 
 use crate::expansion::Said;
+use crate::literals::{is_same, lit, negation, number_in};
+use crate::long_clauses;
 use solv_pack::Lit;
 use solv_pool::PackNo;
-use std::alloc::AllocError;
+use std::alloc::{AllocError, Global};
 
-/// Whether two literals are one.
-fn is_same(own: &Said, other: &Said) -> bool
-    ensures { result ≡ same_literal (literal_of own.now) (literal_of other.now) }
-{
-    match *own {
-        Said::In(pack) => match *other {
-            Said::In(another) => pack == another,
-            Said::Out(_) => false,
-        },
-        Said::Out(pack) => match *other {
-            Said::In(_) => false,
-            Said::Out(another) => pack == another,
-        },
-    }
-}
-
-/// The package is out instead of in, or in instead of out.
-fn negation(said: &Said) -> Said
-    ensures { literal_of result ≡ negation_of (literal_of said.now) }
-{
-    match *said {
-        Said::In(pack) => Said::Out(pack),
-        Said::Out(pack) => Said::In(pack),
-    }
-}
+/// The most literals of a clause in which each is compared with the others. Those of a longer one are looked up in sets.
+const SHORT: usize = 32;
 
 /// Whether a literal is among others.
 fn is_among(said: &[Said], wanted: &Said) -> bool
@@ -56,8 +35,8 @@ fn is_met(said: &[Said], each: &Said) -> bool
     is_same(&Said::In(PackNo(0)), each) || is_among(said, &negation(each))
 }
 
-/// Whether every set makes a clause true.
-fn is_always_true(said: &[Said]) -> bool
+/// Whether every set makes a short clause true.
+fn is_short_always_true(said: &[Said]) -> bool
     ensures { result ≡ is_true_always (map literal_of said.now) }
 {
     for each in said {
@@ -68,13 +47,14 @@ fn is_always_true(said: &[Said]) -> bool
     false
 }
 
-/// The number of the package of a literal.
-fn number_in(said: &Said) -> u32
-    ensures { result ≡ package_of (literal_of said.now) }
+/// Whether every set makes a clause true.
+fn is_always_true(alloc: Global, said: &[Said]) -> Result<bool, AllocError>
+    ensures { IfOk result (λ always. always ≡ is_true_always (map literal_of said.now)) }
 {
-    match *said {
-        Said::In(pack) => pack.0,
-        Said::Out(pack) => pack.0,
+    if said.len() > SHORT {
+        long_clauses::is_always_true(alloc, said)
+    } else {
+        Ok(is_short_always_true(said))
     }
 }
 
@@ -85,18 +65,6 @@ fn is_new(before: &[Said], each: &Said) -> bool
     number_in(each) > 0 && !is_among(before, each)
 }
 
-/// A literal of a package.
-fn lit(said: &Said) -> Lit
-    requires some { 0 < package_of (literal_of said.now) }
-    requires number { nat_le (package_of (literal_of said.now)) 1048575 ≡ true }
-    ensures { result ≡ number_of (literal_of said.now) }
-{
-    match *said {
-        Said::In(pack) => Lit::new(pack.0 as i32),
-        Said::Out(pack) => Lit::new(-(pack.0 as i32)),
-    }
-}
-
 /// The literals before a place.
 fn before(said: &[Said], place: usize) -> &[Said]
     requires { place ≤ length said.now }
@@ -105,8 +73,8 @@ fn before(said: &[Said], place: usize) -> &[Said]
     &said[..place]
 }
 
-/// Puts the literals of a clause behind others, but those of the system, and each once.
-fn put_firsts(said: &[Said], lits: &mut Vec<Lit>) -> Result<(), AllocError>
+/// Puts the literals of a short clause behind others, but those of the system, and each once.
+fn put_short_firsts(said: &[Said], lits: &mut Vec<Lit>) -> Result<(), AllocError>
     requires numbers { list_all has_number (map literal_of said.now) ≡ true }
     ensures appended { OnOk result (lits.new.items ≡ lits.old.items ++ map number_of (each_first [] (map literal_of said.now))) }
     ensures kept_literals { take (length lits.old.items) lits.new.items ≡ lits.old.items }
@@ -117,6 +85,19 @@ fn put_firsts(said: &[Said], lits: &mut Vec<Lit>) -> Result<(), AllocError>
         }
     }
     Ok(())
+}
+
+/// Puts the literals of a clause behind others, but those of the system, and each once.
+fn put_firsts(alloc: Global, said: &[Said], lits: &mut Vec<Lit>) -> Result<(), AllocError>
+    requires numbers { list_all has_number (map literal_of said.now) ≡ true }
+    ensures appended { OnOk result (lits.new.items ≡ lits.old.items ++ map number_of (each_first [] (map literal_of said.now))) }
+    ensures kept_literals { take (length lits.old.items) lits.new.items ≡ lits.old.items }
+{
+    if said.len() > SHORT {
+        long_clauses::put_firsts(alloc, said, lits)
+    } else {
+        put_short_firsts(said, lits)
+    }
 }
 
 /// Puts a clause behind others, if there is a set that does not make it true.
@@ -130,10 +111,11 @@ pub(crate) fn append_clause(
     ensures kept_literals { take (length lits.old.items) lits.new.items ≡ lits.old.items }
     ensures kept_ends { take (length ends.old.items) ends.new.items ≡ ends.old.items }
 {
-    if is_always_true(said) {
+    let alloc = *lits.allocator();
+    if is_always_true(alloc, said)? {
         return Ok(());
     }
-    put_firsts(said, lits)?;
+    put_firsts(alloc, said, lits)?;
     ends.push(lits.len())?;
     Ok(())
 }

@@ -10,4 +10,3 @@ pub mod FormWords
 pub mod Bookkeeping
 pub mod Bookable
 pub mod Rising
-pub mod Narrower

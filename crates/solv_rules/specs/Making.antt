@@ -1,7 +1,7 @@
 -- Rules that are put behind others, and what a task has to be for it.
 use Rattle.std.specs.Prelude.{ℕ, ◌≡◌, ◌<◌, ◌+◌, Bool, true, false, not, ◌&&◌, ◌||◌, ◌==◌, nat_lt, List, [], ◌++◌, length, map, filter, flat_map, Some, Result, OnOk}
 use Rattle.std.specs.List.{list_all}
-use Rattle.solv_base.specs.Dependency.{operators, package_wise}
+use Rattle.solv_base.specs.Dependency.{package_wise}
 use Rattle.solv_base.specs.Places.{fits_place, unconditional}
 use Rattle.solv_pool.specs.Belonging.{IsOver}
 use Rattle.solv_pool.specs.Catalog.{Catalog, catalog_of, dependency, installed_set, is_installed, members, packages}
@@ -23,14 +23,6 @@ pub record Puts {T E : Type 0} (made : List HardRule) (result : Result T E) (old
   pub behind : new ≡ old ++ more
   pub read : (sets : List (List ℕ)) → map (rule_with sets) more ++ rest ≡ made
   pub all : OnOk result (rest ≡ [])
-
--- the relation is simple, versioned or a namespace
-abbrev pub is_single : Catalog → ℕ → Bool
-is_single catalog d = package_wise (dependency catalog d) && operators (dependency catalog d) == 0
-
--- so are all requirements and conflicts of a package
-abbrev pub asks_singly : Catalog → Package → Bool
-asks_singly catalog a = list_all (λ need. is_single catalog need.dep) a.requires_ && list_all (is_single catalog) a.conflicts
 
 -- what a package requires has a form that may stand at a requirement; what it conflicts with has no condition
 abbrev pub asks_in_form : Catalog → Package → Bool

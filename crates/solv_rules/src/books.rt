@@ -27,12 +27,22 @@ pub fn package_rules_are_bookable()
 {}
 
 /// Rules, the clauses of all of them, the rule of each clause, and for each rule its first clause and their number.
-#[derive(Drop)]
 pub struct Book {
     rules: Rules,
     memory: RuleMem,
     owners: Vec<usize>,
     spans: Vec<(u32, u32)>,
+}
+
+impl Drop for Book {
+    fn drop(self) {
+        let Book {
+            rules: _,
+            memory: _,
+            owners: _,
+            spans: _,
+        } = self;
+    }
 }
 
 impl Model for Book {

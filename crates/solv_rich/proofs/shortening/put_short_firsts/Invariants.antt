@@ -3,7 +3,7 @@ use Rattle.std.specs.List.{list_all}
 use Rattle.solv_pool.specs.Clauses.{number_of}
 use Rattle.solv_rich.specs.Expansions.{literal_of}
 use Rattle.solv_rich.specs.Shortening.{has_number, each_first}
-use Rattle.solv_rich.proofs.shortening.put_firsts.Given as goal
+use Rattle.solv_rich.proofs.shortening.put_short_firsts.Given as goal
 
 abbrev pub invariant-loop-place : goal.invariant-loop-place
 invariant-loop-place l = record {
