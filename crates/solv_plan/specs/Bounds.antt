@@ -3,9 +3,11 @@ use Rattle.std.specs.Prelude.{ℕ, zero, suc, ◌+◌, ◌≡◌, ℤ, Bool, tru
 use Rattle.std.specs.List.{list_any}
 use Rattle.std.specs.Option.{option_map_or}
 use Rattle.solv_base.specs.declared.relation.DepNode.{DepNode}
-use Rattle.solv_base.specs.declared.relation.DepNode.TheVariants.{Simple, Versioned, Namespace, And, Or, With, Without, If, IfElse, Unless, UnlessElse}
 use Rattle.solv_trail.specs.Asked.{set_of}
 use Rattle.solv_plan.specs.Inside.{row_at}
+use Rattle.solv_plan.specs.declared.forms.Form.{Form}
+use Rattle.solv_plan.specs.declared.forms.Form.TheVariants.{Alone, Both, Either, Given, GivenElse, Except, ExceptElse}
+use Rattle.solv_plan.specs.Forms.{form_of}
 use Rattle.solv_plan.specs.Trees.{tree_holds}
 
 -- no package, and each
@@ -18,18 +20,17 @@ anything p = true
 -- low, high: what is in at least, and at most
 module _ (low high : ℕ → Bool) where
   -- whether a relation holds surely (true), or possibly (false), by its operands
+  abbrev pub form_bound : (Bool → ℕ → Bool) → Bool → List ℕ → Form → Bool
+  form_bound by at row Alone = list_any (if at then low else high) row
+  form_bound by at row (Both a b) = by at a && by at b
+  form_bound by at row (Either a b) = by at a || by at b
+  form_bound by at row (Given a b) = by at a || not (by (not at) b)
+  form_bound by at row (GivenElse a b c) = (not (by (not at) b) || by at a) && (by at b || by at c)
+  form_bound by at row (Except a b) = by at a && not (by (not at) b)
+  form_bound by at row (ExceptElse a b c) = (by at a && not (by (not at) b)) || (by at b && by at c)
+
   abbrev pub node_bound : (Bool → ℕ → Bool) → Bool → List ℕ → DepNode → Bool
-  node_bound by at row (Simple n) = list_any (if at then low else high) row
-  node_bound by at row (Versioned n c e) = list_any (if at then low else high) row
-  node_bound by at row (Namespace n) = list_any (if at then low else high) row
-  node_bound by at row (With a b) = list_any (if at then low else high) row
-  node_bound by at row (Without a b) = list_any (if at then low else high) row
-  node_bound by at row (And a b) = by at a && by at b
-  node_bound by at row (Or a b) = by at a || by at b
-  node_bound by at row (If a b) = by at a || not (by (not at) b)
-  node_bound by at row (IfElse a b c) = (not (by (not at) b) || by at a) && (by at b || by at c)
-  node_bound by at row (Unless a b) = by at a && not (by (not at) b)
-  node_bound by at row (UnlessElse a b c) = (by at a && not (by (not at) b)) || (by at b && by at c)
+  node_bound by at row node = form_bound by at row (form_of node)
 
   module _ (nodes : List DepNode) (rows : List (List ℕ)) where
     -- read to a depth

@@ -1,3 +1,4 @@
+pub mod Forms
 pub mod Inside
 pub mod Wanting
 pub mod Plans

@@ -10,6 +10,9 @@ use Rattle.solv_pool.specs.Catalog.{Catalog, packages, members, dependency}
 use Rattle.solv_pool.specs.Holding.{package_meets}
 use Rattle.solv_questions.specs.Questions.{is_outside}
 use Rattle.solv_plan.specs.Inside.{row_at, some_inside}
+use Rattle.solv_plan.specs.declared.forms.Form.{Form}
+use Rattle.solv_plan.specs.declared.forms.Form.TheVariants.{Alone, Both, Either, Given, GivenElse, Except, ExceptElse}
+use Rattle.solv_plan.specs.Forms.{form_of}
 
 -- the package is not known out
 abbrev pub is_possible : (ℤ → Bool) → ℕ → Bool
@@ -17,32 +20,30 @@ is_possible known p = not (is_outside known p)
 
 module _ (known : ℤ → Bool) where
   -- whether a relation holds, by what its operands do and by the packages that meet it alone
+  abbrev pub form_holds : (ℕ → Bool) → List ℕ → Form → Bool
+  form_holds at row Alone = some_inside known row
+  form_holds at row (Both a b) = at a && at b
+  form_holds at row (Either a b) = at a || at b
+  form_holds at row (Given a b) = at a || not (at b)
+  form_holds at row (GivenElse a b c) = (at b && at a) || (not (at b) && at c)
+  form_holds at row (Except a b) = at a && not (at b)
+  form_holds at row (ExceptElse a b c) = (at a && not (at b)) || (at b && at c)
+
   abbrev pub node_holds : (ℕ → Bool) → List ℕ → DepNode → Bool
-  node_holds at row (Simple n) = some_inside known row
-  node_holds at row (Versioned n c e) = some_inside known row
-  node_holds at row (Namespace n) = some_inside known row
-  node_holds at row (With a b) = some_inside known row
-  node_holds at row (Without a b) = some_inside known row
-  node_holds at row (And a b) = at a && at b
-  node_holds at row (Or a b) = at a || at b
-  node_holds at row (If a b) = at a || not (at b)
-  node_holds at row (IfElse a b c) = (at b && at a) || (not (at b) && at c)
-  node_holds at row (Unless a b) = at a && not (at b)
-  node_holds at row (UnlessElse a b c) = (at a && not (at b)) || (at b && at c)
+  node_holds at row node = form_holds at row (form_of node)
 
   -- the packages that may be taken for a relation that does not hold, by those of its operands
+  abbrev pub form_due : (ℕ → Bool) → (ℕ → List ℕ) → List ℕ → Form → List ℕ
+  form_due holds at row Alone = row
+  form_due holds at row (Both a b) = if holds a then at b else at a
+  form_due holds at row (Either a b) = at a ++ at b
+  form_due holds at row (Given a b) = at a
+  form_due holds at row (GivenElse a b c) = if holds b then at a else (if list_any (is_possible known) (at c) then at c else at b)
+  form_due holds at row (Except a b) = []
+  form_due holds at row (ExceptElse a b c) = []
+
   abbrev pub node_due : (ℕ → Bool) → (ℕ → List ℕ) → List ℕ → DepNode → List ℕ
-  node_due holds at row (Simple n) = row
-  node_due holds at row (Versioned n c e) = row
-  node_due holds at row (Namespace n) = row
-  node_due holds at row (With a b) = row
-  node_due holds at row (Without a b) = row
-  node_due holds at row (And a b) = if holds a then at b else at a
-  node_due holds at row (Or a b) = at a ++ at b
-  node_due holds at row (If a b) = at a
-  node_due holds at row (IfElse a b c) = if holds b then at a else (if list_any (is_possible known) (at c) then at c else at b)
-  node_due holds at row (Unless a b) = []
-  node_due holds at row (UnlessElse a b c) = []
+  node_due holds at row node = form_due holds at row (form_of node)
 
 -- the relations by their ids, and the packages that meet each alone
 module _ (nodes : List DepNode) (lists : List (List ℕ)) (known : ℤ → Bool) where

@@ -2,12 +2,15 @@
 ghost use Rattle.std.specs.Prelude.{◌≡◌, ◌+◌, ◌&&◌, ◌||◌, not, ℕ, Bool, true};
 ghost use Rattle.solv_pool.specs.Propagation.{is_fact};
 ghost use Rattle.solv_plan.specs.Entries.{is_rested, are_right};
-ghost use Rattle.solv_plan.specs.Settling.{Fits, is_sure, may_be};
+ghost use Rattle.solv_plan.specs.Bounds.{anything, form_bound, bound_within};
+ghost use Rattle.solv_plan.specs.Inside.{row_at};
+ghost use Rattle.solv_plan.specs.Settling.{Fits, stands, is_sure, may_be};
 
 use crate::bracing::may_hold;
+use crate::forms::{Form, form_of};
 use crate::plans::Relations;
 use crate::settled::Settled;
-use solv_base::{DepId, DepNode};
+use solv_base::DepId;
 use solv_trail::Known;
 
 /// Rests on what makes two relations hold, if it is in and there is room: whether it does.
@@ -114,6 +117,33 @@ fn rest_on_if_else(
     rest_on_either(known, relations, below, condition, last, settled)
 }
 
+/// On what makes a relation of this form hold, with its operands read to a depth.
+#[cycle(resting)]
+fn rest_by(
+    known: &Known,
+    relations: &Relations,
+    below: usize,
+    dep: DepId,
+    form: Form,
+    settled: &mut Settled,
+) -> bool
+    requires { Fits (is_fact known.now.lits) settled.old }
+    ensures right { (by : (ℕ → Bool) → ℕ → Bool) → are_right by settled.old ≡ true → are_right by settled.new ≡ true }
+    ensures still { (p : ℕ) → is_rested settled.old p ≡ true → is_rested settled.new p ≡ true }
+    ensures fits { Fits (is_fact known.now.lits) settled.new }
+    ensures settled { result ≡ true → form_bound (stands (is_rested settled.new)) anything (bound_within (stands (is_rested settled.new)) anything relations.now.nodes relations.now.rows below) true (row_at relations.now.rows dep) form ≡ true }
+{
+    match form {
+        Form::Both(a, b) => rest_on_both(known, relations, below, a, b, settled),
+        Form::Either(a, b) => rest_on_either(known, relations, below, a, b, settled),
+        Form::Given(a, b) => rest_on_if(known, relations, below, a, b, settled),
+        Form::GivenElse(a, b, c) => rest_on_if_else(known, relations, below, a, b, c, settled),
+        Form::Except(_, _) => false,
+        Form::ExceptElse(_, _, _) => false,
+        Form::Alone => settled.rest_on_one(known, relations.rows.row(dep)),
+    }
+}
+
 /// On what makes a relation, read to a depth, hold.
 #[cycle(resting)]
 fn rest_within(
@@ -132,23 +162,10 @@ fn rest_within(
     if depth == 0 {
         return false;
     }
-    let below = depth - 1;
     let Some(node) = relations.nodes.held().get(dep.0 as usize) else {
         return false;
     };
-    match *node {
-        DepNode::And(a, b) => rest_on_both(known, relations, below, a, b, settled),
-        DepNode::Or(a, b) => rest_on_either(known, relations, below, a, b, settled),
-        DepNode::If(a, b) => rest_on_if(known, relations, below, a, b, settled),
-        DepNode::IfElse(a, b, c) => rest_on_if_else(known, relations, below, a, b, c, settled),
-        DepNode::Unless(_, _) => false,
-        DepNode::UnlessElse(_, _, _) => false,
-        DepNode::Simple(_) => settled.rest_on_one(known, relations.rows.row(dep)),
-        DepNode::Versioned(_, _, _) => settled.rest_on_one(known, relations.rows.row(dep)),
-        DepNode::Namespace(_) => settled.rest_on_one(known, relations.rows.row(dep)),
-        DepNode::With(_, _) => settled.rest_on_one(known, relations.rows.row(dep)),
-        DepNode::Without(_, _) => settled.rest_on_one(known, relations.rows.row(dep)),
-    }
+    rest_by(known, relations, depth - 1, dep, form_of(node), settled)
 }
 
 /// Rests on what makes a dependency hold whatever else is in, if it is in and there is room: whether it does.

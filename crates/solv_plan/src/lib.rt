@@ -7,6 +7,7 @@
 mod asking;
 mod bracing;
 mod choosing;
+mod forms;
 mod holding;
 pub mod laws;
 mod memory;

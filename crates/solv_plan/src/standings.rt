@@ -11,7 +11,6 @@ use std::marker::Model;
 /// What decides of a package among candidates, whichever the others are: whether it stays, its favour, the priority of its
 /// repository, the rank of its architecture, whether it is installed, its name and EVR, and the packages of other names
 /// that obsolete it.
-#[derive(Drop)]
 pub struct Standing {
     pub stays: bool,
     pub favour: i8,
@@ -21,6 +20,21 @@ pub struct Standing {
     pub name: NameId,
     pub evr: Bytes,
     pub beaten_by: Items<PackNo>,
+}
+
+impl Drop for Standing {
+    fn drop(self) {
+        let Standing {
+            stays: _,
+            favour: _,
+            priority: _,
+            rank: _,
+            installed: _,
+            name: _,
+            evr: _,
+            beaten_by: _,
+        } = self;
+    }
 }
 
 /// That of a package of which nothing is kept.
@@ -40,11 +54,20 @@ fn unknown(alloc: Global) -> Standing
 }
 
 /// What is kept of packages, by their numbers. One of which nothing is kept has no more than a place. Contracts see the list.
-#[derive(Drop)]
 pub struct Standings {
     places: Vec<usize>,
     list: Vec<Standing>,
     none: Standing,
+}
+
+impl Drop for Standings {
+    fn drop(self) {
+        let Standings {
+            places: _,
+            list: _,
+            none: _,
+        } = self;
+    }
 }
 
 impl Model for Standings {

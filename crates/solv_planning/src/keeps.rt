@@ -10,7 +10,7 @@ ghost use Rattle.solv_pool.specs.RuleMeaning.{rule_with, update, feature, best_u
 ghost use Rattle.solv_pool.specs.TaskBelonging.{is_pack};
 ghost use Rattle.solv_pool.specs.Words.{when, is_among};
 ghost use Rattle.solv_rules.specs.Books.{read_rules};
-ghost use Rattle.solv_questions.specs.Questions.{Request, request_of, without_those, far_candidates};
+ghost use Rattle.solv_questions.specs.Questions.{Request, request_of, without_those, close_candidates, far_candidates};
 ghost use Rattle.solv_plan.specs.PlanOf.{numbered, keeps_of};
 ghost use Rattle.solv_jobs.specs.Marking.{HasMarks};
 ghost use Rattle.solv_updates.specs.Places.{IsPlace};
@@ -252,6 +252,32 @@ fn far_candidates(
     in_order(alloc, task, prov, marks, Asked::Kept(pack), &rest)
 }
 
+/// What may take a package's place, in the order in which they are tried: itself and its updates, and the rest of what might
+/// were every change allowed.
+#[derive(Drop)]
+struct Successors {
+    close: Items<PackNo>,
+    far: Items<PackNo>,
+}
+
+/// Those of a package.
+fn find_successors(
+    alloc: Global,
+    task: &Task,
+    prov: &Providers,
+    marks: &Marks,
+    pack: PackNo,
+) -> Result<Successors, AllocError>
+    requires ready { IsReady task.now prov.now marks.now }
+    requires pack { IsPlace task.now pack }
+    ensures { IfOk result (λ made. made ≡ record { close = close_candidates (catalog_of task.now) task.now.flags marks.now pack; far = far_candidates (catalog_of task.now) task.now.flags marks.now pack }) }
+{
+    let updates = update_candidates(alloc, task, prov, marks, pack)?;
+    let close = in_order(alloc, task, prov, marks, Asked::Kept(pack), &updates)?;
+    let far = far_candidates(alloc, task, prov, marks, pack, &updates)?;
+    Ok(Successors { close, far })
+}
+
 /// What is asked of a package with these rules on it.
 fn keep(
     alloc: Global,
@@ -265,17 +291,15 @@ fn keep(
     ensures { IfOk result (λ made. made ≡ keep_with (request_of task.now marks.now) row) }
 {
     let pack = row.pack;
-    let updates = update_candidates(alloc, task, prov, marks, pack)?;
-    let close = in_order(alloc, task, prov, marks, Asked::Kept(pack), &updates)?;
-    let far = far_candidates(alloc, task, prov, marks, pack, &updates)?;
+    let found = find_successors(alloc, task, prov, marks, pack)?;
     Ok(Keep {
         pack,
         best: row.best,
         is_asked: !marks.erased.held()[pack.0 as usize],
         updates: row.updates,
         features: row.features,
-        close,
-        far,
+        close: found.close,
+        far: found.far,
     })
 }
 
@@ -321,6 +345,29 @@ fn put_keep(
     }
 }
 
+/// What is asked of the installed packages among these, of each kind.
+fn installed_of(
+    alloc: Global,
+    task: &Task,
+    prov: &Providers,
+    marks: &Marks,
+    table: Vec<PackRules>,
+) -> Result<Installed, AllocError>
+    requires ready { IsReady task.now prov.now marks.now }
+    requires within { list_all (λ row. nat_le row.pack (length task.now.universe.packages)) table.items ≡ true }
+    ensures marked { IfOk result (λ made. made.marked ≡ map (keep_with (request_of task.now marks.now)) (filter (λ row. is_marked (request_of task.now marks.now) row.pack) table.items)) }
+    ensures others { IfOk result (λ made. made.others ≡ map (keep_with (request_of task.now marks.now)) (filter (λ row. is_other (request_of task.now marks.now) row.pack) table.items)) }
+{
+    let mut made = Installed {
+        marked: Items::wrap(Vec::new(alloc)),
+        others: Items::wrap(Vec::new(alloc)),
+    };
+    for row in table {
+        put_keep(alloc, task, prov, marks, row, &mut made)?;
+    }
+    Ok(made)
+}
+
 /// What is asked of the installed packages among these.
 fn keeps_of(
     alloc: Global,
@@ -333,13 +380,7 @@ fn keeps_of(
     requires within { list_all (λ row. nat_le row.pack (length task.now.universe.packages)) table.items ≡ true }
     ensures { IfOk result (λ made. made ≡ map (keep_with (request_of task.now marks.now)) (filter (λ row. is_marked (request_of task.now marks.now) row.pack) table.items) ++ map (keep_with (request_of task.now marks.now)) (filter (λ row. is_other (request_of task.now marks.now) row.pack) table.items)) }
 {
-    let mut made = Installed {
-        marked: Items::wrap(Vec::new(alloc)),
-        others: Items::wrap(Vec::new(alloc)),
-    };
-    for row in table {
-        put_keep(alloc, task, prov, marks, row, &mut made)?;
-    }
+    let made = installed_of(alloc, task, prov, marks, table)?;
     let Installed { mut marked, others } = made;
     append(others, &mut marked)?;
     Ok(marked)

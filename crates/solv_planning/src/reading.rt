@@ -1,7 +1,8 @@
 //! How dependencies are read: by their trees, or by the rows of their ids.
-ghost use Rattle.std.specs.Prelude.{◌≡◌, ◌<◌, length, map, IfOk};
+ghost use Rattle.std.specs.Prelude.{ℕ, ◌≡◌, ◌<◌, ◌||◌, not, length, map, IfOk};
+ghost use Rattle.solv_base.specs.Dependency.{Dep, tree_of_node, package_wise};
 ghost use Rattle.solv_pool.specs.Catalog.{Catalog, catalog_of};
-ghost use Rattle.solv_plan.specs.PlanOf.{is_by_tree, wanted_of};
+ghost use Rattle.solv_plan.specs.PlanOf.{is_by_row, is_by_tree, wanted_of};
 ghost use Rattle.solv_planning.specs.Reading.{trees_of};
 
 use solv_base::{DepId, DepNode};
@@ -10,20 +11,30 @@ use solv_plan::Wanted;
 use solv_pool::Task;
 use std::alloc::{AllocError, Global};
 
-/// Whether a relation is read by its tree.
-fn is_by_tree(task: &Task, dep: DepId) -> bool
-    requires { dep < length task.now.pool.nodes }
-    ensures { result ≡ is_by_tree (catalog_of task.now) dep }
+/// Whether a relation joins others by an operator that no single package need meet.
+fn is_joined(node: &DepNode) -> bool
+    ensures { (at : ℕ → Dep ℕ) → is_by_row (tree_of_node at node.now) ≡ (not result || package_wise (tree_of_node at node.now)) }
 {
-    match task.pool.dep(dep) {
+    match *node {
         DepNode::And(_, _) => true,
-        DepNode::Or(_, _) => !task.pool.package_wise(dep),
+        DepNode::Or(_, _) => true,
         DepNode::If(_, _) => true,
         DepNode::IfElse(_, _, _) => true,
         DepNode::Unless(_, _) => true,
         DepNode::UnlessElse(_, _, _) => true,
         _ => false,
     }
+}
+
+/// Whether a relation is read by its tree.
+fn is_by_tree(task: &Task, dep: DepId) -> bool
+    requires { dep < length task.now.pool.nodes }
+    ensures { result ≡ is_by_tree (catalog_of task.now) dep }
+{
+    if !is_joined(&task.pool.dep(dep)) {
+        return false;
+    }
+    !task.pool.package_wise(dep)
 }
 
 /// Of each relation, whether it is read by its tree.

@@ -1,6 +1,7 @@
 //! What decides among the packages of dependencies that are read by their trees.
 ghost use Rattle.std.specs.Prelude.{ℕ, List, ◌≡◌, ◌==◌, ◌<◌, ◌≤◌, ◌||◌, ◌&&◌, ◌∷◌, [], ◌++◌, Some, true, not, map, filter, length, if◌then◌else◌, IfOk, OnOk};
 ghost use Rattle.std.specs.List.{list_all};
+ghost use Rattle.solv_base.specs.Dependency.{operands};
 ghost use Rattle.solv_pool.specs.Belonging.{IsOver};
 ghost use Rattle.solv_pool.specs.Best.{evr_of};
 ghost use Rattle.solv_pool.specs.Catalog.{catalog_of, packages, same_name};
@@ -15,6 +16,7 @@ ghost use Rattle.solv_plan.specs.Choosing.{unkept};
 ghost use Rattle.solv_plan.specs.PlanOf.{is_by_tree, operands_at, relation_ids, is_ranked, standing_of, standings_of, rows_of};
 ghost use Rattle.solv_planning.specs.Readiness.{IsReady};
 ghost use Rattle.solv_planning.specs.Reading.{trees_of, stands_in};
+ghost use Rattle.solv_planning.specs.Operands.{listed};
 
 use crate::reading::is_tree;
 use solv_base::{DepId, DepNode};
@@ -65,25 +67,50 @@ fn put_three(rows: &Rows, first: DepId, second: DepId, third: DepId, set: &mut N
     put_row(rows.row(third), set);
 }
 
+/// The operands of a relation.
+#[derive(Clone, Copy)]
+pub(crate) enum Operands {
+    Nothing,
+    Two(DepId, DepId),
+    Three(DepId, DepId, DepId),
+}
+
+/// Those of a relation.
+fn operands_of(node: &DepNode) -> Operands
+    ensures { listed result ≡ operands node.now }
+{
+    match *node {
+        DepNode::And(a, b) => Operands::Two(a, b),
+        DepNode::Or(a, b) => Operands::Two(a, b),
+        DepNode::With(a, b) => Operands::Two(a, b),
+        DepNode::Without(a, b) => Operands::Two(a, b),
+        DepNode::If(a, b) => Operands::Two(a, b),
+        DepNode::Unless(a, b) => Operands::Two(a, b),
+        DepNode::IfElse(a, b, c) => Operands::Three(a, b, c),
+        DepNode::UnlessElse(a, b, c) => Operands::Three(a, b, c),
+        _ => Operands::Nothing,
+    }
+}
+
+/// Puts the packages of the rows of operands into a set that has room for them.
+fn put_listed(rows: &Rows, operands: Operands, set: &mut NumberSet)
+    ensures room { length set.new ≡ length set.old }
+    ensures put { (k : ℕ) → k < room set.old → has set.new k ≡ (stands_in rows.now k (listed operands) || has set.old k) }
+{
+    match operands {
+        Operands::Nothing => {}
+        Operands::Two(a, b) => put_two(rows, a, b, set),
+        Operands::Three(a, b, c) => put_three(rows, a, b, c, set),
+    }
+}
+
 /// Those of the operands of a relation.
 fn put_operands(task: &Task, rows: &Rows, dep: DepId, set: &mut NumberSet)
     requires { dep < length task.now.pool.nodes }
     ensures room { length set.new ≡ length set.old }
     ensures put { (k : ℕ) → k < room set.old → has set.new k ≡ (stands_in rows.now k (operands_at task.now.pool.nodes dep) || has set.old k) }
 {
-    match task.pool.dep(dep) {
-        DepNode::And(a, b) => put_two(rows, a, b, set),
-        DepNode::Or(a, b) => put_two(rows, a, b, set),
-        DepNode::With(a, b) => put_two(rows, a, b, set),
-        DepNode::Without(a, b) => put_two(rows, a, b, set),
-        DepNode::If(a, b) => put_two(rows, a, b, set),
-        DepNode::Unless(a, b) => put_two(rows, a, b, set),
-        DepNode::IfElse(a, b, c) => put_three(rows, a, b, c, set),
-        DepNode::UnlessElse(a, b, c) => put_three(rows, a, b, c, set),
-        DepNode::Simple(_) => {}
-        DepNode::Versioned(_, _, _) => {}
-        DepNode::Namespace(_) => {}
-    }
+    put_listed(rows, operands_of(&task.pool.dep(dep)), set);
 }
 
 /// Those of the operands of a relation, where it is read by its tree.
@@ -214,6 +241,26 @@ fn put_standing(
     made.push(standing(alloc, task, prov, marks, pack)?)
 }
 
+/// Puts those of all packages behind that of the system.
+fn put_standings(
+    alloc: Global,
+    task: &Task,
+    prov: &Providers,
+    marks: &Marks,
+    ranked: &NumberSet,
+    made: &mut Standings,
+) -> Result<(), AllocError>
+    requires ready { IsReady task.now prov.now marks.now }
+    requires ranked { (k : ℕ) → k ≤ length task.now.universe.packages → has ranked.now k ≡ is_ranked (catalog_of task.now) (rows_of (request_of task.now marks.now)) k }
+    requires begun { made.old ≡ unkept ∷ [] }
+    ensures { OnOk result (made.new ≡ standings_of (request_of task.now marks.now)) }
+{
+    for before in 0..task.universe.count() {
+        put_standing(alloc, task, prov, marks, ranked, PackNo(before + 1), made)?;
+    }
+    Ok(())
+}
+
 /// Those of all packages among which trees may have to choose.
 pub(crate) fn standings(
     alloc: Global,
@@ -231,9 +278,6 @@ pub(crate) fn standings(
     let ranked = ranked(alloc, task, rows, trees)?;
     let mut made = Standings::new(alloc);
     made.push_none()?;
-    for before in 0..task.universe.count() {
-        let pack = PackNo(before + 1);
-        put_standing(alloc, task, prov, marks, &ranked, pack, &mut made)?;
-    }
+    put_standings(alloc, task, prov, marks, &ranked, &mut made)?;
     Ok(made)
 }

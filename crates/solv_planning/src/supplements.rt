@@ -131,6 +131,34 @@ fn named(
     })
 }
 
+/// Puts the name of a package behind others, which these packages have, where there are such of them that may be taken for a
+/// supplement.
+fn put_candidates(
+    alloc: Global,
+    task: &Task,
+    prov: &Providers,
+    marks: &Marks,
+    trees: &[bool],
+    pack: PackNo,
+    packs: &[PackNo],
+    candidates: &[PackNo],
+    made: &mut Items<Named>,
+) -> Result<(), AllocError>
+    requires ready { IsReady task.now prov.now marks.now }
+    requires trees { trees.now ≡ trees_of (catalog_of task.now) }
+    requires pack { IsPlace task.now pack }
+    requires exact { packs.now ≡ filter (same_name (catalog_of task.now) pack) (packages (catalog_of task.now)) }
+    requires candidates { candidates.now ≡ filter (has_supplement (catalog_of task.now)) packs.now }
+    requires within { list_all (is_pack (length task.now.universe.packages)) candidates.now ≡ true }
+    ensures { OnOk result (made.new ≡ made.old ++ named_by (request_of task.now marks.now) pack) }
+{
+    if candidates.is_empty() {
+        return Ok(());
+    }
+    let sorted = in_order(alloc, task, prov, marks, Asked::Other, candidates)?;
+    made.push(named(alloc, task, trees, pack, packs, sorted.held())?)
+}
+
 /// Puts the name of a package behind others, which these packages have, where one of them has supplements.
 fn put_name(
     alloc: Global,
@@ -149,12 +177,8 @@ fn put_name(
     requires within { list_all (is_pack (length task.now.universe.packages)) packs.now ≡ true }
     ensures { OnOk result (made.new ≡ made.old ++ named_by (request_of task.now marks.now) pack) }
 {
-    let candidates = with_supplements(alloc, task, packs)?;
-    if candidates.as_slice().is_empty() {
-        return Ok(());
-    }
-    let sorted = in_order(alloc, task, prov, marks, Asked::Other, &candidates)?;
-    made.push(named(alloc, task, trees, pack, packs, sorted.held())?)
+    let list = with_supplements(alloc, task, packs)?;
+    put_candidates(alloc, task, prov, marks, trees, pack, packs, &list, made)
 }
 
 /// Whether a package is the first of these.

@@ -1,52 +1,15 @@
-use Rattle.std.proofs.Common.{◌≡◌, ◌<◌, ◌∙◌, ◌∷◌, [], ◌++◌, ℕ, List, length, map, sym, ap, subst, append-nil, arith}
-use Rattle.std.specs.Prelude.{filter}
+use Rattle.std.proofs.Common.{◌∙◌, length, ap}
 use Rattle.std.specs.List.{list_all}
-use Rattle.std.specs.Option.{option_map_or}
-use Rattle.std.proofs.lemmas.Bool.Decides.{nat_tests}
-use Rattle.std.proofs.lemmas.Result.{on_ok_weaker}
-use Rattle.solv_pool.specs.Catalog.{catalog_of, package_at}
+use Rattle.solv_pool.specs.Catalog.{catalog_of}
 use Rattle.solv_pool.specs.TaskBelonging.{is_pack}
-use Rattle.solv_pool.specs.declared.packages.Package.{Package}
-use Rattle.solv_policy.specs.Policy.{by_policy, policy_cmp}
-use Rattle.solv_policy.specs.declared.policy.Asked.TheVariants.{Other}
-use Rattle.solv_questions.specs.Questions.{request_of}
-use Rattle.solv_plan.specs.PlanOf.{named_by, supplement_of}
-use Rattle.solv_plan.specs.declared.plans.Named.{Named}
 use Rattle.solv_planning.specs.Names.{has_supplement}
-use Rattle.solv_planning.proofs.Lists.{all_filtered, none_left}
-use Rattle.solv_planning.proofs.First.{none_named, one_named, all_sorted}
+use Rattle.solv_planning.proofs.Lists.{all_filtered}
 use Rattle.solv_planning.proofs.supplements.put_name.Goals as goal
 
-pub returns-then-is_empty : goal.returns-then-is_empty
-returns-then-is_empty c =
-    let r = request_of c.args.task.now c.args.marks.now in
-    let xs : List ℕ = c.in_ok-candidates.candidates.items in
-    let empty = sym c.is_empty.ensures ∙ c.if-is_empty.true in
-    let long : length c.as_slice.result.now ≡ 0 = grind (arith, nat_tests, empty) in
-    let none : xs ≡ [] = none_left xs (ap (λ t. length t) (sym c.as_slice.ensures.value) ∙ long) in
-    sym (append-nil c.args.made.now) ∙ ap (λ t. c.args.made.now ++ t) (sym (none_named r c.args.pack xs none (c.in_ok-candidates.ensures ∙ ap (filter (has_supplement (catalog_of c.args.task.now))) c.requires.exact)))
+pub put_candidates-requires-clause-candidates : goal.put_candidates-requires-clause-candidates
+put_candidates-requires-clause-candidates c = c.deref.ensures.value ∙ c.in_ok-list.ensures
 
-pub in_order-requires-clause-within : goal.in_order-requires-clause-within
-in_order-requires-clause-within c =
-    ap (λ t. list_all (is_pack (length c.args.task.now.universe.packages)) t) (c.deref.ensures.value ∙ c.in_ok-candidates.ensures)
+pub put_candidates-requires-clause-within : goal.put_candidates-requires-clause-within
+put_candidates-requires-clause-within c =
+    ap (λ t. list_all (is_pack (length c.args.task.now.universe.packages)) t) (c.deref.ensures.value ∙ c.in_ok-list.ensures)
     ∙ all_filtered (is_pack (length c.args.task.now.universe.packages)) (has_supplement (catalog_of c.args.task.now)) c.args.packs.now c.requires.within
-
-pub named-requires-clause-within : goal.named-requires-clause-within
-named-requires-clause-within c =
-    ap (λ t. list_all (is_pack (length c.args.task.now.universe.packages)) t) (c.held.ensures ∙ c.in_ok-sorted.ensures)
-    ∙ all_sorted (is_pack (length c.args.task.now.universe.packages)) (policy_cmp (catalog_of c.args.task.now) c.args.marks.now Other c.deref.result.now) c.deref.result.now (ap (λ t. list_all (is_pack (length c.args.task.now.universe.packages)) t) (c.deref.ensures.value ∙ c.in_ok-candidates.ensures)
-    ∙ all_filtered (is_pack (length c.args.task.now.universe.packages)) (has_supplement (catalog_of c.args.task.now)) c.args.packs.now c.requires.within)
-
-pub returns : goal.returns
-returns c =
-    let r = request_of c.args.task.now c.args.marks.now in
-    let xs : List ℕ = c.in_ok-candidates.candidates.items in
-    let filled = sym c.is_empty.ensures ∙ c.if-is_empty.false in
-    let long : 0 < length c.as_slice.result.now = grind (arith, nat_tests, filled) in
-    let some : 0 < length xs = subst (λ (t : List ℕ). 0 < length t) c.as_slice.ensures.value long in
-    let sorted = c.held.ensures ∙ c.in_ok-sorted.ensures ∙ ap (by_policy (catalog_of c.args.task.now) c.args.marks.now Other) c.deref.ensures.value in
-    let make : List ℕ → List Named = λ t. option_map_or (λ (a : Package). record { name = a.name; packs = t; candidates = map (supplement_of r) c.held.result.now } ∷ []) (package_at (catalog_of c.args.task.now) c.args.pack) [] in
-    let own : make c.args.packs.now ≡ c.in_ok-named.field-0 ∷ [] = c.in_ok-named.ensures c.args.marks.now in
-    let one : named_by r c.args.pack ≡ c.in_ok-named.field-0 ∷ [] =
-    one_named r c.args.pack xs c.held.result.now c.in_ok-named.field-0 some (c.in_ok-candidates.ensures ∙ ap (filter (has_supplement (catalog_of c.args.task.now))) c.requires.exact) sorted (ap make (sym c.requires.exact) ∙ own) in
-    on_ok_weaker {P = c.push.new.self ≡ c.args.made.now ++ c.in_ok-named.field-0 ∷ []} c.push.result (λ e. e ∙ ap (λ t. c.args.made.now ++ t) (sym one)) c.push.ensures.ok

@@ -4,7 +4,7 @@ use Rattle.std.specs.List.{list_all}
 use Rattle.std.specs.Vec.Iter.{into_iter_items, into_iter_len}
 use Rattle.solv_questions.specs.Questions.{request_of}
 use Rattle.solv_planning.specs.Rows.{keep_with, is_marked, is_other}
-use Rattle.solv_planning.proofs.keeps.keeps_of.Given as goal
+use Rattle.solv_planning.proofs.keeps.installed_of.Given as goal
 
 abbrev pub invariant-loop-row : goal.invariant-loop-row
 invariant-loop-row l = record {
