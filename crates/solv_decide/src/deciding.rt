@@ -10,7 +10,7 @@ ghost use Rattle.solv_core.specs.Ledgers.{IsGoodLedger};
 ghost use Rattle.solv_core.specs.Running.{is_spent_verdict};
 ghost use Rattle.solv_rules.specs.Making.{asks_in_form};
 ghost use Rattle.solv_questions.specs.Questions.{asks, request_of, rules_of};
-ghost use Rattle.solv_decide.specs.Deciding.{IsDecided};
+ghost use Rattle.solv_decide.specs.Deciding.{IsAskedFor, IsDecided};
 
 use crate::phases::Phases;
 use crate::solving::solve;
@@ -21,11 +21,13 @@ use solv_prov::Providers;
 use solv_rules::Book;
 use std::alloc::{AllocError, Global};
 
-/// What a task is answered, and the ledger of the one run.
+/// What a task is answered, the ledger of the one run, and what made it: the questions and the core, which further runs may use.
 #[derive(Drop)]
 pub struct Decided {
     pub verdict: Verdict,
     pub ledger: Ledger,
+    pub phases: Phases,
+    pub core: Core,
 }
 
 /// As many rules, each enabled.
@@ -67,6 +69,9 @@ pub fn decide(
     requires fits { first_fault (catalog_of task.now) 0 (read_rules book.now.rules) ≡ None }
     requires budget { budget ≤ 1000000 }
     ensures budget { IfOk result (λ d. d.ledger.budget ≡ budget) }
+    ensures few { IfOk result (λ d. length d.ledger.entries ≤ d.ledger.budget + 1) }
+    ensures asked { IfOk result (λ d. IsAskedFor (request_of task.now marks.now) d.phases d.core) }
+    ensures core { IfOk result (λ d. d.core ≡ record { clauses = book.now.clauses; owners = book.now.owners; packages = length task.now.universe.packages }) }
     ensures run { IfOk result (λ d. d.ledger.runs ≡ (record { enabled = replicate (length book.now.rules.list) true; kept = [] }) ∷ []) }
     ensures good { IfOk result (λ d. IsGoodLedger book.now.clauses book.now.owners (length task.now.universe.packages) (asks (request_of task.now marks.now)) d.ledger) }
     ensures spent { IfOk result (λ d. is_spent_verdict d.verdict ≡ (length d.ledger.entries == budget + 1)) }
@@ -79,5 +84,10 @@ pub fn decide(
     let enabled = all_enabled(alloc, book.rules().list.len())?;
     let mut ledger = Ledger::new(alloc, budget);
     let verdict = solve(&phases, &mut core, &enabled, &mut ledger)?;
-    Ok(Decided { verdict, ledger })
+    Ok(Decided {
+        verdict,
+        ledger,
+        phases,
+        core,
+    })
 }

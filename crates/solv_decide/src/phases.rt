@@ -22,11 +22,20 @@ use std::alloc::{AllocError, Global};
 use std::marker::Model;
 
 /// The questions of a task in their order, over the rules of a book. Contracts see the plan of the questions, and the number of packages.
-#[derive(Drop)]
 pub struct Phases {
     alloc: Global,
     plan: Plan,
     packages: u32,
+}
+
+impl Drop for Phases {
+    fn drop(self) {
+        let Phases {
+            alloc: _,
+            plan: _,
+            packages: _,
+        } = self;
+    }
 }
 
 impl Model for Phases {

@@ -60,3 +60,18 @@ returns-clause-decided c =
     let D : List Bool → Type 0 = λ l. IsDecided r l c.in_ok-core.core c.in_ok-verdict.verdict in
     let K : CoreOf → Type 0 = λ k. IsDecided r on k c.in_ok-verdict.verdict in
     subst K c.in_ok-core.ensures (subst D same (c.in_ok-verdict.ensures.decided r asked))
+
+pub returns-clause-asked : goal.returns-clause-asked
+returns-clause-asked c =
+    let catalog : Catalog = catalog_of c.args.task.now in
+    let rules : List HardRule = read_rules c.args.book.now.rules in
+    let r : Request = request_of c.args.task.now c.args.marks.now in
+    let asked : IsAskedFor r c.in_ok-phases.phases c.in_ok-core.core =
+    asked_for r c.in_ok-phases.phases c.in_ok-core.core c.args.book.now.clauses c.args.book.now.owners rules
+    c.in_ok-phases.ensures c.in_ok-core.ensures c.requires.book.clauses c.requires.book.owners c.requires.rules c.requires.formed c.holds_each_once.ensures.operands_before
+    (ap (are_over (length catalog.universe.packages)) c.requires.book.clauses ∙ clauses_over catalog c.clauses_name_packages.ensures rules c.requires.bookable) in
+    let A : CoreOf → Type 0 = λ k. IsAskedFor r c.in_ok-phases.phases k in
+    subst A (sym c.solve.ensures.core) asked
+
+pub returns-clause-core : goal.returns-clause-core
+returns-clause-core c = c.solve.ensures.core ∙ c.in_ok-core.ensures
