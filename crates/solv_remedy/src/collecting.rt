@@ -13,7 +13,7 @@ ghost use Rattle.solv_remedy.specs.Conflicts.{droppable_count, listed_of, put_in
 use crate::conflicts::{are_unlisted, enabled_without, put};
 use crate::laws::good_logs_refute_their_rules;
 use crate::running::run_with;
-use crate::smallest::{Conflict, conflict_of, smallest};
+use crate::smallest::{Conflict, conflict_of, log_of, smallest};
 use solv_core::{Core, Ledger, Trail, Verdict};
 use solv_decide::Phases;
 use solv_list::Items;
@@ -30,10 +30,18 @@ pub enum Rest {
 }
 
 /// All conflicts, in the order of their first rules, and a trail over all rules but theirs.
-#[derive(Drop)]
 pub struct Collected {
     pub conflicts: Items<Conflict>,
     pub trail: Trail,
+}
+
+impl Drop for Collected {
+    fn drop(self) {
+        let Collected {
+            conflicts: _,
+            trail: _,
+        } = self;
+    }
 }
 
 /// A conflict with the steps of its log alone that the last one rests on.
@@ -47,7 +55,7 @@ fn with_log_trimmed(
     ensures settled { (r : Request) (asker : Asker) (core : CoreOf) → IsSetUp r asker core book.now fixed.now → IsSmallest r core conflict.rules conflict.log → IfOk result (IsSettledAmong r core conflict.rules) }
 {
     good_logs_refute_their_rules();
-    let log = trimmed(alloc, conflict.log)?;
+    let log = trimmed(alloc, log_of(alloc, conflict))?;
     let found = conflict_of(alloc, book, fixed, log)?;
     Ok(found)
 }

@@ -235,17 +235,17 @@ fn remedies_of(
     ledger: &mut Ledger,
     book: &Book,
     fixed: &[bool],
-    found: Collected,
+    found: &Collected,
 ) -> Result<Remedies, AllocError>
-    requires set_up { (r : Request) × (IsSetUp r phases.now core.old book.now fixed.now × AreAll r core.old found) }
-    requires apart { AreApart fixed.now found.conflicts }
-    requires some { 0 < length found.conflicts }
+    requires set_up { (r : Request) × (IsSetUp r phases.now core.old book.now fixed.now × AreAll r core.old found.now) }
+    requires apart { AreApart fixed.now found.now.conflicts }
+    requires some { 0 < length found.now.conflicts }
     requires budget { ledger.old.budget ≤ 1000000 }
     requires unspent { length ledger.old.entries ≤ ledger.old.budget }
     ensures core { core.new ≡ core.old }
     ensures runs { HasRuns phases.now core.old fixed.now (droppable_count fixed.now * ((droppable_count fixed.now + 1) + droppable_count fixed.now)) ledger.old ledger.new }
     ensures spent { IfOk result (λ m. is_spent_remedies m ≡ is_spent ledger.new) }
-    ensures listed { (r : Request) → IsSetUp r phases.now core.old book.now fixed.now → AreAll r core.old found → IfOk result (IsRemedies r core.old) }
+    ensures listed { (r : Request) → IsSetUp r phases.now core.old book.now fixed.now → AreAll r core.old found.now → IfOk result (IsRemedies r core.old) }
 {
     good_logs_refute_their_rules();
     let conflicts = found.conflicts.held();
@@ -289,14 +289,14 @@ fn remedies_from(
 {
     let start = singles(alloc, phases, core, book, fixed)?;
     match all_conflicts(alloc, phases, core, ledger, book, fixed, start, first)? {
-        Some(found) => remedies_of(alloc, phases, core, ledger, book, fixed, found),
+        Some(found) => remedies_of(alloc, phases, core, ledger, book, fixed, &found),
         None => Ok(Remedies::Spent),
     }
 }
 
 /// The problems of a task that no set meets, each with its solutions, where a first refutation is given; or that the ledger is spent.
 ///
-/// With m rules that may be dropped the ledger gets 4 (m + 1) (m + 1) runs at most, each with every other rule on. After want of memory the core and the ledger
+/// With m rules that may be dropped the ledger gets 4 (m + 1) (m + 1) runs at most, each with every rule on that may not be dropped. After want of memory the core and the ledger
 /// hold what was learnt before, and it may be tried again.
 pub fn problems(
     alloc: Global,

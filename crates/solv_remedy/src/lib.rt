@@ -4,10 +4,9 @@
 //!   that are dropped, the set that is then found, and for each dropped rule the derivation that it can't be given back.
 //! - [`finding::problems`]: from a first refutation all problems, each with a solution for each rule that may be dropped, within a
 //!   bounded number of runs; or that the ledger is spent.
-//! - [`problem_of`]: the problem that a refutation gives, with all rules that it rests on and no solutions.
 //!
 //! `specs/Remedies` says what good problems, good solutions and good lists are, `specs/Runs` what runs leave of a ledger,
-//! `specs/Problems` what a refutation gives. The others serve inner contracts: `specs/Trying`, `specs/Dropping` and
+//! `specs/Problems` which rules a derivation rests on. The others serve inner contracts: `specs/Trying`, `specs/Dropping` and
 //! `specs/GivingBack` say by tests on the numbers of rules which have a set and which have none, `specs/Conflicts` has conflicts
 //! beside each other, `specs/WaysOut` the way out of one.
 //!
@@ -33,5 +32,4 @@ mod singles;
 mod smallest;
 mod ways_out;
 
-pub use listing::problem_of;
 pub use problems::{Problem, Remedies, Solution};

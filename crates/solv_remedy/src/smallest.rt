@@ -22,10 +22,26 @@ use solv_rules::Book;
 use std::alloc::{AllocError, Global};
 
 /// Rules that may be dropped, ascending, and a log that they and the fixed rules have no set.
-#[derive(Drop)]
 pub struct Conflict {
     pub rules: Items<usize>,
     pub log: Log,
+}
+
+impl Drop for Conflict {
+    fn drop(self) {
+        let Conflict { rules: _, log: _ } = self;
+    }
+}
+
+/// The log of a conflict.
+pub fn log_of(alloc: Global, conflict: Conflict) -> Log
+    ensures { result ≡ conflict.log }
+{
+    let nothing = Log {
+        steps: Items::wrap(Vec::new(alloc)),
+    };
+    let mut conflict = conflict;
+    std::mem::replace(&mut conflict.log, nothing)
 }
 
 /// Whether the table says that a rule is not fixed.

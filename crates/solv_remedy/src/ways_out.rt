@@ -1,8 +1,12 @@
 //! The way out of a conflict by dropping one of its rules.
-ghost use Rattle.std.specs.Prelude.{◌≡◌, ◌≤◌, ◌+◌, ◌++◌, ◌∷◌, [], ℕ, List, true, false, not, length, map, filter, is_none, IfOk, OnOk};
+ghost use Rattle.std.specs.Prelude.{◌≡◌, ◌≤◌, ◌+◌, ◌++◌, ◌∷◌, [], ℕ, Bool, List, true, false, not, length, map, filter, is_none, IfOk, OnOk};
 ghost use Rattle.std.specs.List.{list_all};
 ghost use Rattle.std.specs.Option.{IfSome};
-ghost use Rattle.solv_remedy.specs.GivingBack.{kept_rules};
+ghost use Rattle.solv_remedy.specs.GivingBack.{kept_rules, IsGivenBack};
+ghost use Rattle.solv_rules.specs.Books.{Written};
+ghost use Rattle.solv_core.specs.Cores.{CoreOf};
+ghost use Rattle.solv_decide.specs.Deciding.{Asker};
+ghost use Rattle.solv_remedy.specs.declared.dropping.Remaining.{Remaining as Left};
 ghost use Rattle.solv_pool.specs.Words.{is_among};
 ghost use Rattle.solv_core.specs.declared.refuting.RefutedRule.{RefutedRule as Refuted};
 ghost use Rattle.solv_questions.specs.Questions.{Request};
@@ -191,6 +195,27 @@ fn without_refuted(
     Ok(left)
 }
 
+/// The way out that drops what can't be given back, what was refuted without a run, and a rule of the conflict.
+fn solution_of(
+    alloc: Global,
+    conflict: &Conflict,
+    off: usize,
+    given: GivenBack,
+    looked: Items<RefutedRule>,
+) -> Result<Solution, AllocError>
+    ensures { (r : Request) (asker : Asker) (core : CoreOf) (book : Written) (fixed : List Bool) (listed unlisted all : List ℕ) (remaining : Left) → IsSetUp r asker core book fixed → IsConflictAmong r core conflict.now.rules conflict.now.log listed unlisted → AreLookedAt r conflict.now.rules off core unlisted all looked → IsRemaining r conflict.now.rules off all remaining → IsGivenBack r conflict.now.rules off core remaining.left remaining.dropped given → IfOk result (IsWayOut r core conflict.now.rules listed off) }
+{
+    let GivenBack {
+        left: _,
+        kept,
+        trail,
+    } = given;
+    let log = copy_of(alloc, &conflict.log)?;
+    let refuted = all_refuted(kept.into_vec(), looked.into_vec(), off, log)?;
+    let solution = solution_with(alloc, &trail, refuted)?;
+    Ok(solution)
+}
+
 /// Gives back what was dropped, as far as it can be.
 fn finish(
     alloc: Global,
@@ -223,18 +248,8 @@ fn finish(
     match give_back(
         alloc, phases, core, ledger, book, fixed, own, off, &dropped, left, trail,
     )? {
+        Some(given) => Ok(Some(solution_of(alloc, conflict, off, given, looked)?)),
         None => Ok(None),
-        Some(
-            GivenBack {
-                left: _,
-                kept,
-                trail,
-            },
-        ) => {
-            let log = copy_of(alloc, &conflict.log)?;
-            let refuted = all_refuted(kept.into_vec(), looked.into_vec(), off, log)?;
-            Ok(Some(solution_with(alloc, &trail, refuted)?))
-        }
     }
 }
 

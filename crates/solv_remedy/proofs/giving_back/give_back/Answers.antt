@@ -10,7 +10,7 @@ use Rattle.solv_remedy.specs.Trying.{IsSetUp}
 use Rattle.solv_remedy.specs.declared.giving_back.Try.{Try}
 use Rattle.solv_core.specs.declared.refuting.RefutedRule.{RefutedRule}
 use Rattle.solv_remedy.specs.Runs.{HasRuns}
-use Rattle.solv_remedy.proofs.Ledgers.{runs_more, runs_then, unspent_by}
+use Rattle.solv_remedy.proofs.Ledgers.{runs_more, runs_then, runs_within, unspent_by}
 use Rattle.solv_remedy.proofs.Back.{kept_wider, kept_more, given_same, kept_same, among_front, rules_more, front, given_back}
 use Rattle.solv_remedy.proofs.giving_back.give_back.Goals as goal
 use Rattle.solv_remedy.proofs.giving_back.give_back.Goals.{in-Given, in-Kept+in_ok-push-in-Kept, Joined-branch-3}
@@ -121,3 +121,17 @@ returns-in-Spent-clause-runs c =
     let inv = c.loop-rule.invariant in
     let less : c.loop-rule.rule-index < length c.args.dropped.now = search rules in
     runs_then c.args.phases.now c.args.fixed.now c.args.core.now c.loop-rule.core inv.core c.loop-rule.rule-index 1 (length c.args.dropped.now) (omega (arith, less)) c.args.ledger.now c.loop-rule.ledger c.try_over.new.ledger inv.runs c.try_over.ensures.runs
+
+pub returns-in_err-more-clause-runs : goal.returns-in_err-more-clause-runs
+returns-in_err-more-clause-runs c =
+    runs_within c.args.phases.now c.args.core.now c.args.fixed.now c.loop-rule.rule-index (length c.args.dropped.now) c.args.ledger.now c.loop-rule.ledger c.loop-rule.auto.rule-index-end c.loop-rule.invariant.runs
+
+pub returns-in_err-better-clause-runs : goal.returns-in_err-better-clause-runs
+returns-in_err-better-clause-runs c =
+    let inv = c.loop-rule.invariant in
+    let less : c.loop-rule.rule-index < length c.args.dropped.now = search rules in
+    runs_then c.args.phases.now c.args.fixed.now c.args.core.now c.loop-rule.core inv.core c.loop-rule.rule-index 1 (length c.args.dropped.now) (omega (arith, less)) c.args.ledger.now c.loop-rule.ledger c.try_over.new.ledger inv.runs c.try_over.ensures.runs
+
+pub returns-clause-runs : goal.returns-clause-runs
+returns-clause-runs c =
+    runs_within c.args.phases.now c.args.core.now c.args.fixed.now c.loop-rule.rule-index (length c.args.dropped.now) c.args.ledger.now c.loop-rule.ledger c.loop-rule.auto.rule-index-end c.loop-rule.invariant.runs
