@@ -1,8 +1,11 @@
-# Jobs that no set of packages meets.
-repo system 0 empty
+# Jobs that no set of packages meets, for two reasons.
+repo system 0 testtags <inline>
+#>=Pkg: libvim 9.1 1.fc39 x86_64
+#>=Pkg: vim 9.1 1.fc39 x86_64
+#>=Req: libvim
 repo fedora 0 testtags <inline>
-#>=Pkg: git 2.41.0 2.fc39 x86_64
-#>=Req: git-core = 2.41.0-2.fc39
-#>=Pkg: git-core 2.40.0 1.fc39 x86_64
+#>=Pkg: nano 7.2 1.fc39 x86_64
 system x86_64 rpm system
-job install name git
+job install name nosuch
+job install name nano
+job erase name libvim

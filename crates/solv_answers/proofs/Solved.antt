@@ -1,5 +1,5 @@
 -- Where the choices of a task's questions meet no conflict, the answer is a transaction.
-use Rattle.std.proofs.Common.{◌≡◌, ◌+◌, ℕ, zero, suc, Bool, true, false, ◌&&◌, List, [], ◌∷◌, ◌++◌, Option, Some, refl, sym, ap, ◌∙◌, subst, arith}
+use Rattle.std.proofs.Common.{◌≡◌, ◌+◌, ℕ, zero, suc, Bool, true, false, ◌&&◌, List, [], ◌∷◌, ◌++◌, Option, Some, None, refl, sym, ap, ◌∙◌, subst, arith}
 use Rattle.std.specs.Prelude.{ℤ, pos, map, flat_map, length, slice_get, unwrap_or, nat_lt, Result, Ok, Err, IfOk}
 use Rattle.std.specs.List.{list_all}
 use Rattle.std.specs.declared.alloc.AllocError.{AllocError}
@@ -24,7 +24,7 @@ use Rattle.solv_core.specs.declared.ledger.Run.{Run}
 use Rattle.solv_questions.specs.Law.{QuestionsKeepTheLaw}
 use Rattle.solv_decide.proofs.Enabling.{clauses_are}
 use Rattle.solv_decide.proofs.Whole.{clauses_over}
-use Rattle.solv_answers.specs.Answers.{request, all_enabled, hard_clauses, hard_owners, asked, meets_hard_rules, choices, choices_clash, IsTransactionUnlessChoicesClash, whole_run, IsSpent, IsAnswer}
+use Rattle.solv_answers.specs.Answers.{request, all_enabled, hard_clauses, hard_owners, asked, meets_hard_rules, choices, choices_clash, IsTransactionUnlessChoicesClash, whole_run, AreRuns, IsSpent, IsAnswer}
 use Rattle.solv_answers.specs.declared.answers.Answer.{Answer}
 use Rattle.solv_answers.specs.declared.answers.Answer.TheVariants as answer
 use Rattle.solv_answers.proofs.Enabled.{all_rules}
@@ -64,10 +64,10 @@ module _ (task : Task) where
       (and_parts (nat_lt 0 (length taken)) (clashes (hard_clauses task) (known taken))
       (and_parts (nat_lt 0 (length taken) && clashes (hard_clauses task) (known taken)) (asserts (known (without_last taken)) e.clause) over).0).1
 
-  spent_clashes : (budget : ℕ) (ledger : Ledger) → IsSpent task budget ledger → choices_clash task ≡ true
-  spent_clashes budget ledger spent =
+  spent_clashes : (budget : ℕ) (ledger : Ledger) → IsSpent task budget ledger → ledger.runs ≡ whole_run task ∷ [] → choices_clash task ≡ true
+  spent_clashes budget ledger spent one =
       let G : List Run → Type 0 = λ runs. AreGoodEntries (hard_clauses task) (hard_owners task) (length task.universe.packages) (asked task) runs [] ledger.entries in
-      first_clashes ledger.entries budget spent.spent (subst G spent.runs spent.good.entries)
+      first_clashes ledger.entries budget spent.spent (subst G one spent.good.entries)
 
   module _ (law : QuestionsKeepTheLaw) (names : ClausesNamePackages) (say : ClausesSayTheRule)
       (formed : list_all (asks_in_form (catalog_of task)) task.universe.packages ≡ true)
@@ -88,11 +88,20 @@ module _ (task : Task) where
         sym (bookable_agree task say bookable chosen refl)
         ∙ walk_meets (length task.universe.packages) (hard_clauses task) (λ known. asked task known (all_enabled task)) (clauses_over (catalog_of task) names (hard_rules task) bookable) keeps_law calm
 
-    -- so neither problems nor a spent budget can be said where the choices do not clash
+    -- so there is one run alone
+    one_alone : choices_clash task ≡ false → (runs : List Run) → AreRuns task runs → runs ≡ whole_run task ∷ []
+    one_alone calm [] are = absurd (no_first are.first)
+      where
+        no_first : None ≡ Some (whole_run task) → ⊥
+        no_first e = cc
+    one_alone calm (r ∷ []) are = ap (λ o. unwrap_or o r ∷ []) are.first
+    one_alone calm (r ∷ s ∷ runs) are = absurd (are.later (omega arith) chosen refl (chosen_meet calm))
+
+    -- and neither problems nor a spent budget can be said where the choices do not clash
     solved : (budget : ℕ) (a : Answer) → IsAnswer task budget a → IsTransactionUnlessChoicesClash task a
     solved budget (answer.Transaction trail set made ordered) is calm = refl
     solved budget (answer.Problems problems) is calm = absurd (is.none chosen refl (chosen_meet calm))
-    solved budget (answer.Spent ledger) is calm = absurd (false≢true (sym calm ∙ spent_clashes budget ledger is))
+    solved budget (answer.Spent ledger) is calm = absurd (false≢true (sym calm ∙ spent_clashes budget ledger is (one_alone calm ledger.runs is.runs)))
 
     pub solved_if : (budget : ℕ) (o : Result Answer AllocError) → IfOk o (IsAnswer task budget) → IfOk o (IsTransactionUnlessChoicesClash task)
     solved_if budget (Ok a) is = solved budget a is

@@ -1,5 +1,5 @@
 -- What the answers to a task are.
-use Rattle.std.specs.Prelude.{◌≡◌, ◌+◌, ℕ, ℤ, pos, Bool, true, false, List, [], ◌∷◌, Option, None, map, flat_map, length, replicate}
+use Rattle.std.specs.Prelude.{◌≡◌, ◌+◌, ◌<◌, ◌≤◌, ℕ, ℤ, pos, Bool, true, false, List, [], Option, Some, None, map, flat_map, length, replicate, slice_get}
 use Rattle.std.specs.List.{list_all}
 use Rattle.solv_pool.specs.Catalog.{catalog_of}
 use Rattle.solv_pool.specs.Clauses.{rule_clauses, clause_true}
@@ -13,21 +13,25 @@ use Rattle.solv_pool.specs.declared.tasks.Task.{Task}
 use Rattle.solv_prov.specs.Index.{IsIndexOf}
 use Rattle.solv_jobs.specs.Marking.{HasMarks}
 use Rattle.solv_rules.specs.Books.{IsBook, first_fault, is_bookable, owners_from, read_rules}
+use Rattle.solv_trail.specs.Asked.{is_enabled}
 use Rattle.solv_trail.specs.Descends.{asked_pack}
 use Rattle.solv_trail.specs.Walk.{walk}
 use Rattle.solv_trail.specs.declared.questions.Ask.{Ask}
+use Rattle.solv_core.specs.Cores.{CoreOf}
 use Rattle.solv_core.specs.GoodTrails.{IsGoodTrail}
 use Rattle.solv_core.specs.Ledgers.{IsGoodLedger}
 use Rattle.solv_core.specs.declared.ledger.Ledger.{Ledger}
 use Rattle.solv_core.specs.declared.ledger.Run.{Run}
 use Rattle.solv_core.specs.declared.verdicts.Trail.{Trail}
 use Rattle.solv_questions.specs.Questions.{Request, request_of, asks}
+use Rattle.solv_decide.specs.Deciding.{meets_all}
 use Rattle.solv_decide.specs.Sets.{IsSetOf}
 use Rattle.solv_changes.specs.Changes.{changes}
 use Rattle.solv_changes.specs.Effects.{IsMemberList, after}
 use Rattle.solv_changes.specs.declared.kinds.Change.{Change}
-use Rattle.solv_remedy.specs.Problems.{IsProblem}
+use Rattle.solv_remedy.specs.Remedies.{IsGoodList, droppable_rules, is_fixed_at, most_runs, rest}
 use Rattle.solv_remedy.specs.declared.problems.Problem.{Problem}
+use Rattle.solv_remedy.specs.declared.problems.Solution.{Solution}
 use Rattle.solv_trans.specs.Moving.{goes, is_part}
 use Rattle.solv_trans.specs.Edges.{edge, pre_edge}
 use Rattle.solv_trans.specs.Orders.{IsOrdered}
@@ -95,24 +99,43 @@ module _ (task : Task) where
     pub leaves : after (catalog_of task) made ≡ set
     pub in_order : IsOrdered (length task.universe.packages + 1) (is_part (catalog_of task) (is_among set)) (goes (catalog_of task) (is_among set)) (edge (catalog_of task) (is_among set)) (pre_edge (catalog_of task) (is_among set)) ordered
 
-  -- One problem: rules that no set meets together, as its log shows. So no set meets all hard rules.
-  pub record AreProblems (problems : List Problem) : Type 0 where
-    pub problem : Problem
-    pub one : problems ≡ problem ∷ []
-    pub good : IsProblem (catalog_of task) (hard_rules task) problem
-    pub unsolved : problem.solutions ≡ []
-    pub none : (set : ℕ → Bool) → set 0 ≡ true → meets_hard_rules set ≡ true → ⊥
+  -- the core over the clauses of the hard rules
+  abbrev pub hard_core : CoreOf
+  hard_core = record { clauses = hard_clauses; owners = hard_owners; packages = length task.universe.packages }
 
-  -- the one run with every rule enabled
+  -- no set that holds the system meets all hard rules
+  abbrev pub HasNoSet : Type 0
+  HasNoSet = (set : ℕ → Bool) → set 0 ≡ true → meets_hard_rules set ≡ true → ⊥
+
+  -- the set of each solution meets every hard rule but those that it drops, and those that may be dropped of what other problems list
+  abbrev pub SetsMeet : List Problem → Type 0
+  SetsMeet problems = (i : ℕ) (problem : Problem) → slice_get problems i ≡ Some problem
+      → list_all (λ (s : Solution). meets_all request (rest request hard_core problems i s.dropped) (is_among s.set)) problem.solutions ≡ true
+
+  -- Problems: a good list of them, each with its solutions, whose sets meet what is left; and no set meets all hard rules.
+  pub record AreProblems (problems : List Problem) : Type 0 where
+    pub good : IsGoodList request hard_core problems
+    pub meet : SetsMeet problems
+    pub none : HasNoSet
+
+  -- the run with every rule enabled
   abbrev pub whole_run : Run
   whole_run = record { enabled = all_enabled; kept = [] }
 
-  -- The budget is spent: the ledger of one run is good, and holds one rule more than the budget. Each stands for a conflict that the
-  -- choices of the task's questions meet.
+  -- The first run has every rule enabled, and each run those that may not be dropped. There is a second one only where no set meets all
+  -- hard rules, and there are at most as many as the problems take, and the first.
+  pub record AreRuns (runs : List Run) : Type 0 where
+    pub first : slice_get runs 0 ≡ Some whole_run
+    pub fixed_on : (n : ℕ) (run : Run) → slice_get runs n ≡ Some run → (k : ℕ) → is_fixed_at request k ≡ true → is_enabled run.enabled k ≡ true
+    pub few : length runs ≤ most_runs (droppable_rules (hard_rules task)) + 1
+    pub later : 1 < length runs → HasNoSet
+
+  -- The budget is spent: the ledger is good, and holds one rule more than the budget. Each stands for a conflict that the choices of the
+  -- task's questions meet in its run.
   pub record IsSpent (budget : ℕ) (ledger : Ledger) : Type 0 where
     pub good : IsGoodLedger hard_clauses hard_owners (length task.universe.packages) asked ledger
     pub of_budget : ledger.budget ≡ budget
-    pub runs : ledger.runs ≡ whole_run ∷ []
+    pub runs : AreRuns ledger.runs
     pub spent : length ledger.entries ≡ budget + 1
 
   -- one of the three, with what holds of it

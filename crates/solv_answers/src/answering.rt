@@ -2,27 +2,27 @@
 ghost use Rattle.std.specs.Prelude.{ℕ, ◌≡◌, ◌≤◌, true, length, IfOk};
 ghost use Rattle.std.specs.List.{list_all};
 ghost use Rattle.solv_pool.specs.Catalog.{catalog_of};
-ghost use Rattle.solv_pool.specs.HardRules.{hard_rules};
 ghost use Rattle.solv_pool.specs.TaskBelonging.{IsClosed};
 ghost use Rattle.solv_prov.specs.Index.{IsIndexOf};
-ghost use Rattle.solv_rules.specs.Books.{is_bookable};
 ghost use Rattle.solv_rules.specs.Making.{asks_in_form};
 ghost use Rattle.solv_decide.specs.Deciding.{IsSolution, IsRefuted};
-ghost use Rattle.solv_answers.specs.Answers.{ClausesAgree, IsPrepared, IsAnswer, IsTransactionUnlessChoicesClash, request, all_enabled, hard_clauses, hard_owners};
+ghost use Rattle.solv_remedy.specs.Remedies.{IsMadeFor};
+ghost use Rattle.solv_answers.specs.Answers.{ClausesAgree, IsPrepared, IsAnswer, IsTransactionUnlessChoicesClash, request, all_enabled, hard_core};
+ghost use Rattle.solv_answers.specs.Beginnings.{HasBegun};
 
 use crate::answers::Answer;
 use crate::preparing::Prepared;
 use solv_changes::transaction;
-use solv_core::{Trail, Verdict};
-use solv_decide::{Decided, decide, set_of};
+use solv_core::{Core, Ledger, Trail, Verdict};
+use solv_decide::{Decided, Phases, decide, set_of};
 use solv_derive::Log;
 use solv_list::Items;
 use solv_pool::Task;
 use solv_pool::laws::{clauses_name_packages, clauses_say_the_rule};
 use solv_prov::Providers;
 use solv_questions::questions_keep_the_law;
-use solv_remedy::laws::good_logs_refute_their_rules;
-use solv_remedy::problem_of;
+use solv_remedy::Remedies;
+use solv_remedy::finding::problems;
 use solv_rules::Book;
 use solv_trans::order;
 use std::alloc::{AllocError, Global};
@@ -52,22 +52,32 @@ fn transaction_of(
     })
 }
 
-/// The problem of a refutation.
-fn problems_of(alloc: Global, task: &Task, book: &Book, log: Log) -> Result<Answer, AllocError>
-    requires owners { book.now.owners ≡ hard_owners task.now }
-    requires bookable { list_all (is_bookable (catalog_of task.now)) (hard_rules task.now) ≡ true }
-    requires refuted { IsRefuted (request task.now) (all_enabled task.now) (record { clauses = hard_clauses task.now; owners = hard_owners task.now; packages = length task.now.universe.packages }) log }
-    ensures { (budget : ℕ) → IfOk result (IsAnswer task.now budget) }
+/// The problems of a task that no set meets, where the first run gave this refutation; or that the budget was spent before all were found.
+fn problems_of(
+    alloc: Global,
+    task: &Task,
+    book: &Book,
+    phases: &Phases,
+    core: &mut Core,
+    log: Log,
+    mut ledger: Ledger,
+) -> Result<Answer, AllocError>
+    requires made { IsMadeFor (request task.now) phases.now core.old book.now }
+    requires core { core.old ≡ hard_core task.now }
+    requires refuted { IsRefuted (request task.now) (all_enabled task.now) (hard_core task.now) log }
+    requires begun { HasBegun task.now ledger }
+    requires budget { ledger.budget ≤ 1000000 }
+    ensures { IfOk result (IsAnswer task.now ledger.budget) }
 {
-    good_logs_refute_their_rules();
     let _ = task;
-    let problem = problem_of(alloc, book, log)?;
-    let mut problems = Items::wrap(Vec::new(alloc));
-    problems.push(problem)?;
-    Ok(Answer::Problems(problems))
+    match problems(alloc, phases, book, core, log, &mut ledger)? {
+        Remedies::Listed(problems) => Ok(Answer::Problems(problems)),
+        Remedies::Spent => Ok(Answer::Spent(ledger)),
+    }
 }
 
-/// The answer to a task by what it was prepared with, with a budget of learnt rules, by one run of the search.
+/// The answer to a task by what it was prepared with, with a budget of learnt rules: by one run of the search where some set meets all
+/// hard rules, and by more where none does, for its problems and their solutions.
 ///
 /// A task that some set meets is never given problems, nor one that none meets a transaction; either may be spent instead where the
 /// budget is too small for it. Where the choices of the task's questions meet no conflict, no budget is too small, and the answer is a
@@ -89,10 +99,19 @@ pub fn answer(
     clauses_name_packages();
     clauses_say_the_rule();
     let (prov, marks, book) = (&prepared.prov, &prepared.marks, &prepared.book);
-    let Decided { verdict, ledger } = decide(alloc, task, prov, marks, book, budget)?;
+    let Decided {
+        verdict,
+        ledger,
+        phases,
+        mut core,
+    } = decide(alloc, task, prov, marks, book, budget)?;
     match verdict {
-        Verdict::Sat(trail) => transaction_of(alloc, task, prov, trail),
-        Verdict::Unsat(log) => problems_of(alloc, task, book, log),
+        Verdict::Sat(trail) => {
+            drop(core);
+            drop(phases);
+            transaction_of(alloc, task, prov, trail)
+        }
+        Verdict::Unsat(log) => problems_of(alloc, task, book, &phases, &mut core, log, ledger),
         Verdict::Spent => Ok(Answer::Spent(ledger)),
     }
 }

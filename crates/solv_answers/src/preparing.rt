@@ -19,11 +19,20 @@ use solv_rules::{Book, BookFault};
 use std::alloc::{AllocError, Global};
 
 /// The index of providers of a task, what its jobs say of its packages, and the book of its hard rules.
-#[derive(Drop)]
 pub struct Prepared {
     pub prov: Providers,
     pub marks: Marks,
     pub book: Book,
+}
+
+impl Drop for Prepared {
+    fn drop(self) {
+        let Prepared {
+            prov: _,
+            marks: _,
+            book: _,
+        } = self;
+    }
 }
 
 /// The index, the marks and the hard rules of a task.

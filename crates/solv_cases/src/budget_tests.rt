@@ -8,6 +8,7 @@ ghost use Rattle.solv_rules.specs.Making.{asks_in_form};
 use crate::fixture::{are, read};
 use solv_answers::{Answer, answer, prepare};
 use solv_core::Ledger;
+use solv_pack::Lit;
 use solv_pool::Task;
 use std::alloc::{AllocError, Global};
 use std::process::Abort;
@@ -54,32 +55,64 @@ system x86_64 rpm system
 job install name P
 ";
 
-/// The set of a transaction, or the one clause in the ledger of a budget that is spent.
+/// P (1) needs lib, as in `BELOW`, and D (6) conflicts with lb (3): both cannot be, as unit propagation shows. P alone can, once it is learnt that la (2) is out.
+const CLASHING: &str = "repo system 0 empty
+repo available 0 testtags <inline>
+#>=Pkg: P 1 1 noarch
+#>=Req: lib
+#>=Pkg: la 1 1 noarch
+#>=Prv: lib
+#>=Req: x
+#>=Req: y
+#>=Pkg: lb 1 1 noarch
+#>=Prv: lib
+#>=Pkg: x 1 1 noarch
+#>=Con: y
+#>=Pkg: y 1 1 noarch
+#>=Pkg: D 1 1 noarch
+#>=Con: lb
+system x86_64 rpm system
+job install name P
+job install name D
+";
+
+/// What a task is to be answered: a set; a spent budget, in the first run or in a later one, with entries that each have this clause; or so many problems.
 #[derive(Clone, Copy)]
 enum Wanted {
     Set(&'static [u32]),
-    Spent(&'static [i32]),
+    SpentAtOnce(&'static [i32]),
+    SpentLater(&'static [i32]),
+    Problems(usize),
 }
 
-/// Whether a ledger has one entry, with this clause.
-fn is_only_entry(ledger: &Ledger, clause: &[i32]) -> bool {
-    match ledger.entries.held() {
-        [entry] => {
-            let lits = entry.clause.held();
-            lits.len() == clause.len()
-                && lits
-                    .iter()
-                    .zip(clause)
-                    .all(|(lit, number)| lit.number() == *number)
-        }
-        _ => false,
-    }
+/// Whether a clause has these literals.
+fn is_clause(lits: &[Lit], numbers: &[i32]) -> bool {
+    lits.len() == numbers.len()
+        && lits
+            .iter()
+            .zip(numbers)
+            .all(|(lit, number)| lit.number() == *number)
+}
+
+/// Whether a ledger has one entry more than its budget, each with this clause.
+fn is_spent_on(ledger: &Ledger, clause: &[i32]) -> bool {
+    let entries = ledger.entries.held();
+    entries.len() == ledger.budget as usize + 1
+        && entries
+            .iter()
+            .all(|entry| is_clause(entry.clause.held(), clause))
 }
 
 fn is_wanted(answer: &Answer, wanted: Wanted) -> bool {
     match (answer, wanted) {
         (Answer::Transaction { set, .. }, Wanted::Set(packs)) => are(set.held(), packs),
-        (Answer::Spent(ledger), Wanted::Spent(clause)) => is_only_entry(ledger, clause),
+        (Answer::Spent(ledger), Wanted::SpentAtOnce(clause)) => {
+            ledger.runs.len() == 1 && is_spent_on(ledger, clause)
+        }
+        (Answer::Spent(ledger), Wanted::SpentLater(clause)) => {
+            ledger.runs.len() > 1 && is_spent_on(ledger, clause)
+        }
+        (Answer::Problems(problems), Wanted::Problems(count)) => problems.len() == count,
         _ => false,
     }
 }
@@ -96,14 +129,17 @@ fn answered(rt: &impl Abort, alloc: Global, task: &Task, budget: u32) -> Result<
     answer(alloc, task, &prepared, budget)
 }
 
-/// What is learnt is that la is out, or else m.
+/// What is learnt is that la is out, or else m. Where two jobs clash it is learnt once where one of them is tried off, and once for a solution.
 #[test]
 fn budgets_are_spent(rt: HostRuntime) -> Result<(), Fail> {
     for (script, budget, wanted) in [
-        (BELOW, 0, Wanted::Spent(&[-2])),
+        (BELOW, 0, Wanted::SpentAtOnce(&[-2])),
         (BELOW, 1, Wanted::Set(&[0, 1, 3])),
-        (TWO_BELOW, 0, Wanted::Spent(&[-5])),
+        (TWO_BELOW, 0, Wanted::SpentAtOnce(&[-5])),
         (TWO_BELOW, 1, Wanted::Set(&[0, 1, 4])),
+        (CLASHING, 0, Wanted::SpentLater(&[-2])),
+        (CLASHING, 1, Wanted::SpentLater(&[-2])),
+        (CLASHING, 2, Wanted::Problems(1)),
     ] {
         let task = read(rt.alloc(), script)?;
         let answer = answered(&rt, rt.alloc(), &task, budget)?;

@@ -9,7 +9,7 @@ use Rattle.solv_pool.specs.Catalog.{Catalog, dependency}
 use Rattle.solv_pool.specs.PackageText.{written}
 use Rattle.solv_lines.specs.RuleTexts.{named, asked, has_provider}
 
-none_at : {X : Type 0} (xs : List X) (k : ℕ) → length xs ≤ k → slice_get xs k ≡ None
+pub none_at : {X : Type 0} (xs : List X) (k : ℕ) → length xs ≤ k → slice_get xs k ≡ None
 none_at [] k h = refl
 none_at (x ∷ xs) zero h = absurd (omega (arith, h))
 none_at (x ∷ xs) (suc k) h = none_at xs k (omega (arith, h))

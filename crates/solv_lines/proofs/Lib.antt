@@ -2,3 +2,4 @@ mod Rising
 mod Provided
 mod Joining
 mod Beyond
+mod Candidates

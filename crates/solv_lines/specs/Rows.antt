@@ -1,20 +1,23 @@
 -- A task with rules of every kind, small enough to be told by hand.
-use Rattle.std.specs.Prelude.{ℕ, true, false, List, [], ◌∷◌, Some, None, codes, pos}
+use Rattle.std.specs.Prelude.{ℕ, Bool, true, false, List, [], ◌∷◌, Some, None, codes, map, pos}
 use Rattle.solv_base.specs.declared.comparison.Cmp.{Cmp}
 use Rattle.solv_base.specs.declared.relation.DepNode.TheVariants.{Simple, Versioned, And}
+use Rattle.solv_pool.specs.RuleMeaning.{rule_with}
 use Rattle.solv_pool.specs.declared.packages.Package.{Package}
 use Rattle.solv_pool.specs.declared.hard_rules.Rule.TheVariants as rule
 use Rattle.solv_pool.specs.declared.hard_rules.Rules.{Rules}
 use Rattle.solv_pool.specs.declared.jobs.Action.{Action}
 use Rattle.solv_pool.specs.declared.jobs.Action.TheVariants.{Install, Erase, Update}
 use Rattle.solv_pool.specs.declared.jobs.Choice.{Choice}
-use Rattle.solv_pool.specs.declared.jobs.Choice.TheVariants.{Name, All}
+use Rattle.solv_pool.specs.declared.jobs.Choice.TheVariants.{Pkg, Name, All}
 use Rattle.solv_pool.specs.declared.jobs.Job.{Job}
 use Rattle.solv_pool.specs.declared.tasks.Task.{Task}
 use Rattle.solv_script.specs.declared.scripts.Kinds.{Kinds}
 use Rattle.solv_changes.specs.declared.kinds.Change.{Change}
 use Rattle.solv_changes.specs.declared.kinds.Change.TheVariants as change
+use Rattle.solv_lines.specs.SolutionTexts.{solution_texts}
 use Rattle.solv_lines.specs.declared.outcomes.Found.{Found}
+use Rattle.solv_lines.specs.declared.outcomes.WayOut.{WayOut}
 
 -- `<`
 abbrev pub below : Cmp
@@ -39,11 +42,11 @@ bare name evr arch repo = record {
   files = [];
 }
 
--- a job
-abbrev pub job : Action → Choice → Job
-job action choice = record { action = action; choice = choice; forcebest = false; text = [] }
+-- a job, whether it asks for the best, and its words
+abbrev pub job : Action → Choice → Bool → List ℕ → Job
+job action choice forcebest text = record { action = action; choice = choice; forcebest = forcebest; text = text }
 
--- A 1-1 and B 1-1 are installed; C 1-1, A 2-1 and P 1-1 for i686 are available; one job asks for a name that nothing has
+-- A 1-1 and B 1-1 are installed; C 1-1, A 2-1, and P 1-1 and A 1-1 for i686 are available; one job asks for a name that nothing has
 abbrev pub spoken : Task
 spoken = record {
   pool = record {
@@ -64,11 +67,11 @@ spoken = record {
     nodes = Simple 4 ∷ Simple 5 ∷ And 0 1 ∷ Simple 8 ∷ Simple 9 ∷ Versioned 4 below 3 ∷ [];
   };
   universe = record {
-    packages = bare 4 2 0 0 ∷ bare 5 2 0 0 ∷ bare 6 2 0 1 ∷ bare 4 3 0 1 ∷ bare 7 2 1 1 ∷ [];
+    packages = bare 4 2 0 0 ∷ bare 5 2 0 0 ∷ bare 6 2 0 1 ∷ bare 4 3 0 1 ∷ bare 7 2 1 1 ∷ bare 4 2 1 1 ∷ [];
     repos = record { name = 10; priority = pos 0 } ∷ record { name = 11; priority = pos 0 } ∷ [];
     arch = None;
     installed = Some 0;
-    disabled = false ∷ false ∷ false ∷ false ∷ false ∷ [];
+    disabled = false ∷ false ∷ false ∷ false ∷ false ∷ false ∷ [];
   };
   flags = record {
     allow_downgrade = false;
@@ -80,7 +83,14 @@ spoken = record {
     no_infarch_check = false;
   };
   namespaces = [];
-  jobs = job Install (Name 4) ∷ job Erase (Name 0) ∷ job Install All ∷ job Update All ∷ [];
+  jobs =
+      job Install (Name 4) false (codes "install name nosuch")
+      ∷ job Erase (Name 0) false (codes "erase name A")
+      ∷ job Install All false (codes "install all packages")
+      ∷ job Update All true (codes "update all packages [forcebest]")
+      ∷ job Install (Name 0) true (codes "install name A [forcebest]")
+      ∷ job Install (Pkg 6) false (codes "install pkg A-1-1.i686@available")
+      ∷ [];
 }
 
 -- a rule of each kind, and more than one where its text may differ
@@ -104,8 +114,13 @@ told = record {
       ∷ rule.Lock 1 1
       ∷ rule.BestJob 2 1
       ∷ rule.BestUpdate 3 2 1
+      ∷ rule.Infarch 6
+      ∷ rule.Install 5 2
+      ∷ rule.BestJob 4 1
+      ∷ rule.Update 1 1
+      ∷ rule.Feature 1 3
       ∷ [];
-  sets = [] ∷ (1 ∷ []) ∷ [];
+  sets = [] ∷ (1 ∷ []) ∷ (6 ∷ []) ∷ (1 ∷ 3 ∷ 4 ∷ []) ∷ [];
 }
 
 -- the lines of changes and of problems are asked for; or none
@@ -119,6 +134,17 @@ no_kinds = record { transaction = false; problems = false; order = true; reason 
 abbrev pub made : List Change
 made = change.Upgrade 1 4 ∷ change.Downgrade 4 1 ∷ change.Alter 2 3 ∷ change.Reinstall 2 2 ∷ change.Obsolete 1 3 ∷ change.Erase 2 ∷ change.Install 5 ∷ []
 
--- a problem that lists these rules
+-- a problem that lists these rules, without solutions, and with them
 abbrev pub listing : List ℕ → Found
-listing rules = record { rules = rules }
+listing rules = record { rules = rules; solutions = [] }
+
+abbrev pub solved_by : List ℕ → List WayOut → Found
+solved_by rules ways = record { rules = rules; solutions = ways }
+
+-- the way out that drops these rules, with this set
+abbrev pub way : List ℕ → List ℕ → WayOut
+way dropped set = record { dropped = dropped; set = set }
+
+-- what is said of it
+abbrev pub said_of : List ℕ → List ℕ → List (List ℕ)
+said_of dropped set = solution_texts spoken (map (rule_with told.sets) told.list) dropped set

@@ -23,6 +23,10 @@ module _ (catalog : Catalog) where
   abbrev pub asked : ℕ → List ℕ
   asked d = text (text_tree catalog.pool d)
 
+  -- a word and the texts of two packages, one space between
+  abbrev pub pair_text : List ℕ → ℕ → ℕ → List ℕ
+  pair_text word p q = word ++ (codes " " ++ (named p ++ (codes " " ++ named q)))
+
   -- some package, or the system, meets a part of the dependency
   abbrev pub has_provider : Dep ℕ → Bool
   has_provider d = list_any (λ part. list_any (package_meets catalog part) (members catalog)) (parts d)

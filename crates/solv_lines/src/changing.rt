@@ -3,30 +3,14 @@ ghost use Rattle.std.specs.Prelude.{◌≡◌, ◌++◌, map, IfOk, OnOk};
 ghost use Rattle.solv_pool.specs.Belonging.{IsOver};
 ghost use Rattle.solv_pool.specs.Catalog.{catalog_of};
 ghost use Rattle.solv_lines.specs.LineSets.{with_lines};
-ghost use Rattle.solv_lines.specs.ResultLines.{pair_line, change_line};
+ghost use Rattle.solv_lines.specs.ResultLines.{change_line};
 
-use crate::writing::write_package;
+use crate::writing::{write_package, write_pair};
 use solv_changes::Change;
 use solv_list::Bytes;
-use solv_pool::{PackNo, Task};
+use solv_pool::Task;
 use std::alloc::{AllocError, Global};
 use std::collections::BTreeSet;
-
-/// Appends a word and the texts of two packages.
-fn write_pair(
-    task: &Task,
-    word: &[u8],
-    pack: PackNo,
-    other: PackNo,
-    into: &mut Vec<u8>,
-) -> Result<(), AllocError>
-    requires { IsOver task.now.pool task.now.universe }
-    ensures { OnOk result (into.new.items ≡ into.old.items ++ pair_line (catalog_of task.now) word.now pack other) }
-{
-    into.extend_from_slice(word)?;
-    write_package(task, b" ", pack, into)?;
-    write_package(task, b" ", other, into)
-}
 
 /// Appends the line of a change.
 fn write_change(task: &Task, change: &Change, into: &mut Vec<u8>) -> Result<(), AllocError>

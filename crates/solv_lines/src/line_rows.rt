@@ -3,9 +3,9 @@ ghost use Rattle.std.specs.Prelude.{◌≡◌, ◌∷◌, [], map, codes};
 ghost use Rattle.std.specs.List.{range_with_len};
 ghost use Rattle.solv_lines.specs.RuleTexts.{rule_text_at};
 ghost use Rattle.solv_lines.specs.LineSets.{line_set, rises};
-ghost use Rattle.solv_lines.specs.ResultLines.{outcome_lines};
-ghost use Rattle.solv_lines.specs.Rows.{spoken, told, made, listing, both_kinds, no_kinds};
-ghost use Rattle.solv_lines.specs.declared.outcomes.Outcome.TheVariants.{Solved, Failed, Spent};
+ghost use Rattle.solv_lines.specs.ResultLines.{transaction_lines, outcome_lines};
+ghost use Rattle.solv_lines.specs.Rows.{spoken, told, made, listing, solved_by, way, said_of, both_kinds, no_kinds};
+ghost use Rattle.solv_lines.specs.declared.outcomes.Outcome.TheVariants.{Failed, Spent};
 
 /// The texts of rules of every kind, what is said of a requirement that nothing meets, and of a job that selects nothing, by
 /// a name and by all packages.
@@ -17,11 +17,36 @@ pub fn rows_of_rule_texts()
 /// The lines of an outcome are sorted by bytes, and a line that two rules give is there once; the tenth problem comes
 /// before the second.
 pub fn rows_of_result_lines()
-    ensures changes { line_set (outcome_lines spoken told both_kinds (Solved made)) ≡ codes "change B-1-1.noarch@system C-1-1.noarch@available" ∷ codes "downgrade A-2-1.noarch@available A-1-1.noarch@system" ∷ codes "erase B-1-1.noarch@system" ∷ codes "install P-1-1.i686@available" ∷ codes "obsolete A-1-1.noarch@system C-1-1.noarch@available" ∷ codes "reinstall B-1-1.noarch@system B-1-1.noarch@system" ∷ codes "upgrade A-1-1.noarch@system A-2-1.noarch@available" ∷ [] }
+    ensures changes { line_set (transaction_lines spoken both_kinds made) ≡ codes "change B-1-1.noarch@system C-1-1.noarch@available" ∷ codes "downgrade A-2-1.noarch@available A-1-1.noarch@system" ∷ codes "erase B-1-1.noarch@system" ∷ codes "install P-1-1.i686@available" ∷ codes "obsolete A-1-1.noarch@system C-1-1.noarch@available" ∷ codes "reinstall B-1-1.noarch@system B-1-1.noarch@system" ∷ codes "upgrade A-1-1.noarch@system A-2-1.noarch@available" ∷ [] }
     ensures problem { line_set (outcome_lines spoken told both_kinds (Failed (listing (1 ∷ 8 ∷ 9 ∷ 13 ∷ []) ∷ []))) ≡ codes "problem 1 info conflicting requests" ∷ codes "problem 1 info package B-1-1.noarch@system requires A, but none of the providers can be installed" ∷ codes "problem 1 info problem with installed package B-1-1.noarch@system" ∷ [] }
     ensures problems { line_set (outcome_lines spoken told both_kinds (Failed (listing [] ∷ listing (10 ∷ []) ∷ listing [] ∷ listing [] ∷ listing [] ∷ listing [] ∷ listing [] ∷ listing [] ∷ listing [] ∷ listing (10 ∷ []) ∷ []))) ≡ codes "problem 10 info nothing provides requested nosuch" ∷ codes "problem 2 info nothing provides requested nosuch" ∷ [] }
-    ensures no_changes { outcome_lines spoken told no_kinds (Solved made) ≡ [] }
+    ensures no_changes { transaction_lines spoken no_kinds made ≡ [] }
     ensures no_problems { outcome_lines spoken told no_kinds (Failed (listing (1 ∷ []) ∷ [])) ≡ [] }
     ensures spent { outcome_lines spoken told both_kinds Spent ≡ [] }
     ensures sorted { line_set (codes "b" ∷ codes "a" ∷ codes "ab" ∷ codes "b" ∷ []) ≡ codes "a" ∷ codes "ab" ∷ codes "b" ∷ [] }
+{}
+
+/// The texts of solutions, one for each kind of rule that may be dropped: an update rule alone names what may take the
+/// package's place, if the set has it, and beside the package's feature rule it is told with that. A rule that may not be
+/// dropped, and a number behind the last one, have no text.
+pub fn rows_of_solution_texts()
+    ensures inferior { said_of (7 ∷ []) (0 ∷ []) ≡ codes "allow P-1-1.i686@available" ∷ [] }
+    ensures erased { said_of (9 ∷ []) (0 ∷ 1 ∷ []) ≡ codes "erase B-1-1.noarch@system" ∷ [] }
+    ensures erased_once { said_of (8 ∷ 9 ∷ []) (0 ∷ 1 ∷ []) ≡ codes "erase B-1-1.noarch@system" ∷ [] }
+    ensures replaced { said_of (20 ∷ []) (0 ∷ 1 ∷ 2 ∷ 3 ∷ 4 ∷ []) ≡ codes "replace A-1-1.noarch@system C-1-1.noarch@available" ∷ [] }
+    ensures replaced_by_none { said_of (20 ∷ []) (0 ∷ 1 ∷ 2 ∷ []) ≡ codes "erase A-1-1.noarch@system" ∷ [] }
+    ensures jobs { said_of (10 ∷ 13 ∷ 14 ∷ []) (0 ∷ []) ≡ codes "deljob install name nosuch" ∷ codes "deljob erase name A" ∷ codes "deljob erase name A" ∷ [] }
+    ensures best_job { said_of (19 ∷ []) (0 ∷ []) ≡ codes "dropbest install name A [forcebest]" ∷ [] }
+    ensures best_update { said_of (16 ∷ []) (0 ∷ []) ≡ codes "keepold B-1-1.noarch@system" ∷ [] }
+    ensures kept { said_of (range_with_len 0 7) (0 ∷ []) ≡ [] }
+    ensures behind { said_of (22 ∷ 100 ∷ []) (0 ∷ []) ≡ [] }
+{}
+
+/// The lines of problems with their solutions: an erase job of what an installed package requires, an install job of a
+/// package of an inferior architecture, and one that asks for the best.
+pub fn rows_of_problems()
+    ensures needed { line_set (outcome_lines spoken told both_kinds (Failed (solved_by (1 ∷ 8 ∷ 9 ∷ 13 ∷ []) (way (8 ∷ 9 ∷ []) (0 ∷ []) ∷ way (13 ∷ []) (0 ∷ 1 ∷ 2 ∷ []) ∷ []) ∷ []))) ≡ codes "problem 1 info conflicting requests" ∷ codes "problem 1 info package B-1-1.noarch@system requires A, but none of the providers can be installed" ∷ codes "problem 1 info problem with installed package B-1-1.noarch@system" ∷ codes "problem 1 solution 1 erase B-1-1.noarch@system" ∷ codes "problem 1 solution 2 deljob erase name A" ∷ [] }
+    ensures inferior { line_set (outcome_lines spoken told both_kinds (Failed (solved_by (17 ∷ 18 ∷ []) (way (17 ∷ []) (0 ∷ 6 ∷ []) ∷ way (18 ∷ []) (0 ∷ []) ∷ []) ∷ []))) ≡ codes "problem 1 info A-1-1.i686@available has inferior architecture" ∷ codes "problem 1 info conflicting requests" ∷ codes "problem 1 solution 1 allow A-1-1.i686@available" ∷ codes "problem 1 solution 2 deljob install pkg A-1-1.i686@available" ∷ [] }
+    ensures best { line_set (outcome_lines spoken told both_kinds (Failed (listing [] ∷ solved_by (19 ∷ []) (way (19 ∷ []) (0 ∷ []) ∷ []) ∷ []))) ≡ codes "problem 2 info cannot install the best candidate for the job" ∷ codes "problem 2 solution 1 dropbest install name A [forcebest]" ∷ [] }
+    ensures no_problems { outcome_lines spoken told no_kinds (Failed (solved_by (19 ∷ []) (way (19 ∷ []) (0 ∷ []) ∷ []) ∷ [])) ≡ [] }
 {}

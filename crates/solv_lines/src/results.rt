@@ -25,7 +25,7 @@ fn outcome_lines(
     task: &Task,
     prov: &Providers,
     rules: &Rules,
-    outcome: &Outcome,
+    outcome: &Outcome<'_>,
 ) -> Result<BTreeSet<Bytes>, AllocError>
     requires over { IsOver task.now.pool task.now.universe }
     requires index { IsIndexOf prov.now (catalog_of task.now) }
@@ -33,8 +33,8 @@ fn outcome_lines(
 {
     let mut lines = BTreeSet::new(alloc);
     match outcome {
-        Outcome::Solved { changes } if kinds.transaction => {
-            put_changes(alloc, task, changes.held(), &mut lines)?;
+        Outcome::Solved { changes, .. } if kinds.transaction => {
+            put_changes(alloc, task, changes, &mut lines)?;
         }
         Outcome::Failed(founds) if kinds.problems => {
             put_problems(alloc, task, prov, rules, founds.held(), &mut lines)?;
@@ -44,15 +44,16 @@ fn outcome_lines(
     Ok(lines)
 }
 
-/// The result lines of an outcome, of the kinds that are asked for: a line for each change of a set, or for each rule that
-/// a problem lists, the problems being numbered from 1. They are sorted by bytes, and each is there once.
+/// The result lines of an outcome, of the kinds that are asked for: a line for each change of a set; or for each rule that
+/// a problem lists and each text of its solutions, problems and solutions being numbered from 1. They are sorted by bytes,
+/// and each is there once.
 pub fn result_lines(
     alloc: Global,
     kinds: Kinds,
     task: &Task,
     prov: &Providers,
     rules: &Rules,
-    outcome: &Outcome,
+    outcome: &Outcome<'_>,
 ) -> Result<LineSet, AllocError>
     requires over { IsOver task.now.pool task.now.universe }
     requires index { IsIndexOf prov.now (catalog_of task.now) }

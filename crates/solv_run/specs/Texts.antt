@@ -12,9 +12,11 @@ use Rattle.solv_script.specs.declared.scripts.Script.{Script}
 use Rattle.solv_answers.specs.declared.answers.Answer.{Answer}
 use Rattle.solv_answers.specs.declared.answers.Answer.TheVariants.{Transaction, Problems, Spent}
 use Rattle.solv_remedy.specs.declared.problems.Problem.{Problem}
+use Rattle.solv_remedy.specs.declared.problems.Solution.{Solution}
 use Rattle.solv_lines.specs.LineSets.{line_set}
-use Rattle.solv_lines.specs.ResultLines.{change_line}
+use Rattle.solv_lines.specs.ResultLines.{change_line, solution_line}
 use Rattle.solv_lines.specs.RuleTexts.{text_of_rule}
+use Rattle.solv_lines.specs.SolutionTexts.{solution_texts}
 use Rattle.solv_io.specs.Lines.{ended_lines}
 use Rattle.solv_run.specs.Checks.{false_lines}
 
@@ -27,14 +29,22 @@ module _ (task : Task) where
   abbrev pub info_line : ℕ → ℕ → List ℕ
   info_line problem rule = codes "problem " ++ (decimal problem ++ (codes " info " ++ hard_rule_text rule))
 
-  -- those of a problem
-  abbrev pub problem_lines : ℕ → Problem → List (List ℕ)
-  problem_lines number problem = map (info_line number) problem.rules
+  -- the lines of the solution of a number, of the problem of a number: one for each thing that it does
+  abbrev pub solution_lines : ℕ → ℕ → Solution → List (List ℕ)
+  solution_lines problem number solution = map (solution_line problem number) (solution_texts task (hard_rules task) solution.dropped solution.set)
 
-  -- the result lines of an answer, of the kinds that are asked for: those of its changes, or of its problems, which are numbered from 1
+  -- those of a problem: of the rules that it lists, and of its solutions, which are numbered from 1
+  abbrev pub problem_lines : ℕ → Problem → List (List ℕ)
+  problem_lines number problem = map (info_line number) problem.rules ++ flat_map (λ x. solution_lines number x.0 x.1) (enumerate_from 1 problem.solutions)
+
+  -- the lines of problems, which are numbered from 1, where they are asked for
+  abbrev pub problems_lines : Kinds → List Problem → List (List ℕ)
+  problems_lines kinds problems = when kinds.problems (flat_map (λ x. problem_lines x.0 x.1) (enumerate_from 1 problems))
+
+  -- the result lines of an answer, of the kinds that are asked for: those of its changes, or of its problems
   abbrev pub answer_lines : Kinds → Answer → List (List ℕ)
   answer_lines kinds (Transaction trail set made ordered) = when kinds.transaction (map (change_line (catalog_of task)) made)
-  answer_lines kinds (Problems problems) = when kinds.problems (flat_map (λ x. problem_lines x.0 x.1) (enumerate_from 1 problems))
+  answer_lines kinds (Problems problems) = problems_lines kinds problems
   answer_lines kinds (Spent ledger) = []
 
 -- what is printed: the comparisons that are false, and the result lines, sorted by bytes, each once

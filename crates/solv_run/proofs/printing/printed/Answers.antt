@@ -1,11 +1,9 @@
 use Rattle.std.proofs.Common.{◌≡◌, ◌++◌, List, ℕ, true, sym, ap, ◌∙◌, subst}
 use Rattle.solv_io.specs.Lines.{ended_lines}
 use Rattle.solv_lines.specs.LineSets.{line_set}
-use Rattle.solv_lines.specs.ResultLines as lines
 use Rattle.solv_run.specs.Checks.{false_lines}
 use Rattle.solv_run.specs.Texts.{answer_lines}
 use Rattle.solv_run.proofs.CheckLines.{ended_join}
-use Rattle.solv_run.proofs.AnswerLines.{lines_alike}
 use Rattle.solv_run.proofs.printing.printed.Goals as goal
 
 pub returns : goal.returns
@@ -14,11 +12,7 @@ returns c =
     let kinds = c.args.script.now.kinds in
     let false_ones = false_lines c.args.script.now.checks in
     let result = line_set (answer_lines task kinds c.args.answer.now) in
-    let made : c.in_ok-lines.lines ≡ result =
-    c.in_ok-lines.ensures
-    ∙ ap line_set (ap (λ r. lines.outcome_lines task r kinds c.in_ok-outcome.outcome) c.rules-rules.ensures
-    ∙ ap (λ o. lines.outcome_lines task c.args.prepared.now.book.rules kinds o) c.in_ok-outcome.ensures
-    ∙ lines_alike task c.args.prepared.now.book.rules c.requires.prepared.rules kinds c.args.answer.now) in
+    let made : c.in_ok-lines.lines ≡ result = c.in_ok-lines.ensures in
     let begun : c.append_false.new.text.items ≡ ended_lines false_ones = rw (c.new-text.ensures.items, c.held.ensures) at c.in_ok-append_false.ensures in
     let behind : c.held-2.result.now ≡ ended_lines result = c.held-2.ensures ∙ c.in_ok-ended.ensures ∙ ap ended_lines made in
     c.in_ok-extend_from_slice.ensures.items
