@@ -12,6 +12,7 @@ ghost use Rattle.solv_core.specs.declared.ledger.Entry.{Entry};
 
 use crate::events::events_of;
 use crate::flags::Flags;
+use crate::forgetful::Forgetful;
 use crate::ledger::{Ledger, Run};
 use crate::refutation::log_of;
 use crate::refuting::{Contradiction, refuted_over};
@@ -20,7 +21,7 @@ use crate::verdicts::{Trail, Verdict};
 use solv_learn::Search;
 use solv_list::Items;
 use solv_pack::{RuleMem, RuleNo};
-use solv_trail::{Guide, Known};
+use solv_trail::{Guide, Known, Recaller};
 use solv_watch::Watches;
 use std::alloc::{AllocError, Global};
 use std::marker::Model;
@@ -99,7 +100,7 @@ fn begin(alloc: Global, ledger: &mut Ledger, enabled: &[bool]) -> Result<(), All
 }
 
 /// A run that is noted, over the parts of a core.
-fn run_over<G: Guide>(
+fn run_over<G: Guide + Recaller>(
     alloc: Global,
     known: &mut Known,
     search: &mut Search,
@@ -203,6 +204,35 @@ impl Core {
     /// After want of memory the core may be run again. The ledger is as before, or has this run, and what it learnt until
     /// then.
     pub fn run<G: Guide>(
+        &mut self,
+        enabled: &[bool],
+        guide: &G,
+        ledger: &mut Ledger,
+    ) -> Result<Verdict, AllocError>
+        requires enabled { list_all (λ o. nat_lt o (length enabled.now)) self.old.owners ≡ true }
+        requires guide { G.is_for guide.now self.old.clauses self.old.owners }
+        requires packages { G.is_for_packages guide.now self.old.packages }
+        requires budget { ledger.old.budget ≤ 1000000 }
+        requires few { length ledger.old.entries ≤ ledger.old.budget + 1 }
+        ensures core { self.new ≡ self.old }
+        ensures budget { ledger.new.budget ≡ ledger.old.budget }
+        ensures few { length ledger.new.entries ≤ ledger.new.budget + 1 }
+        ensures run { OnOk result (ledger.new.runs ≡ ledger.old.runs ++ (record { enabled = enabled.now; kept = [] }) ∷ []) }
+        ensures runs { OnErr result ((ledger.new ≡ ledger.old) ⊎ (ledger.new.runs ≡ ledger.old.runs ++ (record { enabled = enabled.now; kept = [] }) ∷ [])) }
+        ensures earlier_runs { take (length ledger.old.runs) ledger.new.runs ≡ ledger.old.runs }
+        ensures earlier_entries { take (length ledger.old.entries) ledger.new.entries ≡ ledger.old.entries }
+        ensures own_entries { are_of_run (length ledger.old.runs) (drop (length ledger.old.entries) ledger.new.entries) ≡ true }
+        ensures good { IsGoodLedger self.old.clauses self.old.owners self.old.packages (G.asks guide.now) ledger.old → IsGoodLedger self.old.clauses self.old.owners self.old.packages (G.asks guide.now) ledger.new }
+        ensures spent { IfOk result (λ v. is_spent_verdict v ≡ (length ledger.new.entries == ledger.new.budget + 1)) }
+        ensures refutation { IfOk result (IsRefutation self.old.clauses self.old.owners enabled.now) }
+        ensures log_over { IfOk result (λ v. is_log_over self.old.packages v ≡ true) }
+        ensures found { IfOk result (IsFound self.old.packages self.old.clauses self.old.owners enabled.now (λ facts. G.asks guide.now facts enabled.now)) }
+    {
+        self.run_recalling(enabled, &Forgetful { guide }, ledger)
+    }
+
+    /// As `run`, with a guide that remembers.
+    pub fn run_recalling<G: Guide + Recaller>(
         &mut self,
         enabled: &[bool],
         guide: &G,

@@ -1,5 +1,5 @@
 //! Who chooses.
-ghost use Rattle.std.specs.Prelude.{◌≡◌, ◌<◌, ℕ, ℤ, Bool, true, List, Option, length, nat_lt};
+ghost use Rattle.std.specs.Prelude.{◌≡◌, ◌<◌, ℕ, ℤ, Bool, true, List, Option, length, take, nat_lt};
 ghost use Rattle.std.specs.List.{list_all};
 ghost use Rattle.solv_pool.specs.Propagation.{is_fact};
 ghost use Rattle.solv_trail.specs.Asked.{KeepsLaw, enabled_clauses};
@@ -27,6 +27,37 @@ pub trait Guide {
     /// The law: where nothing more is forced and no enabled clause is falsified, it asks nothing only where counting all unknown packages out makes
     /// each enabled clause true, and a package that it asks for is one of those that it is for and not known.
     ghost keeps_law: { (g : Self) (count : ℕ) (clauses : List (List ℤ)) (owners : List ℕ) (enabled : List Bool) → is_for g clauses owners → is_for_packages g count → KeepsLaw count (enabled_clauses enabled clauses owners) (λ known. asks g known enabled) };
+}
+
+/// A guide that remembers what it found out, for as long as nothing is taken back: whoever asks it holds what is remembered.
+pub trait Recaller: Guide {
+    /// What is remembered.
+    type Memory;
+
+    /// What is remembered serves where these literals are known, in this order.
+    ghost serves: { Self → Self.Memory → List ℤ → Type 0 };
+
+    /// What is remembered, at what is known. It takes no memory.
+    fn begin(&self, known: &Known) -> Self::Memory
+        ensures { serves self.now result known.now.lits };
+
+    /// What is to be taken next, as `next` has it. It takes no memory.
+    fn next_recalling(
+        &self,
+        memory: &mut Self::Memory,
+        known: &Known,
+        enabled: &[bool],
+    ) -> Option<Ask>
+        requires for_them { (clauses : List (List ℤ)) × ((owners : List ℕ) × (Self.is_for self.now clauses owners × (list_all (λ o. nat_lt o (length enabled.now)) owners ≡ true))) }
+        requires serves { serves self.now memory.old known.now.lits }
+        ensures asked { result ≡ Self.asks self.now (is_fact known.now.lits) enabled.now }
+        ensures serves { serves self.now memory.new known.now.lits };
+
+    /// Hands back what is remembered. It takes no memory.
+    fn end(&self, memory: Self::Memory);
+
+    /// The law: it serves on where more becomes known.
+    ghost keeps_serving: { (g : Self) (memory : Self.Memory) (before after : List ℤ) → take (length before) after ≡ before → serves g memory before → serves g memory after };
 }
 
 /// Asks once more, at what is known.

@@ -6,7 +6,7 @@
 //!
 //! - [`Known`]: the literals, with the rule of each and the choices. Nothing in it takes memory once it is made.
 //! - [`NumberSet`]: the packages that are known in, as a set of numbers.
-//! - [`Guide`]: who chooses; [`Ask`] and [`Question`]: what it asks for, and why; [`taken`]: the literal of what is asked for.
+//! - [`Guide`]: who chooses, and [`Recaller`], a guide that remembers; [`Ask`] and [`Question`]: what it asks for, and why; [`taken`]: the literal of what is asked for.
 //! - [`lits_of`], [`is_in_use`]: a rule by its number, in the book or behind it, and whether it is in use.
 //!
 //! `specs/Held` says what is held, `specs/Derivation` and `specs/Propagated` how literals come to be known, `specs/Used` which
@@ -20,7 +20,7 @@ mod numbers;
 mod questions;
 mod rules;
 
-pub use guides::Guide;
+pub use guides::{Guide, Recaller};
 pub use known::Known;
 pub use numbers::NumberSet;
 pub use questions::{Ask, Question, taken};

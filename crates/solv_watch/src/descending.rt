@@ -9,10 +9,11 @@ ghost use Rattle.solv_watch.specs.Propagating.{AreWatched, AreKeptAtChoices, Are
 use crate::chains::Watches;
 use crate::propagation::propagate;
 use solv_pack::RuleMem;
-use solv_trail::{Guide, Known, taken};
+use solv_trail::{Guide, Known, Recaller, taken};
 
-/// Propagates and takes what the guide asks for, until a rule is falsified (which it names) or nothing is asked. It takes no memory.
-pub fn descend<G: Guide>(
+/// Propagates and takes what the guide asks for, until a rule is falsified (which it names) or nothing is asked. Nothing is taken
+/// back meanwhile, so the guide is asked to begin once. It takes no memory.
+pub fn descend<G: Guide + Recaller>(
     known: &mut Known,
     book: &mut RuleMem,
     learnt: &mut RuleMem,
@@ -39,14 +40,19 @@ pub fn descend<G: Guide>(
     ensures watched { AreWatched known.old.count book.new learnt.new watches.new }
     ensures choices { AreKeptAtChoices book.old.rules learnt.old.rules (in_use owners.now enabled.now) watches.new known.new }
 {
+    let mut memory = guide.begin(known);
     loop {
         if let Some(rule) = propagate(known, book, learnt, watches, owners, enabled) {
             known.keep_apart();
+            guide.end(memory);
             return Some(rule);
         }
         known.keep_apart();
-        match guide.next(known, enabled) {
-            None => return None,
+        match guide.next_recalling(&mut memory, known, enabled) {
+            None => {
+                guide.end(memory);
+                return None;
+            }
             Some(ask) => known.choose(taken(ask.pack), ask),
         }
     }
