@@ -1,5 +1,5 @@
 -- What a search collects, one marked literal at a time.
-use Rattle.std.proofs.Common.{◌≡◌, ℕ, ◌<◌, ◌≤◌, Bool, true, false, not, ◌&&◌, ◌||◌, List, [], ◌∷◌, ◌++◌, length, take, map, min, ◌⊎◌, inl, inr, refl, sym, ap, ◌∙◌, arith}
+use Rattle.std.proofs.Common.{◌≡◌, ℕ, ◌<◌, ◌≤◌, Bool, true, false, not, ◌&&◌, ◌||◌, List, [], ◌∷◌, ◌++◌, length, take, map, min, ◌⊎◌, inl, inr, refl, sym, ap, ◌∙◌, arith, ◌+◌, eqb, eq-eqb}
 use Rattle.std.specs.Prelude.{ℤ, neg_ℤ, nat_lt}
 use Rattle.std.specs.Ordering.{int_eq}
 use Rattle.std.proofs.lemmas.Bool.{or_left, or_right, or_cases, or_parts, and_parts, and_from, cases_Bool, cases_lt, false≢true, lt-ltb, ltb-true}
@@ -9,7 +9,7 @@ use Rattle.solv_pool.specs.Propagation.{is_fact, is_refuted}
 use Rattle.solv_derive.proofs.Facts.{same, same_self, known_later, known_same, known_cases, neg-neg}
 use Rattle.solv_trail.specs.Derivation.{IsConsistent}
 use Rattle.solv_trail.proofs.Walk.{take_known}
-use Rattle.solv_learn.specs.Collecting.{IsCollected, HasMarked, is_plain}
+use Rattle.solv_learn.specs.Collecting.{IsCollected, HasMarked, HavePlaces, is_plain}
 
 not_true : (b : Bool) → (b ≡ true → ⊥) → b ≡ false
 not_true true h = absurd (h refl)
@@ -191,6 +191,21 @@ module _ (T : List ℤ) (x : ℤ) (Q new : ℤ → Bool) (p : ℕ) (added : IsAd
       | inr q ↦ absurd (false≢true (sym f ∙ q))
     ];
   }
+
+  same_place : (q : ℕ) → ((e : ℕ) → is_fact (take e T) x ≡ nat_lt q e) → q ≡ p
+  same_place q first =
+      let a : nat_lt q (p + 1) ≡ true = sym (first (p + 1)) ∙ added.before (p + 1) ∙ lt-ltb p (p + 1) (omega arith) in
+      let b : nat_lt p (q + 1) ≡ true = sym (added.before (q + 1)) ∙ first (q + 1) ∙ lt-ltb q (q + 1) (omega arith) in
+      let c : q < p + 1 = ltb-true q (p + 1) a in
+      let d : p < q + 1 = ltb-true p (q + 1) b in
+      omega arith
+
+  -- its place comes to the places
+  pub places_more : (at more : ℕ → Bool) → ((k : ℕ) → more k ≡ (eqb k p || at k)) → HavePlaces T Q at → HavePlaces T new more
+  places_more at more is have = λ l q n first. elim (came l n) [
+    | inl s ↦ is q ∙ or_left (eqb q p) (at q) (eq-eqb q p (same_place q (λ e. ap (is_fact (take e T)) (sym s) ∙ first e)))
+    | inr h ↦ is q ∙ or_right (eqb q p) (at q) (have l q h first)
+  ]
 
 -- nothing is to be marked
 pub marked_nothing : (T : List ℤ) (y : ℤ) (Q : ℤ → Bool) → (is_refuted T y ≡ true → Q (neg_ℤ y) ≡ true) → HasMarked T (y ∷ []) Q Q

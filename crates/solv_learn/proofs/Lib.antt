@@ -1,3 +1,4 @@
+pub mod Lasts
 pub mod Refuting
 pub mod Tables
 pub mod Collected

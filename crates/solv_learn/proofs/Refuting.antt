@@ -1,7 +1,8 @@
 -- Going back over the trail from a false clause gives a good step.
-use Rattle.std.proofs.Common.{◌≡◌, ℕ, suc, ◌<◌, Bool, true, false, not, ◌&&◌, List, [], ◌∷◌, length, take, get_or, map, filter, Option, Some, None, ◌⊎◌, inl, inr, refl, sym, ap, ◌∙◌, arith}
-use Rattle.std.specs.Prelude.{ℤ, pos, neg_ℤ}
-use Rattle.std.proofs.lemmas.Bool.{false≢true}
+use Rattle.std.proofs.Common.{◌≡◌, ℕ, zero, suc, ◌<◌, ◌≤◌, Bool, true, false, not, ◌&&◌, ◌||◌, List, [], ◌∷◌, length, take, get_or, map, filter, Option, Some, None, ◌⊎◌, inl, inr, refl, sym, ap, ◌∙◌, arith}
+use Rattle.std.specs.Prelude.{ℤ, pos, neg_ℤ, nat_lt}
+use Rattle.std.specs.Ordering.{int_eq}
+use Rattle.std.proofs.lemmas.Bool.{false≢true, cases_Bool, cases_lt, lt-ltb, ltb-true}
 use Rattle.std.proofs.lemmas.List.{take_all}
 use Rattle.solv_pool.specs.Propagation.{is_fact, is_refuted, is_open}
 use Rattle.solv_derive.specs.Forced.{is_satisfied, is_falsified, forced}
@@ -10,6 +11,7 @@ use Rattle.solv_derive.specs.declared.logs.Hint.{Hint}
 use Rattle.solv_derive.proofs.Facts.{known_later, known_same, known_cases, all_from, none_from, filter_same, Forces, forces_from, forced_from, forced_member, forced_others, open_parts, open_from}
 use Rattle.solv_trail.specs.Derivation.{Within, IsConsistent}
 use Rattle.solv_trail.proofs.Walk.{take_known, known_at, known_next, known_up, known_last}
+use Rattle.solv_learn.specs.Collecting.{HavePlaces}
 use Rattle.solv_learn.specs.Refuting.{Refutes}
 
 not_true : (b : Bool) → (b ≡ true → ⊥) → b ≡ false
@@ -138,3 +140,42 @@ refutes_jump look kept also Q T H j e more held back passed r = record {
       (λ l q k. elim k [ inl a ↦ has l q (passed l q a) | inr a ↦ has l q (inr (more l a)) ])
       (λ l k. elim (only l k) [ inl a ↦ inl (back l a) | inr a ↦ held l a ]);
 }
+
+-- where a literal first stands
+at_head : (x l : ℤ) (T : List ℤ) → int_eq l x ≡ true → (e : ℕ) → is_fact (take e (x ∷ T)) l ≡ nat_lt 0 e
+at_head x l T h zero = refl
+at_head x l T h (suc e) = ap (λ b. b || is_fact (take e T) l) h ∙ sym (lt-ltb 0 (suc e) (omega arith))
+
+one_more : (p e : ℕ) → nat_lt p e ≡ nat_lt (suc p) (suc e)
+one_more p e = elim (cases_lt p e) [
+  | inl h ↦ lt-ltb p e h ∙ sym (lt-ltb (suc p) (suc e) (omega arith))
+  | inr h ↦ not_true (nat_lt p e) (λ t. let s = ltb-true p e t in omega arith) ∙ sym (not_true (nat_lt (suc p) (suc e)) (λ t. let s = ltb-true (suc p) (suc e) t in omega arith))
+]
+
+behind : (x l : ℤ) (T : List ℤ) (p : ℕ) → int_eq l x ≡ false → ((e : ℕ) → is_fact (take e T) l ≡ nat_lt p e) → (e : ℕ) → is_fact (take e (x ∷ T)) l ≡ nat_lt (suc p) e
+behind x l T p f first zero = sym (not_true (nat_lt (suc p) 0) (λ t. let s = ltb-true (suc p) 0 t in omega arith))
+behind x l T p f first (suc e) = ap (λ b. b || is_fact (take e T) l) f ∙ first e ∙ one_more p e
+
+first_place : (T : List ℤ) (l : ℤ) → is_fact T l ≡ true → (p : ℕ) × ((e : ℕ) → is_fact (take e T) l ≡ nat_lt p e)
+first_place [] l h = absurd (false≢true h)
+first_place (x ∷ T) l h = elim (cases_Bool (int_eq l x)) [
+  | inl e ↦ (0, at_head x l T e)
+  | inr f ↦ let r = first_place T l (sym (ap (λ b. b || is_fact T l) f) ∙ h) in (suc r.0, behind x l T r.0 f r.1)
+]
+
+-- places are passed at which nothing is marked
+pub refutes_skip : (look : Hint → Option (List ℤ)) (kept Q : ℤ → Bool) (at : ℕ → Bool) (T : List ℤ) (H : List Hint) (j e : ℕ) → e ≤ j → HavePlaces T Q at → ((k : ℕ) → e ≤ k → k < j → at k ≡ false)
+    → Refutes look kept T j Q H → Refutes look kept T e Q H
+refutes_skip look kept Q at T H j e h have none =
+    refutes_jump look kept kept Q T H j e (λ l k. k) (λ l k. inr k)
+    (λ l k.
+    let first = first_place T l (take_known T e l k) in
+    let low : first.0 < e = ltb-true first.0 e (sym (first.1 e) ∙ k) in
+    first.1 j ∙ lt-ltb first.0 j (omega arith))
+    (λ l q k.
+    let first = first_place T l (take_known T j l k) in
+    let low : first.0 < j = ltb-true first.0 j (sym (first.1 j) ∙ k) in
+    inl (elim (cases_lt first.0 e) [
+      | inl a ↦ first.1 e ∙ lt-ltb first.0 e a
+      | inr a ↦ absurd (false≢true (sym (none first.0 a low) ∙ have l first.0 q first.1))
+    ]))

@@ -1,5 +1,5 @@
 -- What a search through the literals that are known collects.
-use Rattle.std.specs.Prelude.{◌≡◌, ℕ, ℤ, neg_ℤ, ◌<◌, ◌≤◌, Bool, true, false, not, ◌&&◌, List, [], ◌∷◌, map, take, length}
+use Rattle.std.specs.Prelude.{◌≡◌, ℕ, ℤ, neg_ℤ, ◌<◌, ◌≤◌, nat_lt, Bool, true, false, not, ◌&&◌, List, [], ◌∷◌, map, take, length}
 use Rattle.solv_pool.specs.Propagation.{is_fact, is_refuted}
 
 -- no literal stands twice, and none with its negation
@@ -23,3 +23,7 @@ pub record HasMarked (T c : List ℤ) (old new : ℤ → Bool) : Type 0 where
   pub grows : (l : ℤ) → old l ≡ true → new l ≡ true
   pub marks : (m : ℤ) → is_fact c m ≡ true → is_refuted T m ≡ true → new (neg_ℤ m) ≡ true
   pub nothing_else : (l : ℤ) → new l ≡ true → old l ≡ false → (is_fact c (neg_ℤ l) ≡ true) × (is_fact T l ≡ true)
+
+-- the first place of each marked literal is among these
+abbrev pub HavePlaces : List ℤ → (ℤ → Bool) → (ℕ → Bool) → Type 0
+HavePlaces T Q at = (l : ℤ) (p : ℕ) → Q l ≡ true → ((e : ℕ) → is_fact (take e T) l ≡ nat_lt p e) → at p ≡ true

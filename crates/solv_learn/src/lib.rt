@@ -5,12 +5,13 @@
 //! clause that asserts the negation of one literal, the first unique implication point, before the last choice.
 //!
 //! - [`Search::learn`] and [`Search::refute`] are the two.
-//! - [`Marked`]: a set of literals that is emptied in one step.
+//! - [`Marked`]: a set of literals and their places, gone through from the highest place on, and emptied at the cost of what was put in.
 //!
 //! `specs/Learning` says what they give; `specs/Refuting` and `specs/Collecting` what holds on the way.
 #![tactic(auto)]
 
 mod marked;
+mod places;
 mod search;
 
 pub use marked::Marked;

@@ -6,9 +6,9 @@ ghost use Rattle.solv_derive.specs.Forced.{is_falsified};
 ghost use Rattle.solv_derive.specs.Range.{names_package, is_over, are_over};
 ghost use Rattle.solv_derive.specs.declared.logs.Hint.{Hint};
 ghost use Rattle.solv_trail.specs.Propagated.{IsUsed, IsReasoned};
-ghost use Rattle.solv_learn.specs.Collecting.{IsCollected, HasMarked};
+ghost use Rattle.solv_learn.specs.Collecting.{IsCollected, HasMarked, HavePlaces};
 ghost use Rattle.solv_learn.specs.Learning.{IsRefuted, IsLearnt};
-ghost use Rattle.solv_learn.specs.Marks.{has};
+ghost use Rattle.solv_learn.specs.Marks.{has, has_place};
 ghost use Rattle.solv_learn.specs.Refuting.{hint_for, Finds, is_in_use, Refutes};
 
 use crate::marked::Marked;
@@ -85,6 +85,7 @@ impl Search {
         ensures hints { self.new.hints.items ≡ self.old.hints.items }
         ensures marks { OnOk result (HasMarked known.now.lits (lit ∷ []) (has self.old.marked) (has self.new.marked)) }
         ensures collected { OnOk result (IsCollected known.now.lits first last (has self.old.marked) self.old.clause.items self.old.lowest → IsCollected known.now.lits first last (has self.new.marked) self.new.clause.items self.new.lowest) }
+        ensures places { OnOk result (HavePlaces known.now.lits (has self.old.marked) (has_place self.old.marked) → HavePlaces known.now.lits (has self.new.marked) (has_place self.new.marked)) }
         ensures lowest { self.new.lowest ≤ self.old.lowest }
         ensures nothing_kept { length known.now.lits ≤ first → self.new.clause.items ≡ self.old.clause.items }
     {
@@ -94,7 +95,8 @@ impl Search {
         }
         known.keep_apart();
         let place = known.place(fact);
-        self.marked.insert(fact);
+        prove!(place < known.len());
+        self.marked.insert(fact, place);
         if place >= last {
             self.lowest = self.lowest.min(place);
         } else if place >= first {
@@ -118,6 +120,7 @@ impl Search {
         ensures hints { self.new.hints.items ≡ self.old.hints.items }
         ensures marks { OnOk result (HasMarked known.now.lits clause.now (has self.old.marked) (has self.new.marked)) }
         ensures collected { OnOk result (IsCollected known.now.lits first last (has self.old.marked) self.old.clause.items self.old.lowest → IsCollected known.now.lits first last (has self.new.marked) self.new.clause.items self.new.lowest) }
+        ensures places { OnOk result (HavePlaces known.now.lits (has self.old.marked) (has_place self.old.marked) → HavePlaces known.now.lits (has self.new.marked) (has_place self.new.marked)) }
         ensures lowest { self.new.lowest ≤ self.old.lowest }
         ensures nothing_kept { length known.now.lits ≤ first → self.new.clause.items ≡ self.old.clause.items }
     {
@@ -148,6 +151,7 @@ impl Search {
         requires clash { (c : List ℤ) → slice_get (book.now.rules ++ learnt.now.rules) rule ≡ Some c → is_falsified known.now.lits c ≡ true }
         ensures count { self.new.marked.count ≡ self.old.marked.count }
         ensures collected { OnOk result (IsCollected known.now.lits first last (has self.new.marked) self.new.clause.items self.new.lowest) }
+        ensures places { OnOk result (HavePlaces known.now.lits (has self.new.marked) (has_place self.new.marked)) }
         ensures refutes { OnOk result ((look : Hint → Option (List ℤ)) (kept : ℤ → Bool) → Finds look (book.now.rules ++ learnt.now.rules) (length book.now.rules) base → Refutes look kept known.now.lits (length known.now.lits) (has self.new.marked) (reverse self.new.hints.items)) }
         ensures hints { OnOk result (self.new.hints.items ≡ hint_for (length book.now.rules) base rule ∷ []) }
         ensures marks { OnOk result ((c : List ℤ) → slice_get (book.now.rules ++ learnt.now.rules) rule ≡ Some c → (m : ℤ) → is_fact c m ≡ true → has self.new.marked (neg_ℤ m) ≡ true) }
@@ -179,6 +183,7 @@ impl Search {
         requires no_choice { (k : ℕ) → k < length known.now.marks → slice_index known.now.marks k ≡ place → ⊥ }
         ensures count { self.new.marked.count ≡ self.old.marked.count }
         ensures collected { OnOk result (IsCollected known.now.lits first last (has self.old.marked) self.old.clause.items self.old.lowest → IsCollected known.now.lits first last (has self.new.marked) self.new.clause.items self.new.lowest) }
+        ensures places { OnOk result (HavePlaces known.now.lits (has self.old.marked) (has_place self.old.marked) → HavePlaces known.now.lits (has self.new.marked) (has_place self.new.marked)) }
         ensures refutes { OnOk result ((look : Hint → Option (List ℤ)) (kept : ℤ → Bool) → Finds look (book.now.rules ++ learnt.now.rules) (length book.now.rules) base → kept (slice_index_or known.now.lits place (pos 0)) ≡ false → Refutes look kept known.now.lits (place + 1) (has self.old.marked) (reverse self.old.hints.items) → Refutes look kept known.now.lits place (has self.new.marked) (reverse self.new.hints.items)) }
         ensures in_use { OnOk result ((used : ℕ → Bool) → IsReasoned (book.now.rules ++ learnt.now.rules) used known.now → list_all (is_in_use used (length book.now.rules) base (length (book.now.rules ++ learnt.now.rules))) self.old.hints.items ≡ true → list_all (is_in_use used (length book.now.rules) base (length (book.now.rules ++ learnt.now.rules))) self.new.hints.items ≡ true) }
         ensures lowest { OnOk result (self.new.lowest ≤ self.old.lowest) }
@@ -218,6 +223,7 @@ impl Search {
         ensures count { self.new.marked.count ≡ self.old.marked.count }
         ensures there { OnOk result (self.new.lowest < length known.now.lits) }
         ensures collected { OnOk result (IsCollected known.now.lits first last (has self.new.marked) self.new.clause.items self.new.lowest) }
+        ensures places { OnOk result (HavePlaces known.now.lits (has self.old.marked) (has_place self.old.marked) → HavePlaces known.now.lits (has self.new.marked) (has_place self.new.marked)) }
         ensures refutes { OnOk result ((look : Hint → Option (List ℤ)) → Finds look (book.now.rules ++ learnt.now.rules) (length book.now.rules) base → Refutes look (λ _. false) known.now.lits (length known.now.lits) (has self.old.marked) (reverse self.old.hints.items) → Refutes look (λ _. false) known.now.lits (self.new.lowest + 1) (has self.new.marked) (reverse self.new.hints.items)) }
         ensures in_use { OnOk result ((used : ℕ → Bool) → IsReasoned (book.now.rules ++ learnt.now.rules) used known.now → list_all (is_in_use used (length book.now.rules) base (length (book.now.rules ++ learnt.now.rules))) self.old.hints.items ≡ true → list_all (is_in_use used (length book.now.rules) base (length (book.now.rules ++ learnt.now.rules))) self.new.hints.items ≡ true) }
     {
@@ -244,16 +250,17 @@ impl Search {
         requires small { base + length (book.now.rules ++ learnt.now.rules) < 2 ^ 64 }
         requires reasoned { IsReasoned (book.now.rules ++ learnt.now.rules) (λ _. true) known.now }
         requires no_choice { (k : ℕ) → k < length known.now.marks → end ≤ slice_index known.now.marks k }
+        requires places { HavePlaces known.now.lits (has self.old.marked) (has_place self.old.marked) }
         ensures count { self.new.marked.count ≡ self.old.marked.count }
         ensures refutes { OnOk result ((look : Hint → Option (List ℤ)) (kept : ℤ → Bool) → Finds look (book.now.rules ++ learnt.now.rules) (length book.now.rules) base → ((k : ℕ) → k < end → kept (slice_index_or known.now.lits k (pos 0)) ≡ false) → Refutes look kept known.now.lits end (has self.old.marked) (reverse self.old.hints.items) → Refutes look kept known.now.lits 0 (has self.new.marked) (reverse self.new.hints.items)) }
         ensures in_use { OnOk result ((used : ℕ → Bool) → IsReasoned (book.now.rules ++ learnt.now.rules) used known.now → list_all (is_in_use used (length book.now.rules) base (length (book.now.rules ++ learnt.now.rules))) self.old.hints.items ≡ true → list_all (is_in_use used (length book.now.rules) base (length (book.now.rules ++ learnt.now.rules))) self.new.hints.items ≡ true) }
         ensures nothing_kept { OnOk result (self.new.clause.items ≡ self.old.clause.items) }
     {
         let all = known.len();
-        let mut place = end;
-        while place > 0 {
-            place -= 1;
+        let mut ahead = end;
+        while let Some(place) = self.marked.last_below(ahead) {
             self.resolve(known, book, learnt, base, all, all, place)?;
+            ahead = place;
         }
         Ok(())
     }

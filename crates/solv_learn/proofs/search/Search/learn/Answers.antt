@@ -23,6 +23,9 @@ to_unique-requires-clause-there c =
     found_late c.args.known.now.lits r.0 c.mark_at-first.result c.mark_at-last.result (has c.start.new.self.marked) c.start.new.self.clause.items c.start.new.self.lowest c.in_ok-start.ensures.collected
     (c.requires.clash r.0 r.1) (ap (λ v. is_falsified (take v c.args.known.now.lits) r.0) (last_is d) ∙ c.requires.late r.0 r.1) (c.in_ok-start.ensures.marks r.0 r.1)
 
+pub below-requires-clause-places : goal.below-requires-clause-places
+below-requires-clause-places c = c.in_ok-to_unique.ensures.places c.in_ok-start.ensures.places
+
 pub choices_back-back-requires : goal.choices_back-back-requires
 choices_back-back-requires c =
     let d = (goal.at.choices_back-back-requires c).After-mark_at-last in

@@ -1,8 +1,8 @@
 use Rattle.std.proofs.Common.{◌≡◌, ◌∙◌, ◌++◌, ◌∷◌, [], sym, subst, arith}
 use Rattle.std.specs.Prelude.{ℤ, List}
-use Rattle.solv_learn.specs.Collecting.{IsCollected}
-use Rattle.solv_learn.specs.Marks.{has}
-use Rattle.solv_learn.proofs.Collected.{IsAdded, collected_late, collected_between, collected_early}
+use Rattle.solv_learn.specs.Collecting.{IsCollected, HavePlaces}
+use Rattle.solv_learn.specs.Marks.{has, has_place}
+use Rattle.solv_learn.proofs.Collected.{IsAdded, places_more, collected_late, collected_between, collected_early}
 use Rattle.solv_learn.proofs.search.Search.mark.Goals as goal
 use Rattle.solv_learn.proofs.search.Search.mark.Goals.{After-insert}
 
@@ -36,3 +36,15 @@ returns-else-place-first-clause-collected c = λ h.
     let d = (goal.at.returns-else-place-first-clause-collected c).After-insert in
     collected_early c.args.known.now.lits c.negated-fact.result (has c.args.self.now.marked) (has c.insert.new.self) c.place-place.result (added d)
     c.args.first c.args.last c.args.self.now.clause.items c.args.self.now.lowest c.requires.order h (omega arith)
+
+more : (c : After-insert) → HavePlaces c.args.known.now.lits (has c.args.self.now.marked) (has_place c.args.self.now.marked) → HavePlaces c.args.known.now.lits (has c.insert.new.self) (has_place c.insert.new.self)
+more c = places_more c.args.known.now.lits c.negated-fact.result (has c.args.self.now.marked) (has c.insert.new.self) c.place-place.result (added c) (has_place c.args.self.now.marked) (has_place c.insert.new.self) c.insert.ensures.place
+
+pub returns-then-place-last-clause-places : goal.returns-then-place-last-clause-places
+returns-then-place-last-clause-places c = more (goal.at.returns-then-place-last-clause-places c).After-insert
+
+pub returns-in_ok-push-clause-places : goal.returns-in_ok-push-clause-places
+returns-in_ok-push-clause-places c = more (goal.at.returns-in_ok-push-clause-places c).After-insert
+
+pub returns-else-place-first-clause-places : goal.returns-else-place-first-clause-places
+returns-else-place-first-clause-places c = more (goal.at.returns-else-place-first-clause-places c).After-insert

@@ -19,6 +19,7 @@ loop-lit-preserved c =
       hints = c.mark.ensures.hints ∙ c.loop-lit.invariant.hints;
       marks = subst P (sym e) (marked_more T (take i clause) (c.lit-item.result ∷ []) (has c.args.self.now.marked) (has c.loop-lit.self.marked) (has c.mark.new.self.marked) c.loop-lit.invariant.marks c.in_ok-mark.ensures.marks);
       collected = λ h. c.in_ok-mark.ensures.collected (c.loop-lit.invariant.collected h);
+      places = λ h. c.in_ok-mark.ensures.places (c.loop-lit.invariant.places h);
       lowest = let a = c.mark.ensures.lowest in let b = c.loop-lit.invariant.lowest in omega arith;
       nothing_kept = λ h. c.mark.ensures.nothing_kept h ∙ c.loop-lit.invariant.nothing_kept h;
     }

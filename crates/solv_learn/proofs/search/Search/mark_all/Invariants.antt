@@ -1,6 +1,6 @@
 use Rattle.std.proofs.Common.{◌≡◌, ◌≤◌, take, length}
-use Rattle.solv_learn.specs.Collecting.{IsCollected, HasMarked}
-use Rattle.solv_learn.specs.Marks.{has}
+use Rattle.solv_learn.specs.Collecting.{IsCollected, HasMarked, HavePlaces}
+use Rattle.solv_learn.specs.Marks.{has, has_place}
 use Rattle.solv_learn.proofs.search.Search.mark_all.Given as goal
 
 abbrev pub invariant-loop-lit : goal.invariant-loop-lit
@@ -9,6 +9,7 @@ invariant-loop-lit l = record {
   hints : l.self.hints.items ≡ l.initial.self.hints.items;
   marks : HasMarked l.known.lits (take l.lit-index l.clause) (has l.initial.self.marked) (has l.self.marked);
   collected : IsCollected l.known.lits l.first l.last (has l.initial.self.marked) l.initial.self.clause.items l.initial.self.lowest → IsCollected l.known.lits l.first l.last (has l.self.marked) l.self.clause.items l.self.lowest;
+  places : HavePlaces l.known.lits (has l.initial.self.marked) (has_place l.initial.self.marked) → HavePlaces l.known.lits (has l.self.marked) (has_place l.self.marked);
   lowest : l.self.lowest ≤ l.initial.self.lowest;
   nothing_kept : length l.known.lits ≤ l.first → l.self.clause.items ≡ l.initial.self.clause.items;
 }

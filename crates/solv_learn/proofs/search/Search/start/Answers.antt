@@ -1,4 +1,5 @@
 use Rattle.std.proofs.Common.{◌≡◌, ◌∙◌, ◌++◌, ◌∷◌, [], length, sym, ap, true}
+use Rattle.std.proofs.lemmas.Bool.{false≢true}
 use Rattle.solv_pool.specs.Propagation.{is_fact, is_refuted}
 use Rattle.solv_derive.specs.Forced.{is_falsified}
 use Rattle.solv_derive.proofs.Facts.{all_member}
@@ -24,3 +25,6 @@ returns-clause-marks c = λ d found m k.
     let e : d ≡ c.lits_of.result.now = same_clause (c.args.book.now.rules ++ c.args.learnt.now.rules) c.args.rule d c.lits_of.result.now found c.lits_of.ensures in
     let f : is_falsified c.args.known.now.lits d ≡ true = c.requires.clash d found in
     c.in_ok-mark_all.ensures.marks.marks m (ap (λ v. is_fact v m) (sym e) ∙ k) (all_member (is_refuted c.args.known.now.lits) d f m k)
+
+pub returns-clause-places : goal.returns-clause-places
+returns-clause-places c = c.in_ok-mark_all.ensures.places (λ l p q first. absurd (false≢true (sym (c.begin.ensures.marked l) ∙ q)))

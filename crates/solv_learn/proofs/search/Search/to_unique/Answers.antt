@@ -15,6 +15,7 @@ loop-self-preserved c =
       ahead = omega arith;
       within = let w = i.within in omega arith;
       collected = c.in_ok-resolve.ensures.collected i.collected;
+      places = λ h. c.in_ok-resolve.ensures.places (i.places h);
       refutes = λ look finds start.
           let P : ℕ → Type 0 = λ v. Refutes look (λ x. false) c.args.known.now.lits v (has c.loop-self.self.marked) (reverse c.loop-self.self.hints.items) in
           c.in_ok-resolve.ensures.refutes look (λ x. false) finds refl (subst P e (i.refutes look finds start));
