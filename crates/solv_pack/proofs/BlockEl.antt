@@ -63,7 +63,7 @@ module _ (E : El) where
   abbrev pub Has : el_d → Ptr → ℕ → ℕ → List (el_x E) → Type 0
   Has d p n c xs = (el_ptr d ≡ p) × (el_len d ≡ n) × (el_cap d ≡ c) × (el_items d ≡ xs)
 
-  abbrev pub el_make : (a : Hd E) (p : Ptr) (n c : ℕ) (xs : List (el_x E)) → (n ≡ length xs) × (n ≤ c) → c < 2 ^ 63 → (d : el_d) × (el_ptr d ≡ p) × (el_len d ≡ n) × (el_cap d ≡ c) × (el_items d ≡ xs)
+  abbrev pub el_make : (a : Hd E) (p : Ptr) (n c : ℕ) (xs : List (el_x E)) → (n ≡ length xs) × (n ≤ c) → c < 2 ^ 32 → (d : el_d) × (el_ptr d ≡ p) × (el_len d ≡ n) × (el_cap d ≡ c) × (el_items d ≡ xs)
   el_make a p n c xs ok small = (record { ptr = p; len = n; cap = c; alloc = a; items = xs; ok = ok; small = small }, refl, refl, refl, refl)
 
 abbrev pub words_val : (E : El) → Val → Ptr → ℕ → ℕ → Val

@@ -42,7 +42,7 @@ pub words_longer : {X Z : Type 0} (bs : List (Block X Z)) (k : ℕ) (b d : Block
 words_longer bs k b d more lt e = words_set bs k b ∙ ap (λ t. slice_set (words_of bs) k t) (e ∙ ap (λ t. t ++ more) (sym (block_is bs k d lt)))
 
 -- no block has too many words to count
-pub words_few : {X Z : Type 0} (bs : List (Block X Z)) (k : ℕ) → length (block_at (words_of bs) k) < 2 ^ 63
+pub words_few : {X Z : Type 0} (bs : List (Block X Z)) (k : ℕ) → length (block_at (words_of bs) k) < 2 ^ 32
 words_few [] k = omega arith
 words_few (b ∷ bs) zero = omega (arith, b.ok.0, b.ok.1, b.small)
 words_few (b ∷ bs) (suc k) = words_few bs k

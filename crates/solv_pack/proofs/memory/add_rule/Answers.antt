@@ -1,9 +1,13 @@
-use Rattle.std.proofs.Common.{◌≡◌, ◌∙◌, ap, sym, ◌++◌, take, drop, length}
+use Rattle.std.proofs.Common.{◌≡◌, ◌∙◌, ap, sym, ◌++◌, take, drop, length, arith}
 use Rattle.std.proofs.VecSteps.Gaps.{all_new}
 use Rattle.std.proofs.lemmas.List.{length-map}
 use Rattle.solv_pack.specs.Layout.{words_of}
+use Rattle.solv_pack.proofs.Blocks.{words_few}
 use Rattle.solv_pack.proofs.Changes.{IsAdded, added}
 use Rattle.solv_pack.proofs.memory.add_rule.Goals as goal
+
+pub of-requires-clause-start : goal.of-requires-clause-start
+of-requires-clause-start c = omega (arith, c.append-place.ensures.start, words_few c.as_mut_slice.result.now c.append-place.result.block)
 
 module _ (c : goal.After-push_reserved) where
   done : IsAdded (words_of c.args.blocks.now.items) (words_of c.append-place.new.blocks) c.args.places.now.items c.append-place.result c.args.lits.now
@@ -15,10 +19,10 @@ module _ (c : goal.After-push_reserved) where
   now = all_new c.args.blocks.now.len c.args.blocks.now.items c.append-place.new.blocks (c.append-place.auto.blocks ∙ c.as_mut_slice.ensures.len)
 
 pub returns-clause-rules : goal.returns-clause-rules
-returns-clause-rules c = rw (now c, c.push_reserved.ensures.items) (done c).rules
+returns-clause-rules c = rw (now c, c.push_reserved.ensures.items, c.of.ensures) (done c).rules
 
 pub returns-clause-inside : goal.returns-clause-inside
-returns-clause-inside c = rw (now c, c.push_reserved.ensures.items) (done c).inside
+returns-clause-inside c = rw (now c, c.push_reserved.ensures.items, c.of.ensures) (done c).inside
 
 pub returns-clause-behind : goal.returns-clause-behind
-returns-clause-behind c = rw c.push_reserved.ensures.items (done c).behind
+returns-clause-behind c = rw (c.push_reserved.ensures.items, c.of.ensures) (done c).behind

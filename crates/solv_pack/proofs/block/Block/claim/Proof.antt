@@ -129,14 +129,15 @@ module _ (E : El) {M : Type 1} {𝓤 : Ura M} (𝓛 : Logic 𝓤) (at_mem : Memo
       feq_i ! (List Val) (vbool r ∷ []) (vbool r ∷ []) refl $
       move ! (2 ∷ 0 ∷ []) $ join ! $ move ! (1 ∷ 0 ∷ []) $ join ! $ done !
 
-  walk : (c ≡ 0) × (0 < i) × FitsInBlock (R E) i → ent 𝓤 (on_entry 𝓛 (ended E).signature (κ, (κT, (ρ, tt))) (q, (qT, (qρ, tt))) (record { ref_ptr = (rb, ro); ghost_name = γ; now = h }, (i, tt)) (vptr rb ro ∷ [], (vint w64 i ∷ [], tt))) (WpFn 𝓤 H C Λ (fn' E) (vptr rb ro ∷ vint w64 i ∷ []) Post)
+  walk : (c ≡ 0) × (0 < i) × (i < 2 ^ 32) × FitsInBlock (R E) i → ent 𝓤 (on_entry 𝓛 (ended E).signature (κ, (κT, (ρ, tt))) (q, (qT, (qρ, tt))) (record { ref_ptr = (rb, ro); ghost_name = γ; now = h }, (i, tt)) (vptr rb ro ∷ [], (vint w64 i ∷ [], tt))) (WpFn 𝓤 H C Λ (fn' E) (vptr rb ro ∷ vint w64 i ∷ []) Post)
   walk asked =
       let lens : n ≡ length xs = (el_ok E h).0 in
       let le : n ≤ c = (el_ok E h).1 in
       let nothing_there : c ≡ 0 = asked.0 in
       let none : n ≡ 0 = omega arith in
       let pos : 0 < i = asked.1 in
-      let lay : FitsInBlock (R E) i = asked.2 in
+      let small : i < 2 ^ 32 = asked.2 in
+      let lay : FitsInBlock (R E) i = asked.3 in
       let le' : n ≤ i = omega arith in
       let fs : i * s < 2 ^ 64 = wider (i * s) lay.0 in
       qed 𝓛 ((‵ (flft κ q) ⊛ ‵ (flft κT qT) ⊛ ‵ (flft ρ qρ) ⊛ ‵ ftrue) ∷ ‵ (owns (MutRef (named 0) κ (Vr E) ∷ usize ∷ []) (record { ref_ptr = (rb, ro); ghost_name = γ; now = h }, (i, tt)) (vptr rb ro ∷ [], (vint w64 i ∷ [], tt))) ∷ []) ∵ enter ! C Λ (fn' E) (vptr rb ro ∷ vint w64 i ∷ []) _ $
@@ -164,7 +165,7 @@ module _ (E : El) {M : Type 1} {𝓤 : Ura M} (𝓛 : Logic 𝓤) (at_mem : Memo
       takes_back E.al (owning E).name fields 3 (heap_at E) rb ro words a ρ qρ ! tt m (λ hv₁ fa₁. move ! (4 ∷ 1 ∷ []) $ fjoin ! $ move ! (4 ∷ 3 ∷ 1 ∷ 0 ∷ 5 ∷ 6 ∷ []) $ move ! (1 ∷ 0 ∷ []) $
       -- [what was answered; the block; the struct's words; the open borrow and the handle; the two halves of the name; ρ's and κT's tokens]
       answers E.al ! at_mem run a (bare (ty_array τ i)) v
-      (λ b' o' e. let new = el_make E a (block_ptr b' o') n i xs (lens, le') lay.1 in
+      (λ b' o' e. let new = el_make E a (block_ptr b' o') n i xs (lens, le') small in
       move ! (2 ∷ []) $ drop ! $
       lands_as ! e refl (Answer-typed true b' o') $
       first ! $ switches_on ! (get_tag ! (vrt ! refl (fld ! refl (stop !))) (whole !)) $ exec ! C Λ En (arm_body 0 both) Then $
@@ -193,7 +194,7 @@ meets E {𝓤 = 𝓤} 𝓛 at_mem run 𝓣 tk =
     walk_Meets 𝓛 (ended E) (stayed E) (Goes-ref 𝓛 3 0 tt (plain (λ _. Vr E)), (Goes-dropped 𝓛 3 (plain (λ _. usize)) yes (λ κs x f. refl), tt)) (clauses E 𝓛 at_mem run) (WpFn 𝓤 𝓛.H 𝓣.C 𝓣.Λ (fn' E)) (WpFn-mono 𝓤 𝓛.H 𝓛.laws 𝓣 (fn' E))
     (walked 𝓛 (ended E) (stayed E) (clauses E 𝓛 at_mem run) (WpFn 𝓤 𝓛.H 𝓣.C 𝓣.Λ (fn' E)) (λ κs. (mut_vals, (uint_vals w64, tt))) (λ κs. (mut_Tells (named 0) κs.0 (Vr E), (uint_Tells w64, tt)))
     (λ κs qs bounds a g are. let On : SProp 𝓤 = on_entry 𝓛 (ended E).signature κs qs a (mut_vals a.0, (uint_vals w64 a.1.0, tt)) in
-    let Asked : Type 0 = (el_cap E a.0.now ≡ 0) × (0 < a.1.0) × FitsInBlock (R E) a.1.0 in
+    let Asked : Type 0 = (el_cap E a.0.now ≡ 0) × (0 < a.1.0) × (a.1.0 < 2 ^ 32) × FitsInBlock (R E) a.1.0 in
     second 𝓤 (κs.1.0 ⊑ E.row.lives) (κs.1.1.0 ⊑ E.al.row.lives) On (fact 𝓤 Asked) (λ within. needs 𝓤 Asked On
     (walk E 𝓛 at_mem run 𝓣.C 𝓣.Λ (fm_of 𝓤 𝓛.H 𝓛.laws 𝓣) tk κs.0 κs.1.0 κs.1.1.0 qs.0 qs.1.0 qs.1.1.0 bounds within a.0.ref_ptr.0 a.0.ref_ptr.1 a.0.ghost_name a.0.now a.1.0 are.1.0.1))))
 
