@@ -7,11 +7,11 @@ use Rattle.solv_deps.specs.Grammar.{comparison, is_namespace}
 use Rattle.solv_pool.specs.declared.jobs.Action.{Action}
 use Rattle.solv_pool.specs.declared.jobs.Action.TheVariants.{Install, Erase, Update, Lock, Verify, Multiversion, AllowUninstall, Favor, Disfavor, Noop}
 use Rattle.solv_commands.specs.Commas.{between_commas}
-use Rattle.solv_commands.specs.Commands.{Asked, and_then, or_cause, fits_type, file_of, repo_line, system_line, namespace_line, disable_line, evrcmp_line, action, in_brackets, flag_word, before_flags, flag_cause, flags_cause, forcebest, one_package, some_words, all_packages, selection, asked, fits_forcebest, has_job_words, job_line, by_name, by_provides, one_of}
-use Rattle.solv_commands.specs.LateForms.{is_late_word, is_late_action, flags_in, has_late_flag, is_late_job, is_late, NotBuiltIsLate}
+use Rattle.solv_commands.specs.Commands.{Asked, and_then, or_cause, fits_type, file_of, repo_line, system_line, namespace_line, disable_line, evrcmp_line, result_line, action, in_brackets, flag_word, before_flags, flag_cause, flags_cause, forcebest, one_package, some_words, all_packages, selection, asked, fits_forcebest, has_job_words, job_line, by_name, by_provides, one_of}
+use Rattle.solv_commands.specs.LateForms.{is_late_word, is_late_action, flags_in, has_late_flag, is_late_job, NotBuiltIsLate}
 use Rattle.solv_commands.specs.Numbers.{priority}
 use Rattle.solv_commands.specs.declared.causes.Cause.{Cause}
-use Rattle.solv_commands.specs.declared.causes.Cause.TheVariants.{BadWords, BadNumber, BadRepoType, BadNamespace, BadOperator, UnknownJob, UnknownJobFlag, FlagNotHere, UnknownSelection, UnknownLine, NotBuilt}
+use Rattle.solv_commands.specs.declared.causes.Cause.TheVariants.{BadNumber, BadOperator, UnknownJobFlag, NotBuilt}
 
 -- where this is not built, that holds
 abbrev LateOnly : {A : Type 0} → Type 0 → Result A Cause → Type 0
@@ -70,6 +70,12 @@ module _ {P : Type 0} where
   evrcmp_built (a ∷ b ∷ []) = λ h. absurd (cc)
   evrcmp_built (left ∷ sign ∷ right ∷ []) = late_then (or_cause BadOperator (comparison sign)) _ (late_option BadOperator (comparison sign) (λ k. cc)) (λ c h. absurd (cc))
   evrcmp_built (a ∷ b ∷ c ∷ d ∷ words) = λ h. absurd (cc)
+
+  result_built : (words : List (List ℕ)) → LateOnly P (result_line words)
+  result_built [] = λ h. absurd (cc)
+  result_built (a ∷ []) = λ h. absurd (cc)
+  result_built (a ∷ b ∷ []) = λ h. absurd (cc)
+  result_built (a ∷ b ∷ c ∷ words) = λ h. absurd (cc)
 
   one_built : (words : List (List ℕ)) → LateOnly P (one_package words)
   one_built [] = λ h. absurd (cc)
@@ -185,5 +191,5 @@ command_late = λ first words.
     late_if (is (codes "disable")) _ _ (λ e. disable_built words) (λ e.
     late_if (is (codes "evrcmp")) _ _ (λ e. evrcmp_built words) (λ e.
     late_if (is (codes "job")) _ _ (λ e h. or_second word job (rw (e, job_late words h) refl)) (λ e.
-    late_if (is (codes "result")) _ _ (λ e h. or_first word job (or_first (is (codes "result")) (is (codes "nextjob")) e)) (λ e.
-    late_if (is (codes "nextjob")) _ _ (λ e h. or_first word job (or_second (is (codes "result")) (is (codes "nextjob")) e)) (λ e h. absurd (cc))))))))))
+    late_if (is (codes "result")) _ _ (λ e. result_built words) (λ e.
+    late_if (is (codes "nextjob")) _ _ (λ e h. or_first word job e) (λ e h. absurd (cc))))))))))

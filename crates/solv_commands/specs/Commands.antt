@@ -1,5 +1,5 @@
 -- Lines of scripts as commands: what the words of a line say by themselves, or the first cause for which they say nothing.
-use Rattle.std.specs.Prelude.{ℕ, ℤ, ◌-◌, ◌==◌, ◌&&◌, not, Bool, true, false, List, [], ◌∷◌, ◌++◌, codes, length, take, drop, flat_map, nat_le, Option, Some, None, Result, Ok, Err, if◌then◌else◌}
+use Rattle.std.specs.Prelude.{ℕ, ℤ, ◌-◌, ◌==◌, ◌&&◌, Bool, true, false, List, [], ◌∷◌, ◌++◌, codes, length, take, drop, flat_map, nat_le, Option, Some, None, Result, Ok, Err, if◌then◌else◌}
 use Rattle.std.specs.List.{list_any}
 use Rattle.std.specs.Str.{bytes_eq}
 use Rattle.solv_base.specs.declared.comparison.Cmp.{Cmp}
@@ -17,7 +17,7 @@ pub data Asked : Type 0 where
   by_name by_provides one_of : List (List ℕ) → Asked
   all nothing : Asked
 
--- a line: a repository that is empty names no file; a job has its action, its selection, whether the best is forced, and its own text
+-- a line: a repository that is empty names no file; a `result` line has the word of its kinds, and its file; a job has its action, its selection, whether the best is forced, and its own text
 pub data Command : Type 0 where
   repo : List ℕ → ℤ → Option (List ℕ) → Command
   system : List ℕ → List ℕ → Option (List ℕ) → Command
@@ -25,6 +25,7 @@ pub data Command : Type 0 where
   namespace : List ℕ → List (List ℕ) → Command
   disable : List ℕ → Command
   evrcmp : List ℕ → Cmp → List ℕ → Command
+  results : List ℕ → List ℕ → Command
   job : Action → Asked → Bool → List ℕ → Command
 
 abbrev pub and_then : {A B : Type 0} → Result A Cause → (A → Result B Cause) → Result B Cause
@@ -87,6 +88,11 @@ disable_line words = Err BadWords
 abbrev pub evrcmp_line : List (List ℕ) → Result Command Cause
 evrcmp_line (left ∷ sign ∷ right ∷ []) = and_then (or_cause BadOperator (comparison sign)) (λ c. Ok (evrcmp left c right))
 evrcmp_line words = Err BadWords
+
+-- `result KIND,.. FILE`
+abbrev pub result_line : List (List ℕ) → Result Command Cause
+result_line (kinds ∷ file ∷ []) = Ok (results kinds file)
+result_line words = Err BadWords
 
 -- the action that a word is; two are not built yet
 abbrev pub action : List ℕ → Result Action Cause
@@ -208,7 +214,7 @@ job_line (word ∷ words) =
     else Err FlagNotHere))
     else Err BadWords
 
--- a line, by its first word and the others; two lines are not built yet
+-- a line, by its first word and the others; one line is not built yet
 abbrev pub command : List ℕ → List (List ℕ) → Result Command Cause
 command first words =
     if bytes_eq first (codes "repo") then repo_line words
@@ -218,6 +224,6 @@ command first words =
     else (if bytes_eq first (codes "disable") then disable_line words
     else (if bytes_eq first (codes "evrcmp") then evrcmp_line words
     else (if bytes_eq first (codes "job") then job_line words
-    else (if bytes_eq first (codes "result") then Err NotBuilt
+    else (if bytes_eq first (codes "result") then result_line words
     else (if bytes_eq first (codes "nextjob") then Err NotBuilt
     else Err UnknownLine))))))))

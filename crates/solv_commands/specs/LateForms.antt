@@ -6,9 +6,9 @@ use Rattle.solv_commands.specs.Commas.{between_commas}
 use Rattle.solv_commands.specs.Commands.{in_brackets, flag_word, command}
 use Rattle.solv_commands.specs.declared.causes.Cause.TheVariants.{NotBuilt}
 
--- a `result` line, or a `nextjob` line
+-- a `nextjob` line
 abbrev pub is_late_word : List ℕ → Bool
-is_late_word first = bytes_eq first (codes "result") || bytes_eq first (codes "nextjob")
+is_late_word first = bytes_eq first (codes "nextjob")
 
 -- the action `distupgrade`, or `userinstalled`
 abbrev pub is_late_action : List ℕ → Bool

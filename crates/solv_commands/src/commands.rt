@@ -5,7 +5,9 @@ ghost use Rattle.solv_commands.specs.Commands.{command};
 
 use crate::causes::Cause;
 use crate::job_words::read_job;
-use crate::other_words::{read_disable, read_evrcmp, read_namespace, read_repo, read_system};
+use crate::other_words::{
+    read_disable, read_evrcmp, read_namespace, read_repo, read_result, read_system,
+};
 use solv_base::Cmp;
 use solv_pool::Action;
 
@@ -56,6 +58,11 @@ pub enum Command<'a> {
         op: Cmp,
         right: &'a [u8],
     },
+    /// `result KIND,.. FILE`; the layer above reads the kinds, after it has seen whether a `result` line stands before.
+    Results {
+        kinds: &'a [u8],
+        file: &'a [u8],
+    },
     /// `job ACTION SELECTION [FLAG,..]`.
     Job {
         action: Action,
@@ -92,7 +99,10 @@ pub fn read_command<'a>(first: &[u8], words: &'a [&'a [u8]]) -> Result<Command<'
     if first == b"job".as_slice() {
         return read_job(words);
     }
-    if first == b"result".as_slice() || first == b"nextjob".as_slice() {
+    if first == b"result".as_slice() {
+        return read_result(words);
+    }
+    if first == b"nextjob".as_slice() {
         return Err(Cause::NotBuilt);
     }
     Err(Cause::UnknownLine)

@@ -17,7 +17,7 @@ fn comma_at(text: &[u8]) -> usize
 }
 
 /// What stands before the first comma, and what stands behind it, if there is one.
-pub(crate) fn cut_at_comma(text: &[u8]) -> (&[u8], Option<&[u8]>)
+pub fn cut_at_comma(text: &[u8]) -> (&[u8], Option<&[u8]>)
     ensures last { IfNone result.1 (between_commas text.now ≡ result.0.now ∷ []) }
     ensures more { IfSome result.1 (λ behind. between_commas text.now ≡ result.0.now ∷ between_commas behind.now) }
     ensures shorter { IfSome result.1 (λ behind. length behind.now < length text.now) }

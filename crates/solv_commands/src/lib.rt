@@ -4,11 +4,12 @@
 //! - [`read_command`]: what a line says, a [`Command`], of which a job's selection is [`Asked`]. It borrows the words of the line.
 //! - [`line_words`]: the words of a line; [`append_joined`]: words joined by one space.
 //! - [`set_flags`]: what the words of a `solverflags` line do to the flags.
+//! - [`cut_at_comma`]: what commas separate, one text after the other.
 //! - [`read_priority`]: the number that a priority is.
 //! - [`Cause`]: why a line of a script is refused, here or by the layers above.
 //! - [`not_built_is_late`]: the law that only forms which come late are not built.
-//! - Examples on which the definitions are evaluated: [`repo_lines`], [`system_lines`], [`other_lines`], [`job_lines`],
-//!   [`other_actions`], [`job_flags`], [`selections`], [`solver_flags`], [`unknown_lines`], [`priorities_of_words`].
+//! - Examples on which the definitions are evaluated: [`repo_lines`], [`system_lines`], [`other_lines`], [`result_lines`],
+//!   [`job_lines`], [`other_actions`], [`job_flags`], [`selections`], [`solver_flags`], [`unknown_lines`], [`priorities_of_words`].
 #![tactic(auto)]
 
 mod causes;
@@ -25,11 +26,12 @@ mod words_of_lines;
 
 pub use causes::Cause;
 pub use commands::{Asked, Command, read_command};
+pub use commas::cut_at_comma;
 pub use flags_of_solver::set_flags;
 pub use laws::not_built_is_late;
 pub use priorities::read_priority;
 pub use rows::{
-    job_flags, job_lines, other_actions, other_lines, priorities_of_words, repo_lines, selections,
-    solver_flags, system_lines, unknown_lines,
+    job_flags, job_lines, other_actions, other_lines, priorities_of_words, repo_lines,
+    result_lines, selections, solver_flags, system_lines, unknown_lines,
 };
 pub use words_of_lines::{append_joined, line_words};

@@ -2,7 +2,7 @@
 ghost use Rattle.std.specs.Prelude.{◌≡◌, IfOk, IfErr, Ok, Err, map, Option};
 ghost use Rattle.std.specs.Option.{option_map};
 ghost use Rattle.solv_commands.specs.Borrowed.{command_of};
-ghost use Rattle.solv_commands.specs.Commands.{repo_line, system_line, namespace_line, disable_line, evrcmp_line, fits_type, file_of};
+ghost use Rattle.solv_commands.specs.Commands.{repo_line, system_line, namespace_line, disable_line, evrcmp_line, result_line, fits_type, file_of};
 
 use crate::causes::Cause;
 use crate::commands::Command;
@@ -126,5 +126,16 @@ pub(crate) fn read_evrcmp<'a>(words: &'a [&'a [u8]]) -> Result<Command<'a>, Caus
     match comparison_of(sign) {
         Some(op) => Ok(Command::Evrcmp { left, op, right }),
         None => Err(Cause::BadOperator),
+    }
+}
+
+/// `result KIND,.. FILE`.
+pub(crate) fn read_result<'a>(words: &'a [&'a [u8]]) -> Result<Command<'a>, Cause>
+    ensures said { IfOk result (λ c. result_line (map (λ word. word.now) words.now) ≡ Ok (command_of c)) }
+    ensures cause { IfErr result (λ cause. result_line (map (λ word. word.now) words.now) ≡ Err cause) }
+{
+    match words {
+        [kinds, file] => Ok(Command::Results { kinds, file }),
+        _ => Err(Cause::BadWords),
     }
 }

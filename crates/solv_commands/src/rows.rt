@@ -4,7 +4,7 @@ ghost use Rattle.solv_base.specs.declared.comparison.Cmp.{Cmp};
 ghost use Rattle.solv_pool.specs.declared.jobs.Action.TheVariants.{Install, Erase, Update, Lock, Verify, Multiversion, AllowUninstall, Noop, Favor, Disfavor};
 ghost use Rattle.solv_pool.specs.declared.tasks.Flags.{Flags};
 ghost use Rattle.solv_commands.specs.Commas.{between_commas};
-ghost use Rattle.solv_commands.specs.Commands.{repo, system, solverflags, namespace, disable, evrcmp, job, pkg, by_name, by_provides, one_of, all, nothing};
+ghost use Rattle.solv_commands.specs.Commands.{repo, system, solverflags, namespace, disable, evrcmp, results, job, pkg, by_name, by_provides, one_of, all, nothing};
 ghost use Rattle.solv_commands.specs.Examples.{said, set_by};
 ghost use Rattle.solv_commands.specs.Numbers.{priority};
 ghost use Rattle.solv_commands.specs.declared.causes.Cause.TheVariants.{BadWords, BadNumber, BadRepoType, BadNamespace, BadOperator, UnknownJob, UnknownJobFlag, FlagNotHere, UnknownSelection, UnknownLine, NotBuilt};
@@ -40,6 +40,16 @@ pub fn other_lines()
     ensures evrcmp { said (codes "evrcmp 1.0~rc1 < 1.0") ≡ Ok (evrcmp (codes "1.0~rc1") (record { less = true; equal = false; greater = false }) (codes "1.0")) }
     ensures evrcmp_sign { said (codes "evrcmp 1 == 1") ≡ Err BadOperator }
     ensures evrcmp_words { said (codes "evrcmp 1 == 1 1") ≡ Err BadWords }
+{}
+
+/// Results, whose kinds are tried where the state is known: what they are is no matter here, nor what the file's name is.
+pub fn result_lines()
+    ensures file { said (codes "result transaction,order d/a.res") ≡ Ok (results (codes "transaction,order") (codes "d/a.res")) }
+    ensures inline { said (codes "result\tproblems  <inline>\r") ≡ Ok (results (codes "problems") (codes "<inline>")) }
+    ensures any_kind { said (codes "result ,nosuch a.gz") ≡ Ok (results (codes ",nosuch") (codes "a.gz")) }
+    ensures no_file { said (codes "result transaction") ≡ Err BadWords }
+    ensures no_word { said (codes "result") ≡ Err BadWords }
+    ensures blank_between { said (codes "result transaction, problems a") ≡ Err BadWords }
 {}
 
 /// Jobs, with their own texts.
@@ -105,11 +115,10 @@ pub fn solver_flags(flags: solv_pool::Flags)
     ensures two_signs { set_by (codes "!!allowdowngrade") flags ≡ None }
 {}
 
-/// Lines that are unknown, and lines that are not built yet.
+/// Lines that are unknown, and one that is not built yet.
 pub fn unknown_lines()
     ensures unknown { said (codes "poolflags implicitobsoleteusesprovides") ≡ Err UnknownLine }
     ensures case_counts { said (codes "Repo a 1 empty") ≡ Err UnknownLine }
-    ensures result { said (codes "result") ≡ Err NotBuilt }
     ensures nextjob { said (codes "nextjob x") ≡ Err NotBuilt }
 {}
 

@@ -100,8 +100,8 @@ fn skip_back(text: &[u8]) -> &[u8]
     &text[..n]
 }
 
-/// A text without the blanks round it.
-pub(crate) fn trimmed(text: &[u8]) -> &[u8]
+/// A text without the blanks round it: spaces, tabs and carriage returns.
+pub fn trimmed(text: &[u8]) -> &[u8]
     ensures { result.now ≡ trimmed text.now }
 {
     skip_back(skip_front(text))

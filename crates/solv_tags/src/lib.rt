@@ -4,6 +4,7 @@
 //! - [`TagReader`]: the same line by line, for lines that stand in another file.
 //! - [`TagFault`]: the first bad line, with its [`TagCause`].
 //! - [`read_dep`], [`dep_text`], [`Place`], [`DepFault`]: the dependency text that the entries are written in.
+//! - [`trimmed`]: a text without the blanks round it, as vendors and paths are taken.
 //! - Laws: [`same_is_equal`], the entries that stand once are those that are equal; [`entries_have_forms`], each dependency
 //!   has a form that may stand at its place.
 //! - Examples on which the definition is evaluated: [`package_lines`], [`lists_of_a_package`], [`entries_of_packages`],
@@ -23,6 +24,7 @@ mod tag_reader;
 mod testtags;
 mod testtags_rows;
 
+pub use headings::trimmed;
 pub use laws::{entries_have_forms, same_is_equal};
 pub use solv_deps::{DepFault, Place, dep_text, read_dep};
 pub use tag_fault::{TagCause, TagFault};
