@@ -1,4 +1,4 @@
--- The lines of repositories, as pieces of a script.
+-- Lines, and the files that they name, as pieces of a script.
 use Rattle.std.proofs.Common.{◌≡◌, ℕ, Bool, true, false, List, [], ◌∷◌, ◌++◌, Option, Some, None, Result, Ok, Err, refl, sym, ap, subst, ◌∙◌}
 use Rattle.std.specs.Prelude.{IfSome, IsSomeAnd, IsOkAnd, IsOk, OnOk, IfErr, codes, take, length}
 use Rattle.std.specs.Option.{option_map, option_map_or}
@@ -12,7 +12,7 @@ use Rattle.solv_commands.specs.declared.causes.Cause.{Cause}
 use Rattle.solv_commands.specs.declared.causes.Cause.TheVariants.{Compressed, BadFileName}
 use Rattle.solv_script.specs.FileNames.{fetched_name, is_compressed}
 use Rattle.solv_script.specs.FileRuns.{FilesRun, AskedBesides, IsFront, bytes_in, Piece, HasFetched, HasGiven, IsRead, HasEnded, IsWant, IsReadFault, row_piece, lines_piece, script_piece}
-use Rattle.solv_script.specs.Grammar.{Bad, counted, done, asks, at_line, inline, with_lines, file_named, file_row, lines_row, command_row, said_row, row, fetched_given, script_read, script_due}
+use Rattle.solv_script.specs.Grammar.{Bad, Purpose, Named, counted, done, asks, at_line, inline, with_lines, file_named, file_row, named_row, lines_row, command_row, said_row, row, fetched_given, script_read, script_due}
 use Rattle.solv_script.specs.Halts.{IsRefusal}
 use Rattle.solv_script.specs.Rows.{plain_row}
 use Rattle.solv_script.specs.ScriptLines.{ScriptLine, script_lines}
@@ -42,26 +42,26 @@ pub asked_same : (a : Asked) → option_map (λ names. names) a ≡ a
 asked_same None = refl
 asked_same (Some names) = refl
 
-module _ (script : List ℕ) (s : State) (n : ℕ) (file : List ℕ) where
-  pub compressed : is_compressed file ≡ true → file_row script s n file ≡ done (Err (record { file = script; line = n; cause = Compressed }))
+module _ (script : List ℕ) (purpose : Purpose) (s : State) (n : ℕ) (file : List ℕ) where
+  pub compressed : is_compressed file ≡ true → file_row script purpose s n file ≡ done (Err (record { file = script; line = n; cause = Compressed }))
   compressed h = rw h refl
 
-  pub bad_name : is_compressed file ≡ false → (IsUtf8 file → ⊥) → file_row script s n file ≡ done (Err (record { file = script; line = n; cause = BadFileName }))
+  pub bad_name : is_compressed file ≡ false → (IsUtf8 file → ⊥) → file_row script purpose s n file ≡ done (Err (record { file = script; line = n; cause = BadFileName }))
   bad_name h other =
       let no : is_utf8 file ≡ false = elim (is_utf8 file) as (λ b. is_utf8 file ≡ b → b ≡ false) [ true ↦ λ e. absurd (other (IsUtf8-from_is_utf8 file e)) | false ↦ λ e. refl ] refl in
       rw (h, no) refl
 
-  pub good_name : is_compressed file ≡ false → IsUtf8 file → file_row script s n file ≡ asks (fetched_name script file) (fetched_given script s n (fetched_name script file))
+  pub good_name : is_compressed file ≡ false → IsUtf8 file → file_row script purpose s n file ≡ asks (fetched_name script file) (fetched_given script purpose s n (fetched_name script file))
   good_name h utf8 = rw (h, is_utf8-from_IsUtf8 file utf8) refl
 
-module _ (script : List ℕ) (s : State) (n : ℕ) (file : List ℕ) (contents : Contents) (asked : Asked) (faults : ℕ) where
+module _ (script : List ℕ) (purpose : Purpose) (s : State) (n : ℕ) (file : List ℕ) (contents : Contents) (asked : Asked) (faults : ℕ) where
   pub compressed_ended : (fault : ScriptFault) → is_compressed file ≡ true → IsRefusal {A = State} fault (Err (record { file = script; line = n; cause = Compressed }))
-      → HasEnded (row_piece (file_row script s n file)) (quiet contents asked faults) fault
-  compressed_ended fault h refused = rw (compressed script s n file h) (quiet_ended contents asked faults (Err (record { file = script; line = n; cause = Compressed })) fault refused)
+      → HasEnded (row_piece (file_row script purpose s n file)) (quiet contents asked faults) fault
+  compressed_ended fault h refused = rw (compressed script purpose s n file h) (quiet_ended contents asked faults (Err (record { file = script; line = n; cause = Compressed })) fault refused)
 
   pub bad_name_ended : (fault : ScriptFault) → is_compressed file ≡ false → (IsUtf8 file → ⊥) → IsRefusal {A = State} fault (Err (record { file = script; line = n; cause = BadFileName }))
-      → HasEnded (row_piece (file_row script s n file)) (quiet contents asked faults) fault
-  bad_name_ended fault h other refused = rw (bad_name script s n file h other) (quiet_ended contents asked faults (Err (record { file = script; line = n; cause = BadFileName })) fault refused)
+      → HasEnded (row_piece (file_row script purpose s n file)) (quiet contents asked faults) fault
+  bad_name_ended fault h other refused = rw (bad_name script purpose s n file h other) (quiet_ended contents asked faults (Err (record { file = script; line = n; cause = BadFileName })) fault refused)
 
 -- the reading of a piece ended for want of memory before a name was asked for
 pub want_same : (piece : Piece) (files : FilesRun) → files.asked_after ≡ option_map (λ names. names) files.asked_before → files.faults_after ≡ files.faults_before → IsWant piece files
@@ -75,15 +75,15 @@ want_same piece files h quiet = record {
 }
 
 -- a file that was fetched
-module _ (script : List ℕ) (s : State) (n : ℕ) (file : List ℕ) (files : FilesRun) (h : is_compressed file ≡ false) (utf8 : IsUtf8 file) (name : List ℕ) (named : name ≡ fetched_name script file)
+module _ (script : List ℕ) (purpose : Purpose) (s : State) (n : ℕ) (file : List ℕ) (files : FilesRun) (h : is_compressed file ≡ false) (utf8 : IsUtf8 file) (name : List ℕ) (named : name ≡ fetched_name script file)
     (asked : AskedBesides files (name ∷ [])) where
   abbrev next : List ℕ → Result State Bad
-  next = fetched_given script s n name
+  next = fetched_given script purpose s n name
 
-  row_is : file_row script s n file ≡ asks name next
-  row_is = good_name script s n file h utf8 ∙ ap (λ m. asks m (fetched_given script s n m)) (sym named)
+  row_is : file_row script purpose s n file ≡ asks name next
+  row_is = good_name script purpose s n file h utf8 ∙ ap (λ m. asks m (fetched_given script purpose s n m)) (sym named)
 
-  pub fault_read : Rose files.faults_before files.faults_after → IsReadFault (row_piece (file_row script s n file)) files name
+  pub fault_read : Rose files.faults_before files.faults_after → IsReadFault (row_piece (file_row script purpose s n file)) files name
   fault_read rose = rw row_is (not_fetched files name next asked rose)
 
   module _ (start got again read : List ℕ) (empty : start ≡ []) (same_name : again ≡ name) (same_bytes : read ≡ got)
@@ -96,26 +96,26 @@ module _ (script : List ℕ) (s : State) (n : ℕ) (file : List ℕ) (files : Fi
     is_held None = tt
     is_held (Some held) = refl
 
-    there : fetched_given script s n again read ≡ next file_bytes
+    there : fetched_given script purpose s n again read ≡ next file_bytes
     there =
         let whole : IfSome files.contents (λ held. IsSomeAnd (held name) (λ bytes. got ≡ [] ++ take 67108865 bytes))
         = subst (λ (l : List ℕ). IfSome files.contents (λ held. IsSomeAnd (held name) (λ bytes. got ≡ l ++ take 67108865 bytes))) empty bytes in
-        ap (λ m. fetched_given script s n m read) same_name ∙ ap (fetched_given script s n name) same_bytes ∙ of_told files.contents whole
+        ap (λ m. fetched_given script purpose s n m read) same_name ∙ ap (fetched_given script purpose s n name) same_bytes ∙ of_told files.contents whole
       where
-        of_told : (told : Contents) → IfSome told (λ held. IsSomeAnd (held name) (λ bytes. got ≡ [] ++ take 67108865 bytes)) → fetched_given script s n name got ≡ next (option_map_or (λ held. bytes_in held name) told got)
+        of_told : (told : Contents) → IfSome told (λ held. IsSomeAnd (held name) (λ bytes. got ≡ [] ++ take 67108865 bytes)) → fetched_given script purpose s n name got ≡ next (option_map_or (λ held. bytes_in held name) told got)
         of_told None h = refl
-        of_told (Some held) h = file_given script s n name held name got h
+        of_told (Some held) h = file_given script purpose s n name held name got h
 
-    pub fetched_read : (t : State) → fetched_given script s n again read ≡ Ok t → HasGiven (row_piece (file_row script s n file)) files t
+    pub fetched_read : (t : State) → fetched_given script purpose s n again read ≡ Ok t → HasGiven (row_piece (file_row script purpose s n file)) files t
     fetched_read t is = rw row_is (fetched_all files name next asked file_bytes (is_held files.contents) quiet t (sym there ∙ is))
 
-    pub fetched_refused : (fault : ScriptFault) → IsRefusal fault (fetched_given script s n again read) → HasEnded (row_piece (file_row script s n file)) files fault
+    pub fetched_refused : (fault : ScriptFault) → IsRefusal fault (fetched_given script purpose s n again read) → HasEnded (row_piece (file_row script purpose s n file)) files fault
     fetched_refused fault is = rw row_is (fetched_ended files name next asked file_bytes (is_held files.contents) quiet fault (subst (λ (given : Result State Bad). IsRefusal fault given) there is))
 
 -- a line that gives this
 module _ (script : List ℕ) (s : State) (line : ScriptLine) where
-  pub command_then : (c : Command) (t : State) (file : Option (List ℕ)) → plain_row s c ≡ Ok t → file_named c ≡ file → command_row script s line c ≡ lines_row script t line file
-  command_then c t file h k = rw (h, k) refl
+  pub command_then : (c : Command) (t : State) (named : Option Named) → plain_row s c ≡ Ok t → file_named c ≡ named → command_row script s line c ≡ lines_row script t line named
+  command_then c t named h k = rw (h, k) refl
 
   pub said_there : (first : List ℕ) (others : List (List ℕ)) → bytes_eq (take 1 line.text) (codes "#") ≡ false → words_of line.text ≡ first ∷ others → row script s line ≡ said_row script s line (command first others)
   said_there first others h k = rw (h, k) refl
@@ -124,11 +124,12 @@ module _ (script : List ℕ) (s : State) (line : ScriptLine) where
   row_said first others c h k l = said_there first others h k ∙ ap (said_row script s line) l
 
 module _ (script : List ℕ) (s : State) (line : ScriptLine) (contents : Contents) (asked : Asked) (faults : ℕ) where
-  pub inline_ended : (file : List ℕ) (fault : ScriptFault) → bytes_eq file inline ≡ true → IsRefusal fault (with_lines s script line.block) → HasEnded (row_piece (lines_row script s line (Some file))) (quiet contents asked faults) fault
-  inline_ended file fault h refused = rw h (quiet_ended contents asked faults (with_lines s script line.block) fault refused)
+  pub inline_ended : (purpose : Purpose) (file : List ℕ) (fault : ScriptFault) → bytes_eq file inline ≡ true → IsRefusal fault (with_lines purpose s script line.block)
+      → HasEnded (row_piece (named_row script purpose s line file)) (quiet contents asked faults) fault
+  inline_ended purpose file fault h refused = rw h (quiet_ended contents asked faults (with_lines purpose s script line.block) fault refused)
 
-  pub inline_given : (file : List ℕ) (t : State) → bytes_eq file inline ≡ true → with_lines s script line.block ≡ Ok t → HasGiven (row_piece (lines_row script s line (Some file))) (quiet contents asked faults) t
-  inline_given file t h is = rw h (quiet_given contents asked faults (with_lines s script line.block) t is)
+  pub inline_given : (purpose : Purpose) (file : List ℕ) (t : State) → bytes_eq file inline ≡ true → with_lines purpose s script line.block ≡ Ok t → HasGiven (row_piece (named_row script purpose s line file)) (quiet contents asked faults) t
+  inline_given purpose file t h is = rw h (quiet_given contents asked faults (with_lines purpose s script line.block) t is)
 
   pub command_given : (c : Command) (t : State) → plain_row s c ≡ Ok t → file_named c ≡ None → HasGiven (row_piece (command_row script s line c)) (quiet contents asked faults) t
   command_given c t h none = rw (command_then script s line c t None h none) (quiet_given contents asked faults (Ok t) t refl)

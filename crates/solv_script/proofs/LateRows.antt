@@ -13,7 +13,9 @@ use Rattle.solv_deps.specs.declared.fault.DepFault.TheVariants as of_text
 use Rattle.solv_deps.specs.declared.place.Place.TheVariants.{Plain}
 use Rattle.solv_pool.specs.Written.{WrittenTask, WrittenChoice, name, provides}
 use Rattle.solv_pool.specs.declared.universes.Arch.{Arch}
-use Rattle.solv_commands.specs.Commands.{Command, repo, system, solverflags, namespace, disable, evrcmp, job, Asked, pkg, by_name, by_provides, one_of, all, nothing, command, joined}
+use Rattle.solv_commands.specs.Commands as say
+use Rattle.solv_commands.specs.Commands.{Command, repo, system, solverflags, namespace, disable, evrcmp, results, job, Asked, pkg, by_name, by_provides, one_of, all, nothing, command, joined}
+use Rattle.solv_commands.specs.Commas.{between_commas}
 use Rattle.solv_commands.specs.LateForms.{is_late}
 use Rattle.solv_commands.specs.SolverFlags.{with_words}
 use Rattle.solv_commands.specs.declared.causes.Cause.{Cause}
@@ -25,11 +27,13 @@ use Rattle.solv_tags.specs.declared.tag_fault.TagCause.TheVariants as of_tag
 use Rattle.solv_tags.specs.declared.tag_fault.TagFault.{TagFault}
 use Rattle.solv_tags.proofs.OwnCauses.{is_want, is_tag_want, dependency_own, text_own, entered_own, tags_own}
 use Rattle.solv_script.specs.FileNames.{fetched_name, is_compressed}
-use Rattle.solv_script.specs.Grammar.{most_file, most_script, counted, Bad, Row, repository_given, with_lines, file_named, inline, next_bytes, answered, fetched_behind, then_row, at_line, fetched_given, file_row, lines_row, command_row, said_row, words_row, row, begun, lines_given, script_read}
-use Rattle.solv_script.specs.LateLines.{are_late, has_late_line, IsLateLine, NotBuiltIsLateLine}
+use Rattle.solv_script.specs.Grammar.{most_file, most_script, counted, Bad, Row, repository_given, with_lines, file_named, inline, next_bytes, answered, fetched_behind, then_row, at_line, fetched_given, file_row, lines_row, said_row, words_row, row, begun, lines_given, script_read, Purpose, of_packages, of_result, Named}
+use Rattle.solv_script.specs.LateLines.{is_late_kind, names_late_kind, are_late, has_late_line, IsLateLine, NotBuiltIsLateLine}
 use Rattle.solv_script.specs.LineCauses.{cause_of_text, cause_of_tag}
-use Rattle.solv_script.specs.Rows.{and_then, or_cause, or_text_cause, with_repo, arch_named, installed_row, system_row, package_numbers, namespace_row, disabled, disable_row, no_system, one_package, by_dependency, chosen, flags_row, plain_row}
+use Rattle.solv_script.specs.Results.{no_kinds, with_kind, with_kinds, kinds_named}
+use Rattle.solv_script.specs.Rows.{and_then, or_cause, or_text_cause, with_repo, arch_named, installed_row, system_row, package_numbers, namespace_row, disabled, disable_row, no_system, one_package, by_dependency, chosen, flags_row, result_row, plain_row}
 use Rattle.solv_script.specs.ScriptLines.{ScriptLine, script_lines, own_words}
+use Rattle.solv_script.specs.declared.scripts.Kinds.{Kinds}
 use Rattle.solv_script.specs.States.{State, no_line, repo_place, package_number}
 
 -- is a cause another than `NotBuilt`?
@@ -126,14 +130,69 @@ chosen_built task held (one_of words) = then_built (package_numbers task words) 
 chosen_built task held all = tt
 chosen_built task held nothing = tt
 
-plain_built : (s : State) (c : Command) → IfErr (plain_row s c) IsBuilt
-plain_built s (repo text priority file) = repo_built s text priority
-plain_built s (system arch type installed) = system_built s arch type installed
-plain_built s (solverflags words) = flags_built s words
-plain_built s (namespace text words) = namespace_built s text words
-plain_built s (disable word) = disable_built s word
-plain_built s (evrcmp left op right) = tt
-plain_built s (job action asked forcebest text) = then_built (chosen s.task s.held asked) _ (chosen_built s.task s.held asked) (λ c. tt)
+or_first : (a b : Bool) → a ≡ true → (a || b) ≡ true
+or_first a b h = rw h refl
+
+or_second : (a b : Bool) → b ≡ true → (a || b) ≡ true
+or_second true b h = refl
+or_second false b h = h
+
+-- not built only where that holds
+abbrev LateWhere : Type 0 → Cause → Type 0
+LateWhere P c = c ≡ cause.NotBuilt → P
+
+built_where : {A : Type 0} (P : Type 0) (given : Result A Cause) → IfErr given IsBuilt → IfErr given (LateWhere P)
+built_where P (Ok x) h = tt
+built_where P (Err c) h = λ is. let no : is_built c ≡ false = rw is refl in absurd (cc)
+
+kind_late : (kind : List ℕ) (kinds : Kinds) → IfErr (with_kind kind kinds) (LateWhere (is_late_kind kind ≡ true))
+kind_late kind kinds =
+    let is : List ℕ → Bool = bytes_eq kind in
+    let late = LateWhere (is_late_kind kind ≡ true) in
+    either late (is (codes "transaction")) _ _ tt
+    (either late (is (codes "problems")) _ _ tt
+    (either late (is (codes "order")) _ _ tt
+    (either late (is (codes "reason")) _ _ tt
+    (where_true (is (codes "userinstalled")) _ _ (λ e h. or_first (is (codes "userinstalled")) (is (codes "unneeded")) e)
+    (where_true (is (codes "unneeded")) _ _ (λ e h. or_second (is (codes "userinstalled")) (is (codes "unneeded")) e) (λ h. absurd (cc)))))))
+  where
+    where_true : (b : Bool) (c : Cause) (r : Result Kinds Cause) → (b ≡ true → LateWhere (is_late_kind kind ≡ true) c) → IfErr r (LateWhere (is_late_kind kind ≡ true)) → IfErr (if b then Err c else r) (LateWhere (is_late_kind kind ≡ true))
+    where_true true c r h k = h refl
+    where_true false c r h k = k
+
+kinds_late : (words : List (List ℕ)) (kinds : Kinds) → IfErr (with_kinds words kinds) (LateWhere (list_any is_late_kind words ≡ true))
+kinds_late [] kinds = tt
+kinds_late (kind ∷ words) kinds = by_kind (λ x. kinds_late words x) (with_kind kind kinds) (kind_late kind kinds)
+  where
+    behind : (r : Result Kinds Cause) → IfErr r (LateWhere (list_any is_late_kind words ≡ true)) → IfErr r (LateWhere (list_any is_late_kind (kind ∷ words) ≡ true))
+    behind (Ok x) h = tt
+    behind (Err c) h = λ is. or_second (is_late_kind kind) (list_any is_late_kind words) (h is)
+
+    by_kind : ((x : Kinds) → IfErr (with_kinds words x) (LateWhere (list_any is_late_kind words ≡ true))) → (r : Result Kinds Cause) → IfErr r (LateWhere (is_late_kind kind ≡ true))
+        → IfErr (say.and_then r (with_kinds words)) (LateWhere (list_any is_late_kind (kind ∷ words) ≡ true))
+    by_kind later (Ok x) h = behind (with_kinds words x) (later x)
+    by_kind later (Err c) h = λ is. or_first (is_late_kind kind) (list_any is_late_kind words) (h is)
+
+-- a line's command is not built only where it names a kind that comes late
+abbrev LateCommand : Command → Cause → Type 0
+LateCommand c = LateWhere (names_late_kind (Ok c) ≡ true)
+
+result_late : (s : State) (word file : List ℕ) → IfErr (result_row s word) (LateCommand (results word file))
+result_late s word file = either (LateCommand (results word file)) (is_some s.wanted) _ _ (λ h. absurd (cc)) (by_kinds (kinds_named word) (kinds_late (between_commas word) no_kinds))
+  where
+    by_kinds : (r : Result Kinds Cause) → IfErr r (LateCommand (results word file)) → IfErr (and_then r (λ kinds. Ok (record s { kinds = kinds; wanted = Some [] }))) (LateCommand (results word file))
+    by_kinds (Ok x) h = tt
+    by_kinds (Err c) h = h
+
+plain_late : (s : State) (c : Command) → IfErr (plain_row s c) (LateCommand c)
+plain_late s (repo text priority file) = built_where _ _ (repo_built s text priority)
+plain_late s (system arch type installed) = built_where _ _ (system_built s arch type installed)
+plain_late s (solverflags words) = built_where _ _ (flags_built s words)
+plain_late s (namespace text words) = built_where _ _ (namespace_built s text words)
+plain_late s (disable word) = built_where _ _ (disable_built s word)
+plain_late s (evrcmp left op right) = tt
+plain_late s (results kinds file) = result_late s kinds file
+plain_late s (job action asked forcebest text) = built_where _ _ (then_built (chosen s.task s.held asked) _ (chosen_built s.task s.held asked) (λ c. tt))
 
 counted_built : (s : State) (size : ℕ) → IfErr (counted s size) IsBuilt
 counted_built s size = either IsBuilt (nat_lt most_file size) _ _ refl (either IsBuilt (nat_lt most_script (s.bytes + size)) _ _ refl tt)
@@ -146,8 +205,9 @@ repository_built : (s : State) (file : List ℕ) (given : Result Repository TagF
 repository_built s file (Ok r) h = tt
 repository_built s file (Err fault) h = tag_cause_built fault.cause h
 
-lines_built : (s : State) (file : List ℕ) (lines : List (ℕ × List ℕ)) → IfErr (with_lines s file lines) IsBuiltBad
-lines_built s file lines = repository_built s file _ (tags_own _ _ _ lines)
+lines_built : (purpose : Purpose) (s : State) (file : List ℕ) (lines : List (ℕ × List ℕ)) → IfErr (with_lines purpose s file lines) IsBuiltBad
+lines_built of_packages s file lines = repository_built s file _ (tags_own _ _ _ lines)
+lines_built of_result s file lines = tt
 
 module _ (script : List ℕ) where
   at_built : (n : ℕ) (r : Result State Cause) → IfErr r IsBuilt → IfErr (at_line script n r) IsBuiltBad
@@ -158,8 +218,8 @@ module _ (script : List ℕ) where
   then_bad (Ok t) next h k = k t
   then_bad (Err b) next h k = h
 
-  fetched_built : (s : State) (n : ℕ) (file bytes : List ℕ) → IfErr (fetched_given script s n file bytes) IsBuiltBad
-  fetched_built s n file bytes = then_bad (at_line script n (counted s (length bytes))) _ (at_built n (counted s (length bytes)) (counted_built s (length bytes))) (λ t. lines_built t file (numbered_lines bytes))
+  fetched_built : (purpose : Purpose) (s : State) (n : ℕ) (file bytes : List ℕ) → IfErr (fetched_given script purpose s n file bytes) IsBuiltBad
+  fetched_built purpose s n file bytes = then_bad (at_line script n (counted s (length bytes))) _ (at_built n (counted s (length bytes)) (counted_built s (length bytes))) (λ t. lines_built purpose t file (numbered_lines bytes))
 
   module _ (fetched : List (List ℕ)) where
     -- a line that gives no bad one, or one for another cause
@@ -170,21 +230,14 @@ module _ (script : List ℕ) where
     row_if true q r h k = h
     row_if false q r h k = k
 
-    file_built : (s : State) (n : ℕ) (file : List ℕ) → RowBuilt (file_row script s n file)
-    file_built s n file =
+    file_built : (purpose : Purpose) (s : State) (n : ℕ) (file : List ℕ) → RowBuilt (file_row script purpose s n file)
+    file_built purpose s n file =
         row_if (is_compressed file) _ _ refl
-        (row_if (is_utf8 file) _ _ (fetched_built s n (fetched_name script file) (next_bytes fetched)) refl)
+        (row_if (is_utf8 file) _ _ (fetched_built purpose s n (fetched_name script file) (next_bytes fetched)) refl)
 
-    lines_row_built : (s : State) (line : ScriptLine) (file : Option (List ℕ)) → RowBuilt (lines_row script s line file)
+    lines_row_built : (s : State) (line : ScriptLine) (named : Option Named) → RowBuilt (lines_row script s line named)
     lines_row_built s line None = tt
-    lines_row_built s line (Some file) = row_if (bytes_eq file inline) _ _ (lines_built s script line.block) (file_built s line.number file)
-
-    then_row_built : (r : Result State Bad) (next : State → Row) → IfErr r IsBuiltBad → ((t : State) → RowBuilt (next t)) → RowBuilt (then_row r next)
-    then_row_built (Ok t) next h k = k t
-    then_row_built (Err b) next h k = h
-
-    command_built : (s : State) (line : ScriptLine) (c : Command) → RowBuilt (command_row script s line c)
-    command_built s line c = then_row_built (at_line script line.number (plain_row s c)) _ (at_built line.number (plain_row s c) (plain_built s c)) (λ t. lines_row_built t line (file_named c))
+    lines_row_built s line (Some named) = row_if (bytes_eq named.file inline) _ _ (lines_built named.purpose s script line.block) (file_built named.purpose s line.number named.file)
 
   -- a bad line which is not built has a form that comes late, among these lines
   abbrev IsLateAmong : List ScriptLine → Bad → Type 0
@@ -197,12 +250,24 @@ module _ (script : List ℕ) where
   late_first : (line : ScriptLine) (others : List ScriptLine) → are_late (own_words line.text) ≡ true → has_late_line (line ∷ others) line.number ≡ true
   late_first line others h = let same : (line.number == line.number) ≡ true = eq-eqb line.number line.number refl in rw (same, h) refl
 
+  -- a line of these words that is refused so
+  first_late : (line : ScriptLine) (others : List ScriptLine) (first : List ℕ) (words : List (List ℕ)) (c : Cause) → own_words line.text ≡ first ∷ words → are_late (first ∷ words) ≡ true
+      → IsLateAmong (line ∷ others) (record { file = script; line = line.number; cause = c })
+  first_late line others first words c own late = λ unbuilt. record { file = refl; line = late_first line others (rw own late) }
+
+  command_late_row : (fetched : List (List ℕ)) (s : State) (line : ScriptLine) (others : List ScriptLine) (first : List ℕ) (words : List (List ℕ)) (c : Command) → own_words line.text ≡ first ∷ words → command first words ≡ Ok c
+      → (given : Result State Cause) → IfErr given (LateCommand c) → IfErr (answered fetched (then_row (at_line script line.number given) (λ t. lines_row script t line (file_named c)))) (IsLateAmong (line ∷ others))
+  command_late_row fetched s line others first words c own is (Ok t) h = built_late (line ∷ others) _ (lines_row_built fetched t line (file_named c))
+  command_late_row fetched s line others first words c own is (Err x) h = λ unbuilt.
+      let named : names_late_kind (command first words) ≡ true = ap names_late_kind is ∙ h unbuilt in
+      first_late line others first words x own (or_second (is_late first words) (names_late_kind (command first words)) named) unbuilt
+
   said_late : (fetched : List (List ℕ)) (s : State) (line : ScriptLine) (others : List ScriptLine) (first : List ℕ) (words : List (List ℕ)) (said : Result Command Cause) → own_words line.text ≡ first ∷ words → command first words ≡ said
       → IfErr (answered fetched (said_row script s line said)) (IsLateAmong (line ∷ others))
-  said_late fetched s line others first words (Ok c) own is = built_late (line ∷ others) _ (command_built fetched s line c)
+  said_late fetched s line others first words (Ok c) own is = command_late_row fetched s line others first words c own is (plain_row s c) (plain_late s c)
   said_late fetched s line others first words (Err c) own is = λ unbuilt.
       let late : is_late first words ≡ true = command_late first words (is ∙ ap Err unbuilt) in
-      record { file = refl; line = late_first line others (rw own late) }
+      first_late line others first words c own (or_first (is_late first words) (names_late_kind (command first words)) late) unbuilt
 
   words_late : (fetched : List (List ℕ)) (s : State) (line : ScriptLine) (others : List ScriptLine) (words : List (List ℕ)) → own_words line.text ≡ words → IfErr (answered fetched (words_row script s line words)) (IsLateAmong (line ∷ others))
   words_late fetched s line others [] own = tt
@@ -210,10 +275,6 @@ module _ (script : List ℕ) where
 
   late_behind : (line : ScriptLine) (others : List ScriptLine) (n : ℕ) → has_late_line others n ≡ true → has_late_line (line ∷ others) n ≡ true
   late_behind line others n h = or_second (line.number == n && are_late (own_words line.text)) (has_late_line others n) h
-    where
-      or_second : (a b : Bool) → b ≡ true → (a || b) ≡ true
-      or_second true b h = refl
-      or_second false b h = h
 
   later : (line : ScriptLine) (others : List ScriptLine) (given : Result State Bad) → IfErr given (IsLateAmong others) → IfErr given (IsLateAmong (line ∷ others))
   later line others (Ok t) h = tt

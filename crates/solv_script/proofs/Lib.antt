@@ -7,6 +7,7 @@ pub mod ChoiceReadings
 pub mod FetchedFiles
 pub mod TagRefusals
 pub mod FileFolders
+pub mod Expecting
 pub mod FileRows
 pub mod AsciiNames
 pub mod RowForms

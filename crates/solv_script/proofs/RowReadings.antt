@@ -25,19 +25,21 @@ use Rattle.solv_pool.specs.declared.universes.Arch.{Arch}
 use Rattle.solv_commands.specs.Commands.{Asked}
 use Rattle.solv_commands.specs.SolverFlags.{with_words}
 use Rattle.solv_commands.specs.declared.causes.Cause.{Cause}
-use Rattle.solv_commands.specs.declared.causes.Cause.TheVariants.{UnknownFlag, DuplicateRepo, DuplicateSystem, BadArch, BadDisttype, UnknownRepo, UnknownPackage, ScriptTooLong}
+use Rattle.solv_commands.specs.declared.causes.Cause.TheVariants.{UnknownFlag, DuplicateRepo, DuplicateSystem, BadArch, BadDisttype, UnknownRepo, UnknownPackage, DuplicateResult, ScriptTooLong}
 use Rattle.solv_tags.specs.EntryForms.{is_written_formed}
 use Rattle.solv_tags.specs.RepositoryReading.{IsTaken}
 use Rattle.solv_tags.specs.Testtags.{Repository, testtags}
 use Rattle.solv_tags.specs.declared.tag_fault.TagFault.{TagFault}
 use Rattle.solv_script.specs.Finders.{IsFinder}
-use Rattle.solv_script.specs.Grammar.{most_file, most_script, counted, with_lines, repository_given}
+use Rattle.solv_script.specs.Grammar.{of_packages, of_result, most_file, most_script, counted, with_lines, repository_given}
 use Rattle.solv_script.specs.Halts.{IsHalt, halt_of_text}
 use Rattle.solv_script.specs.Readings.{IsReader, HasRead, state_of, written_check}
-use Rattle.solv_script.specs.Rows.{and_then, or_text_cause, with_repo, arch_named, installed_row, system_row, namespace_row, package_numbers, disable_row, evrcmp_row, flags_row, chosen, job_row}
+use Rattle.solv_script.specs.Results.{kinds_named, expected}
+use Rattle.solv_script.specs.Rows.{and_then, or_text_cause, with_repo, arch_named, installed_row, system_row, namespace_row, package_numbers, disable_row, evrcmp_row, result_row, flags_row, chosen, job_row}
 use Rattle.solv_script.specs.States.{State, package_number}
 use Rattle.solv_script.specs.WrittenForms.{HasWrittenForms}
 use Rattle.solv_script.specs.declared.scripts.EvrCheck.{EvrCheck}
+use Rattle.solv_script.specs.declared.scripts.Kinds.{Kinds}
 use Rattle.solv_script.specs.declared.whole.finder.Finder.{Finder}
 use Rattle.solv_script.specs.declared.whole.halts.Halt.{Halt}
 use Rattle.solv_script.specs.declared.whole.halts.Halt.TheVariants as halt
@@ -180,6 +182,26 @@ module _ (r : Reader) (reader : IsReader r) where
     reader = record { closed = reader.closed; forms = reader.forms; system = reader.system; bytes = reader.bytes; finder = reader.finder };
   }
 
+  -- a `result` line stands before
+  pub result_twice : (word : List ℕ) → is_some r.wanted ≡ true → result_row (state_of r) word ≡ Err DuplicateResult
+  unfolding state_of
+  result_twice word h = rw h refl
+
+  -- a kind is unknown
+  pub result_refused : (word : List ℕ) (cause : Cause) → is_some r.wanted ≡ false → kinds_named word ≡ Err cause → result_row (state_of r) word ≡ Err cause
+  unfolding state_of
+  result_refused word cause h k = rw (h, k) refl
+
+  -- the kinds are set
+  pub result_read : (word : List ℕ) (kinds : Kinds) → is_some r.wanted ≡ false → kinds_named word ≡ Ok kinds → HasRead (record r { kinds = kinds; wanted = Some [] }) (result_row (state_of r) word)
+  unfolding state_of
+  result_read word kinds h k = record { is = rw (h, k) refl; reader = record { closed = reader.closed; forms = reader.forms; system = reader.system; bytes = reader.bytes; finder = reader.finder } }
+
+  -- the lines are set that are expected
+  pub expected_read : (file : List ℕ) (lines : List (ℕ × List ℕ)) (found : List (List ℕ)) → found ≡ expected (map (λ line. line.1) lines) → HasRead (record r { wanted = Some found }) (with_lines of_result (state_of r) file lines)
+  unfolding state_of
+  expected_read file lines found h = record { is = rw h refl; reader = record { closed = reader.closed; forms = reader.forms; system = reader.system; bytes = reader.bytes; finder = reader.finder } }
+
   -- no package is disabled
   pub disable_missing : (word : List ℕ) → package_number (written_task r.task) word ≡ None → disable_row (state_of r) word ≡ Err UnknownPackage
   unfolding state_of
@@ -316,7 +338,7 @@ module _ (r : Reader) (reader : IsReader r) where
 
   -- the lines of the last repository, by its number
   pub lines_there : (file : List ℕ) (lines : List (ℕ × List ℕ)) (repo : ℕ) → repo + 1 ≡ length r.task.universe.repos
-      → with_lines (state_of r) file lines ≡ repository_given (state_of r) file (testtags r.task.pool (length r.task.universe.packages) repo lines)
+      → with_lines of_packages (state_of r) file lines ≡ repository_given (state_of r) file (testtags r.task.pool (length r.task.universe.packages) repo lines)
   unfolding state_of
   lines_there file lines repo last =
       let place : length (map (written_repo r.task.pool) r.task.universe.repos) - 1 ≡ repo = rw (length-map r.task.universe.repos (written_repo r.task.pool)) (omega arith) in
@@ -325,7 +347,7 @@ module _ (r : Reader) (reader : IsReader r) where
 
   pub repository_read : (file : List ℕ) (lines : List (ℕ × List ℕ)) (repo : ℕ) (pool : Held) (universe : Contents) → repo + 1 ≡ length r.task.universe.repos → Grows r.task.pool pool → IsOver pool universe
       → IsOkAnd (testtags r.task.pool (length r.task.universe.packages) repo lines) (λ read. IsTaken read pool r.task.universe universe) → (finder : Finder) → ((task : WrittenTask) → IsFinder task finder)
-      → HasRead (record r { task = record r.task { pool = pool; universe = universe }; finder = finder }) (with_lines (state_of r) file lines)
+      → HasRead (record r { task = record r.task { pool = pool; universe = universe }; finder = finder }) (with_lines of_packages (state_of r) file lines)
   repository_read file lines repo pool universe last grows over taken finder any =
       rw (lines_there file lines repo last) (repository_given_read file pool universe (testtags r.task.pool (length r.task.universe.packages) repo lines) grows over taken
       (packages_forms r.task.pool (length r.task.universe.packages) repo lines) finder any)

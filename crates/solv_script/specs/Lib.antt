@@ -3,6 +3,7 @@ pub mod FileNames
 pub mod ScriptLines
 pub mod States
 pub mod LineCauses
+pub mod Results
 pub mod Rows
 pub mod Grammar
 pub mod Halts

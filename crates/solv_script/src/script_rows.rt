@@ -4,9 +4,10 @@ ghost use Rattle.solv_base.specs.Dependency.{one, plain};
 ghost use Rattle.solv_base.specs.Pool.{Held};
 ghost use Rattle.solv_pool.specs.Written as written;
 ghost use Rattle.solv_pool.specs.declared.universes.Arch.TheVariants.{X86_64, I686, Aarch64};
-ghost use Rattle.solv_commands.specs.declared.causes.Cause.TheVariants.{BadWords, BadNumber, BadRepoType, DuplicateRepo, DuplicateSystem, BadArch, BadDisttype, UnknownRepo, UnknownFlag, BadNamespace, UnknownPackage, BadOperator, UnknownJob, UnknownJobFlag, FlagNotHere, UnknownSelection, SystemInJob, UnknownLine, Compressed, BadFileName, FileTooLong, ScriptTooLong, MissingOperand, OperatorNotHere, BadPackageLine, TagBeforePackage, UnclosedBlock, NotBuilt};
-ghost use Rattle.solv_script.specs.Reads.{first_flags};
+ghost use Rattle.solv_commands.specs.declared.causes.Cause.TheVariants.{BadWords, BadNumber, BadRepoType, DuplicateRepo, DuplicateSystem, BadArch, BadDisttype, UnknownRepo, UnknownFlag, BadNamespace, UnknownPackage, BadOperator, DuplicateResult, UnknownKind, UnknownJob, UnknownJobFlag, FlagNotHere, UnknownSelection, SystemInJob, UnknownLine, Compressed, BadFileName, FileTooLong, ScriptTooLong, MissingOperand, OperatorNotHere, BadPackageLine, TagBeforePackage, UnclosedBlock, NotBuilt};
+ghost use Rattle.solv_script.specs.Reads.{default_kinds, first_flags};
 ghost use Rattle.solv_script.specs.Grammar.{counted};
+ghost use Rattle.solv_script.specs.Results.{no_kinds};
 ghost use Rattle.solv_script.specs.States.{no_line};
 ghost use Rattle.solv_script.specs.ScriptExamples.{map_counted, at, bad_line, due_in_folder, file_a, file_b, file_c, given, given_in_folder, map_given, refused, with_packages};
 
@@ -19,7 +20,6 @@ pub fn lines_of_scripts()
     ensures blank_before { refused (codes "\n # a comment") ≡ at 2 UnknownLine }
     ensures first_word { refused (codes "repo a 0 empty\nRepo b 0 empty") ≡ at 2 UnknownLine }
     ensures late { refused (codes "nextjob") ≡ at 1 NotBuilt }
-    ensures results { refused (codes "result") ≡ at 1 NotBuilt }
 {}
 
 /// Repositories.
@@ -83,6 +83,30 @@ pub fn comparisons_of_scripts()
     ensures no_names { map_given (λ s. s.held.names) (given (codes "evrcmp 1.0 < 2")) ≡ Some [] }
 {}
 
+/// Results: their causes in their order, the kinds that are named, and the lines that are expected, which keep their order and
+/// their repeats, but no blanks round them.
+pub fn results_of_scripts()
+    ensures words { refused (codes "result order <inline>\nresult nosuch") ≡ at 2 BadWords }
+    ensures twice { refused (codes "result order <inline>\nresult nosuch a.gz") ≡ at 2 DuplicateResult }
+    ensures twice_late { refused (codes "result order <inline>\nresult unneeded <inline>") ≡ at 2 DuplicateResult }
+    ensures twice_without_lines { refused (codes "result order <inline>\nresult order <inline>") ≡ at 2 DuplicateResult }
+    ensures unknown { refused (codes "result nosuch a.gz") ≡ at 1 UnknownKind }
+    ensures unknown_among_known { refused (codes "result order,nosuch,reason <inline>") ≡ at 1 UnknownKind }
+    ensures empty { refused (codes "result order,,reason <inline>") ≡ at 1 UnknownKind }
+    ensures empty_behind { refused (codes "result order, <inline>") ≡ at 1 UnknownKind }
+    ensures late { refused (codes "result order,userinstalled a.gz") ≡ at 1 NotBuilt }
+    ensures late_either { refused (codes "result unneeded,nosuch <inline>") ≡ at 1 NotBuilt }
+    ensures first_counts { refused (codes "result nosuch,unneeded <inline>") ≡ at 1 UnknownKind }
+    ensures file { refused (codes "result order a.gz") ≡ at 1 Compressed }
+    ensures kinds_without { map_given (λ s. s.kinds) (given (codes "job noop")) ≡ Some default_kinds }
+    ensures all_kinds { map_given (λ s. s.kinds) (given (codes "result reason,order,problems,transaction <inline>")) ≡ Some (record no_kinds { transaction = true; problems = true; order = true; reason = true }) }
+    ensures kind_twice { map_given (λ s. s.kinds) (given (codes "result order,order <inline>")) ≡ Some (record no_kinds { order = true }) }
+    ensures wanted_without { map_given (λ s. s.wanted) (given (codes "job noop")) ≡ Some None }
+    ensures no_line { map_given (λ s. s.wanted) (given (codes "result order <inline>\n\n#>a")) ≡ Some (Some []) }
+    ensures wanted { map_given (λ s. s.wanted) (given (codes "result order <inline>\n#> \tb  c\t\r\n#>\n#># d\n#> \r\n#>a\n#>a\njob noop")) ≡ Some (Some (codes "b  c" ∷ codes "# d" ∷ codes "a" ∷ codes "a" ∷ [])) }
+    ensures no_names { map_given (λ s. s.held.names) (given (codes "result order <inline>\n#>=Pkg: A 1 1 noarch")) ≡ Some [] }
+{}
+
 /// Jobs: their causes in their order, and what they select.
 pub fn jobs_of_scripts()
     ensures words { refused (codes "job instal") ≡ at 1 BadWords }
@@ -144,4 +168,14 @@ pub fn files_of_scripts()
     ensures last_due { due_in_folder (file_a ∷ file_b ∷ []) (codes "repo a 0 testtags a.repo\nrepo b 0 testtags /b.repo\nrepo c 0 testtags a.repo") ≡ codes "d/a.repo" ∷ codes "/b.repo" ∷ [] }
     ensures bad_line_before { due_in_folder [] (codes "foo\nrepo c 0 testtags a.repo") ≡ [] }
     ensures inline { due_in_folder [] (codes "repo a 0 testtags <inline>") ≡ [] }
+{}
+
+/// Files of results: they are due as those of repositories are, count as these do, and no line of theirs is bad.
+pub fn files_of_results()
+    ensures due { due_in_folder (file_b ∷ file_a ∷ []) (codes "result order a.repo\nrepo a 0 testtags /b.repo") ≡ codes "d/a.repo" ∷ codes "/b.repo" ∷ [] }
+    ensures not_due { due_in_folder [] (codes "result nosuch a.repo") ≡ [] }
+    ensures second_not_due { due_in_folder (file_b ∷ []) (codes "result order a.repo\nresult order /b.repo") ≡ codes "d/a.repo" ∷ [] }
+    ensures inline { due_in_folder [] (codes "result order <inline>") ≡ [] }
+    ensures wanted { map_given (λ s. s.wanted) (given_in_folder (codes " b \n\n\ta" ∷ []) (codes "result order a.repo\n#>c")) ≡ Some (Some (codes "b" ∷ codes "a" ∷ [])) }
+    ensures counted { map_given (λ s. s.bytes) (given_in_folder (file_b ∷ []) (codes "result order a.repo")) ≡ Some 44 }
 {}

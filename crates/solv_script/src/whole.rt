@@ -1,8 +1,8 @@
 //! Whole scripts.
 //!
-//! - `reader`: what the lines so far gave. The lines fill it: `repo_lines`, `system_lines`, `namespace_lines`, `job_lines`,
-//!   `other_lines`; `rows` takes a line's command to one of them.
-//! - `files`: a repository's file, by `file_names`; `blocks`: a repository's inline lines.
+//! - `reader`: what the lines so far gave. The lines fill it: `repo_lines`, `system_lines`, `namespace_lines`, `result_lines`,
+//!   `job_lines`, `other_lines`; `rows` takes a line's command to one of them.
+//! - `files`: a file that a line names, by `file_names`; `blocks`: inline lines.
 //! - `lines`: the lines of a script in turn.
 //! - `packages`, `choices`: what packages and dependencies of a line select; `finder`: packages by their texts, with `text_index` where
 //!   many are looked for. `halts`, `refusals`: why no more is read.
@@ -28,6 +28,7 @@ mod packages;
 mod reader;
 mod refusals;
 mod repo_lines;
+mod result_lines;
 mod rows;
 mod system_lines;
 mod text_index;

@@ -1,4 +1,4 @@
-//! The inline lines of a repository.
+//! Inline lines, and those of a repository.
 ghost use Rattle.std.specs.Prelude.{◌≡◌, ◌+◌, ◌<◌, ◌^◌, ◌∷◌, [], ℕ, length, None, OnOk, IfOk, IfErr, IfSome, IfNone, IsOkAnd};
 ghost use Rattle.solv_base.specs.Pool.{Grows};
 ghost use Rattle.solv_io.specs.Lines.{lines_of};
@@ -21,7 +21,7 @@ pub(crate) fn is_inline(line: &[u8]) -> bool
 }
 
 /// The first line of a block without its first two bytes, and the text behind it, if the text begins with one.
-fn next_inline(text: &[u8]) -> Option<(&[u8], &[u8])>
+pub(crate) fn next_inline(text: &[u8]) -> Option<(&[u8], &[u8])>
     ensures line { IfSome result (λ cut. (n : ℕ) → inline_lines n (lines_of text.now) ≡ (n, cut.0.now) ∷ inline_lines (n + 1) (lines_of cut.1.now)) }
     ensures shorter { IfSome result (λ cut. length cut.1.now < length text.now) }
     ensures none { IfNone result ((n : ℕ) → inline_lines n (lines_of text.now) ≡ []) }

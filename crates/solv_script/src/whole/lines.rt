@@ -1,19 +1,19 @@
 //! The lines of a script in turn.
-ghost use Rattle.std.specs.Prelude.{◌≡◌, ◌+◌, ◌<◌, ◌^◌, ◌==◌, ◌∷◌, ℕ, List, Some, take, [], map, codes, length, OnOk, IfErr, IfSome, IfNone};
+ghost use Rattle.std.specs.Prelude.{◌≡◌, ◌+◌, ◌<◌, ◌^◌, ◌==◌, ◌∷◌, ℕ, List, take, [], map, codes, length, OnOk, IfErr, IfSome, IfNone};
 ghost use Rattle.std.specs.Str.{bytes_eq};
 ghost use Rattle.solv_io.specs.Lines.{lines_of};
 ghost use Rattle.solv_commands.specs.Borrowed.{command_of};
 ghost use Rattle.solv_script.specs.FileRuns.{row_piece, lines_piece, HasGiven, HasEnded};
-ghost use Rattle.solv_script.specs.Grammar.{lines_row, command_row, row};
-ghost use Rattle.solv_script.specs.Readings.{IsReader, state_of, line_before};
+ghost use Rattle.solv_script.specs.Grammar.{named_row, command_row, row};
+ghost use Rattle.solv_script.specs.Readings.{IsReader, FitsLast, purpose_of, state_of, line_before};
 ghost use Rattle.solv_script.specs.ScriptLines.{script_lines};
 
 use crate::scripts::ScriptFault;
 use crate::whole::reader::Reader;
 use crate::whole::refusals::{halted, refused};
+use crate::whole::rows::Purpose;
 use solv_commands::{Command, line_words, read_command};
 use solv_io::{Files, split_line};
-use solv_pool::RepoNo;
 
 /// Whether a line is a comment by its first byte.
 fn is_comment(line: &[u8]) -> bool
@@ -34,35 +34,35 @@ fn first_word<'a>(words: &'a [&'a [u8]]) -> Option<(&'a [u8], &'a [&'a [u8]])>
 }
 
 impl Reader {
-    /// Reads the lines of the last repository: those behind the line of this number, or those of a file.
-    fn lines_row<F: Files>(
+    /// Reads the lines of a file that the line of this number names: those behind the line, or those of a file besides.
+    fn named_row<F: Files>(
         &mut self,
         script: &str,
         line: u64,
         behind: &[u8],
-        repo: RepoNo,
+        purpose: Purpose,
         file: &[u8],
         files: &mut F,
     ) -> Result<(), ScriptFault>
         requires reader { IsReader self.old }
-        requires last { repo + 1 ≡ length self.old.task.universe.repos }
+        requires last { FitsLast purpose (length self.old.task.universe.repos) }
         requires fits { line + length behind.now < 2 ^ 64 }
         ensures reader { OnOk result (IsReader self.new) }
-        ensures given { OnOk result ((text : List ℕ) → HasGiven (row_piece (lines_row script.now (state_of self.old) (line_before line text behind.now) (Some file.now)))
+        ensures given { OnOk result ((text : List ℕ) → HasGiven (row_piece (named_row script.now (purpose_of purpose) (state_of self.old) (line_before line text behind.now) file.now))
             (record { contents = F.contents files.old; asked_before = F.asked files.old; asked_after = F.asked files.new; faults_before = F.faults files.old; faults_after = F.faults files.new })
             (state_of self.new)) }
-        ensures ended { IfErr result (λ fault. (text : List ℕ) → HasEnded (row_piece (lines_row script.now (state_of self.old) (line_before line text behind.now) (Some file.now)))
+        ensures ended { IfErr result (λ fault. (text : List ℕ) → HasEnded (row_piece (named_row script.now (purpose_of purpose) (state_of self.old) (line_before line text behind.now) file.now))
             (record { contents = F.contents files.old; asked_before = F.asked files.old; asked_after = F.asked files.new; faults_before = F.faults files.old; faults_after = F.faults files.new })
             fault) }
         ensures contents { F.contents files.new ≡ F.contents files.old }
     {
         if file == b"<inline>".as_slice() {
-            return self.add_block(script, line, repo, behind);
+            return self.take_block(script, line, purpose, behind);
         }
-        self.file_row(script, line, repo, file, files)
+        self.file_row(script, line, purpose, file, files)
     }
 
-    /// Takes a command, and reads the lines of its repository.
+    /// Takes a command, and reads the file that it names.
     fn command_row<F: Files>(
         &mut self,
         script: &str,
@@ -85,7 +85,7 @@ impl Reader {
         match self.plain_row(command) {
             Ok(None) => Ok(()),
             Ok(Some(opened)) => {
-                self.lines_row(script, line, behind, opened.repo, opened.file, files)
+                self.named_row(script, line, behind, opened.purpose, opened.file, files)
             }
             Err(halt) => Err(halted(self.task.pool.alloc(), script, line, halt)),
         }

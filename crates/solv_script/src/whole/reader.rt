@@ -16,7 +16,7 @@ use crate::whole::finder::Finder;
 use crate::whole::halts::Halt;
 use solv_base::Pool;
 use solv_commands::Cause;
-use solv_list::Items;
+use solv_list::{Bytes, Items};
 use solv_pool::{Flags, Task, Universe};
 use std::alloc::Global;
 
@@ -30,6 +30,9 @@ const MOST_SCRIPT: usize = 268_435_456;
 #[derive(Drop)]
 pub(crate) struct Reader {
     pub(crate) task: Task,
+    pub(crate) kinds: Kinds,
+    /// The lines that are expected, where a `result` line stands before.
+    pub(crate) wanted: Option<Items<Bytes>>,
     pub(crate) checks: Items<EvrCheck>,
     /// The bytes of the script and of the files that it named.
     pub(crate) bytes: usize,
@@ -53,6 +56,15 @@ impl Reader {
                 namespaces: Items::wrap(Vec::new(alloc)),
                 jobs: Items::wrap(Vec::new(alloc)),
             },
+            kinds: Kinds {
+                transaction: true,
+                problems: true,
+                order: false,
+                reason: false,
+                userinstalled: false,
+                unneeded: false,
+            },
+            wanted: None,
             checks: Items::wrap(Vec::new(alloc)),
             bytes: 0,
             has_system: false,
@@ -88,15 +100,8 @@ impl Reader {
         self.task.pool.holds_each_once();
         Script {
             task: self.task,
-            kinds: Kinds {
-                transaction: true,
-                problems: true,
-                order: false,
-                reason: false,
-                userinstalled: false,
-                unneeded: false,
-            },
-            wanted: None,
+            kinds: self.kinds,
+            wanted: self.wanted,
             checks: self.checks,
         }
     }

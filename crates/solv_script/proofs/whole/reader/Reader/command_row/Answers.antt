@@ -1,6 +1,6 @@
 use Rattle.std.proofs.Common.{Some, sym}
 use Rattle.solv_commands.specs.Borrowed.{command_of}
-use Rattle.solv_script.specs.Readings.{state_of, line_before}
+use Rattle.solv_script.specs.Readings.{named_of, state_of, line_before}
 use Rattle.solv_script.specs.Rows.{plain_row}
 use Rattle.solv_script.proofs.FileRows.{on_ok, if_err, command_then, command_given, command_halted}
 use Rattle.solv_script.proofs.whole.reader.Reader.command_row.Goals as goal
@@ -10,14 +10,14 @@ returns-in-Ok-Some-clause-given g c =
     let s = state_of c.args.self.now in
     let said = command_of c.args.command.now in
     let named = rw c.in-Ok-Some.field-0-is at c.in-Ok-Some.ensures.file in
-    on_ok c.lines_row.result (λ h text. rw (command_then c.args.script.now s (line_before c.args.line text c.args.behind.now) said (state_of c.plain_row.new.self) (Some c.in-Ok-Some.opened.file.now) c.in-Ok-Some.ensures.ok.is (sym named)) (h text)) c.lines_row.ensures.given
+    on_ok c.named_row.result (λ h text. rw (command_then c.args.script.now s (line_before c.args.line text c.args.behind.now) said (state_of c.plain_row.new.self) (Some (named_of c.in-Ok-Some.opened)) c.in-Ok-Some.ensures.ok.is (sym named)) (h text)) c.named_row.ensures.given
 
 pub returns-in-Ok-Some-clause-ended : goal.returns-in-Ok-Some-clause-ended
 returns-in-Ok-Some-clause-ended g c =
     let s = state_of c.args.self.now in
     let said = command_of c.args.command.now in
     let named = rw c.in-Ok-Some.field-0-is at c.in-Ok-Some.ensures.file in
-    if_err c.lines_row.result (λ fault h text. rw (command_then c.args.script.now s (line_before c.args.line text c.args.behind.now) said (state_of c.plain_row.new.self) (Some c.in-Ok-Some.opened.file.now) c.in-Ok-Some.ensures.ok.is (sym named)) (h text)) c.lines_row.ensures.ended
+    if_err c.named_row.result (λ fault h text. rw (command_then c.args.script.now s (line_before c.args.line text c.args.behind.now) said (state_of c.plain_row.new.self) (Some (named_of c.in-Ok-Some.opened)) c.in-Ok-Some.ensures.ok.is (sym named)) (h text)) c.named_row.ensures.ended
 
 pub returns-in-Err-clause-ended : goal.returns-in-Err-clause-ended
 returns-in-Err-clause-ended g c = λ text.
