@@ -79,7 +79,7 @@ fn first_bad_lines_are_refused(rt: HostRuntime) -> Result<(), Fail> {
         ("disable pkg @SYSTEM\n", "d/case.t:1: UnknownPackage"),
         ("evrcmp 1 2\n", "d/case.t:1: BadWords"),
         ("evrcmp 1 ! 2\n", "d/case.t:1: BadOperator"),
-        ("result foo\n", "d/case.t:1: NotBuilt"),
+        ("result foo\n", "d/case.t:1: BadWords"),
         ("nextjob\n", "d/case.t:1: NotBuilt"),
         ("\r\n#\r\nfoo\r\n", "d/case.t:3: UnknownLine"),
     ];
