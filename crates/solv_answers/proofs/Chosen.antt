@@ -1,30 +1,22 @@
 -- The set of a trail as a list, and as a test.
-use Rattle.std.proofs.Common.{◌≡◌, ◌+◌, ℕ, zero, suc, Bool, true, false, ◌||◌, List, [], ◌∷◌, inl, inr, refl, sym, ap, ◌∙◌, subst, arith, length}
+use Rattle.std.proofs.Common.{◌≡◌, ◌+◌, ℕ, zero, suc, Bool, true, false, ◌||◌, List, ◌∷◌, inl, inr, refl, sym, ap, ◌∙◌, arith, length}
 use Rattle.std.proofs.Math.Path.{fun_ext}
 use Rattle.std.specs.Prelude.{ℤ, pos, nat_lt, nat_le, ◌==◌, filter}
 use Rattle.std.specs.List.{list_all, range_with_len}
 use Rattle.std.specs.List.Sorted.{IsStrictlyIncreasing}
-use Rattle.std.specs.Ordering.{int_eq}
-use Rattle.std.proofs.lemmas.Bool.{and_parts, le-leb, false≢true}
-use Rattle.std.proofs.lemmas.Bool.Decides.{Decides-int_eq, nat_tests}
+use Rattle.std.proofs.lemmas.Bool.{and_parts, le-leb, or_right}
+use Rattle.std.proofs.lemmas.Bool.Decides.{nat_tests}
 use Rattle.std.proofs.lemmas.List.FromFn.{length-range_with_len, get_or-range_with_len}
 use Rattle.std.proofs.lemmas.List.Kept.{IsStrictlyIncreasing-filter}
 use Rattle.solv_pool.specs.Propagation.{is_fact}
 use Rattle.solv_pool.specs.Words.{is_among}
-use Rattle.solv_derive.specs.Range.{names_package, is_over}
+use Rattle.solv_derive.specs.Range.{is_over}
 use Rattle.solv_trail.specs.Asked.{set_of}
 use Rattle.solv_changes.specs.Effects.{IsMemberList}
-use Rattle.solv_trans.proofs.Lists.{or_cases, or_right, both_ways, in_filter, filter_in, in_range, range_in, all_members}
-
-fact_over : (count : ℕ) (l : ℤ) (facts : List ℤ) → is_over count facts ≡ true → is_fact facts l ≡ true → names_package count l ≡ true
-fact_over count l [] o h = absurd (false≢true h)
-fact_over count l (f ∷ fs) o h =
-    let both = and_parts (names_package count f) (is_over count fs) o in
-    let P : ℤ → Type 0 = λ z. names_package count z ≡ true in
-    elim (or_cases (int_eq l f) (is_fact fs l) h) [
-      | inl e ↦ subst P (sym ((Decides-int_eq l f).0 e)) both.0
-      | inr r ↦ fact_over count l fs both.1 r
-    ]
+use Rattle.solv_trans.proofs.Lists.{in_filter, filter_in, in_range, all_members}
+use Rattle.solv_list.proofs.Booleans.{or_cases, same_truth}
+use Rattle.solv_prov.proofs.Obsoleting.{among_range}
+use Rattle.solv_remedy.proofs.Good.{fact_over}
 
 -- the numbers up to the count, the system's first
 abbrev numbers : ℕ → List ℕ
@@ -51,11 +43,11 @@ module _ (count : ℕ) (facts : List ℤ) (over : is_over count facts ≡ true) 
       let fact : is_fact facts (pos (suc k)) ≡ true = sym (ap (λ b. b || is_fact facts (pos (suc k))) other) ∙ h in
       let both = and_parts (nat_lt 0 (suc k)) (nat_le (suc k) count) (fact_over count (pos (suc k)) facts over fact) in
       let few : nat_le (suc k) count ≡ true = both.1 in
-      or_right (0 == suc k) (is_among (range_with_len 1 count) (suc k)) (range_in 1 count (suc k) (omega arith) (grind (arith, nat_tests, few)))
+      or_right (0 == suc k) (is_among (range_with_len 1 count) (suc k)) (among_range 1 count (suc k) (omega arith) (grind (arith, nat_tests, few)))
 
   -- the list says what is known in
   pub same_test : is_among listed ≡ chosen
-  same_test = fun_ext (λ p. both_ways (is_among listed p) (chosen p) (λ h. (in_filter chosen (numbers count) p h).1) (λ h. filter_in chosen (numbers count) p (known_there p h) h))
+  same_test = fun_ext (λ p. same_truth (is_among listed p) (chosen p) (λ h. (in_filter chosen (numbers count) p h).1) (λ h. filter_in chosen (numbers count) p (known_there p h) h))
 
   number_within : (p : ℕ) → is_among (numbers count) p ≡ true → nat_le p count ≡ true
   number_within p h = elim (or_cases (0 == p) (is_among (range_with_len 1 count) p) h) [

@@ -7,7 +7,6 @@ use Rattle.solv_pool.specs.HardRules.{hard_rules}
 use Rattle.solv_pool.specs.JobMarks.{marks_of}
 use Rattle.solv_pool.specs.Propagation.{unit, clashes}
 use Rattle.solv_pool.specs.RuleMeaning.{meets_rule}
-use Rattle.solv_pool.specs.TaskForms.{HasForms}
 use Rattle.solv_pool.specs.Words.{is_among}
 use Rattle.solv_pool.specs.declared.tasks.Task.{Task}
 use Rattle.solv_prov.specs.Index.{IsIndexOf}
@@ -156,7 +155,3 @@ module _ (task : Task) where
   -- where it meets none the answer is a transaction, whatever the budget, 0 included: there is nothing to learn
   abbrev pub IsTransactionUnlessChoicesClash : Answer → Type 0
   IsTransactionUnlessChoicesClash given = choices_clash ≡ false → is_transaction given ≡ true
-
--- the clauses agree with the hard rules of each task whose dependencies have forms that may stand at their places
-abbrev pub HardClausesAgree : Type 0
-HardClausesAgree = (task : Task) → HasForms task → ClausesAgree task

@@ -8,7 +8,7 @@ ghost use Rattle.solv_rules.specs.Making.{asks_in_form};
 ghost use Rattle.solv_decide.specs.Deciding.{IsSolution, IsRefuted};
 ghost use Rattle.solv_remedy.specs.Remedies.{IsMadeFor};
 ghost use Rattle.solv_answers.specs.Answers.{ClausesAgree, IsPrepared, IsAnswer, IsTransactionUnlessChoicesClash, request, all_enabled, hard_core};
-ghost use Rattle.solv_answers.specs.Beginnings.{HasBegun};
+ghost use Rattle.solv_answers.specs.Inner.Beginnings.{HasBegun};
 
 use crate::answers::Answer;
 use crate::preparing::Prepared;

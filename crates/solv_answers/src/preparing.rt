@@ -7,7 +7,8 @@ ghost use Rattle.solv_pool.specs.JobMarks.{marks_of};
 ghost use Rattle.solv_pool.specs.TaskBelonging.{IsClosed};
 ghost use Rattle.solv_prov.specs.Index.{IsIndexOf};
 ghost use Rattle.solv_jobs.specs.Marking.{HasMarks};
-ghost use Rattle.solv_rules.specs.Books.{AreBookable, IsDue, first_fault, read_rules};
+ghost use Rattle.solv_rules.specs.Inner.Books.{AreBookable, IsDue};
+ghost use Rattle.solv_rules.specs.Books.{first_fault, read_rules};
 ghost use Rattle.solv_rules.specs.Making.{asks_in_form};
 ghost use Rattle.solv_answers.specs.Answers.{IsPrepared};
 

@@ -4,11 +4,13 @@ use Rattle.std.specs.Prelude.{slice_get, nat_lt, unwrap_or}
 use Rattle.std.specs.List.{list_all}
 use borrow.Author.Tests.{ltb-true}
 use Rattle.solv_base.specs.Dependency.{Dep, and, or, with, without, if_then, if_else, unless, unless_else, tree, tree_of_node, map_dep, names_in, operands, IsWellFounded}
-use Rattle.solv_base.specs.Pool.{Held, HoldsNames, Grows, text_at, text_tree, text_tree_of_node}
+use Rattle.solv_base.specs.Pool.{Held, HoldsNames, Grows, text_at, text_tree}
+use Rattle.solv_base.specs.Inner.Pool.{text_tree_of_node}
 use Rattle.solv_base.specs.declared.relation.DepNode.{DepNode}
 use Rattle.solv_base.specs.declared.relation.DepNode.TheVariants.{Simple, Versioned, Namespace, And, Or, With, Without, If, IfElse, Unless, UnlessElse}
-use Rattle.solv_base.proofs.Trees.{tree-is, and_left, and_right}
+use Rattle.solv_base.proofs.Trees.{tree-is}
 use Rattle.solv_base.proofs.Places.{before_end}
+use Rattle.solv_list.proofs.Booleans.{first_of_both, second_of_both}
 
 map_dep-node : (f : ℕ → List ℕ) (at : ℕ → Dep ℕ) (node : DepNode) → map_dep f (tree_of_node at node) ≡ text_tree_of_node f (λ o. map_dep f (at o)) node
 map_dep-node f at (Simple n) = refl
@@ -32,18 +34,18 @@ text_tree-is held falls id node at = ap (map_dep (text_at held)) (tree-is held.n
 module _ (f g : ℕ → List ℕ) (at bt : ℕ → Dep (List ℕ)) (low small : ℕ → Bool)
     (texts : (n : ℕ) → low n ≡ true → f n ≡ g n) (same : (o : ℕ) → small o ≡ true → at o ≡ bt o) where
   two : (h : Dep (List ℕ) → Dep (List ℕ) → Dep (List ℕ)) (a b : ℕ) → (small a && (small b && true)) ≡ true → h (at a) (at b) ≡ h (bt a) (bt b)
-  two h a b e = rw (same a (and_left (small a) (small b && true) e), same b (and_left (small b) true (and_right (small a) (small b && true) e)))
+  two h a b e = rw (same a (first_of_both (small a) (small b && true) e), same b (first_of_both (small b) true (second_of_both (small a) (small b && true) e)))
 
   three : (h : Dep (List ℕ) → Dep (List ℕ) → Dep (List ℕ) → Dep (List ℕ)) (a b c : ℕ) → (small a && (small b && (small c && true))) ≡ true → h (at a) (at b) (at c) ≡ h (bt a) (bt b) (bt c)
   three h a b c e =
-      let k = and_right (small a) (small b && (small c && true)) e in
-      rw (same a (and_left (small a) (small b && (small c && true)) e), same b (and_left (small b) (small c && true) k), same c (and_left (small c) true (and_right (small b) (small c && true) k)))
+      let k = second_of_both (small a) (small b && (small c && true)) e in
+      rw (same a (first_of_both (small a) (small b && (small c && true)) e), same b (first_of_both (small b) (small c && true) k), same c (first_of_both (small c) true (second_of_both (small b) (small c && true) k)))
 
   -- a node reads the same over texts and operands that are the same
   pub same-node : (node : DepNode) → list_all low (names_in node) ≡ true → list_all small (operands node) ≡ true → text_tree_of_node f at node ≡ text_tree_of_node g bt node
-  same-node (Simple n) p q = rw (texts n (and_left (low n) true p)) refl
-  same-node (Versioned n c e) p q = rw (texts n (and_left (low n) (low e && true) p), texts e (and_left (low e) true (and_right (low n) (low e && true) p))) refl
-  same-node (Namespace n) p q = rw (texts n (and_left (low n) true p)) refl
+  same-node (Simple n) p q = rw (texts n (first_of_both (low n) true p)) refl
+  same-node (Versioned n c e) p q = rw (texts n (first_of_both (low n) (low e && true) p), texts e (first_of_both (low e) true (second_of_both (low n) (low e && true) p))) refl
+  same-node (Namespace n) p q = rw (texts n (first_of_both (low n) true p)) refl
   same-node (And a b) p q = two and a b q
   same-node (Or a b) p q = two or a b q
   same-node (With a b) p q = two with a b q

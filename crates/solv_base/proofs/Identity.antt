@@ -4,11 +4,12 @@ use Rattle.std.specs.Prelude.{slice_get, nat_lt, unwrap_or}
 use Rattle.std.specs.List.{list_all}
 use Rattle.std.proofs.lemmas.Bool.{ltb-true, lt-ltb}
 use Rattle.solv_base.specs.Dependency.{Dep, names_in, operands}
-use Rattle.solv_base.specs.Pool.{Held, IsPool, text_at, text_tree, text_tree_of_node}
+use Rattle.solv_base.specs.Pool.{Held, IsPool, text_at, text_tree}
+use Rattle.solv_base.specs.Inner.Pool.{text_tree_of_node}
 use Rattle.solv_base.specs.declared.relation.DepNode.{DepNode}
 use Rattle.solv_base.specs.declared.relation.DepNode.TheVariants.{Simple, Versioned, Namespace, And, Or, With, Without, If, IfElse, Unless, UnlessElse}
-use Rattle.solv_base.proofs.Trees.{and_left, and_right}
 use Rattle.solv_base.proofs.Growth.{text_tree-is}
+use Rattle.solv_list.proofs.Booleans.{first_of_both, second_of_both}
 
 there : {X : Type 0} (xs : List X) (d : X) (k : ℕ) → k < length xs → slice_get xs k ≡ Some (unwrap_or (slice_get xs k) d)
 there [] d k h = absurd (omega arith)
@@ -23,10 +24,10 @@ module _ (f : ℕ → List ℕ) (at : ℕ → Dep (List ℕ)) (low small held : 
     (texts : (m n : ℕ) → low m ≡ true → low n ≡ true → f m ≡ f n → m ≡ n)
     (trees : (a b : ℕ) → small a ≡ true → held b ≡ true → at a ≡ at b → a ≡ b) where
   one_of : (s : ℕ → Bool) (a : ℕ) (r : Bool) → (s a && r) ≡ true → s a ≡ true
-  one_of s a r h = and_left (s a) r h
+  one_of s a r h = first_of_both (s a) r h
 
   rest_of : (s : ℕ → Bool) (a : ℕ) (r : Bool) → (s a && r) ≡ true → r ≡ true
-  rest_of s a r h = and_right (s a) r h
+  rest_of s a r h = second_of_both (s a) r h
 
   two : (g : ℕ → ℕ → DepNode) (a b c d : ℕ) → (small a && (small b && true)) ≡ true → (held c && (held d && true)) ≡ true → at a ≡ at c → at b ≡ at d → g a b ≡ g c d
   two g a b c d p q x y =
@@ -74,11 +75,11 @@ node_there (x ∷ xs) zero h = (x, refl)
 node_there (x ∷ xs) (suc k) h = node_there xs k (omega arith)
 
 -- an operand of a held relation is held
-all_held : (n m : ℕ) → n ≤ m → (xs : List ℕ) → list_all (λ x. nat_lt x n) xs ≡ true → list_all (λ x. nat_lt x m) xs ≡ true
+pub all_held : (n m : ℕ) → n ≤ m → (xs : List ℕ) → list_all (λ x. nat_lt x n) xs ≡ true → list_all (λ x. nat_lt x m) xs ≡ true
 all_held n m le [] h = refl
 all_held n m le (x ∷ xs) h =
-    let here : x < n = ltb-true x n (and_left (nat_lt x n) (list_all (λ y. nat_lt y n) xs) h) in
-    rw (lt-ltb x m (omega arith)) (all_held n m le xs (and_right (nat_lt x n) (list_all (λ y. nat_lt y n) xs) h))
+    let here : x < n = ltb-true x n (first_of_both (nat_lt x n) (list_all (λ y. nat_lt y n) xs) h) in
+    rw (lt-ltb x m (omega arith)) (all_held n m le xs (second_of_both (nat_lt x n) (list_all (λ y. nat_lt y n) xs) h))
 
 trees_differ_below : (held : Held) → IsPool held → (bound a b : ℕ) → a < bound → a < length held.nodes → b < length held.nodes → text_tree held a ≡ text_tree held b → a ≡ b
 trees_differ_below held p zero a b h i j e = absurd (omega arith)

@@ -12,8 +12,8 @@ use Rattle.solv_base.specs.declared.comparison.Cmp.{Cmp}
 use Rattle.solv_base.specs.Tokens.{version_cmp}
 use Rattle.solv_base.specs.Evr.{Parts, parts, stem_cmp, parts_cmp, evr_cmp}
 use Rattle.solv_base.specs.Matching.{meets, meets_by_table, meets_by_order, lacks_release, same_side}
-use Rattle.solv_base.specs.Comparisons.{allows, exactly}
-use Rattle.solv_base.specs.VersionLaws.{one_lacks_release}
+use Rattle.solv_base.specs.Inner.Comparisons.{allows, exactly}
+use Rattle.solv_base.specs.Inner.VersionLaws.{one_lacks_release}
 use Rattle.solv_base.proofs.TokenOrder.{stem_total, parts_total, evr_total}
 
 -- the line of the table, where the stems compare as r, the provide alone lacks a release (p) or the wanted side does (q), and the parts compare as s
@@ -98,7 +98,7 @@ covers f g Greater Less t h k left right above below = rw (below refl refl) (or_
 covers f g Greater Equal t h k left right above below = rw (← right refl) (or_right _ _ (or_right _ _ h))
 covers f g Greater Greater t h k left right above below = or_left _ _ (or_right _ _ (and_from _ _ h k))
 
-reversed : (x y : List ℕ) (r : Ordering) → evr_cmp x y ≡ r → evr_cmp y x ≡ ordering_reverse r
+pub reversed : (x y : List ℕ) (r : Ordering) → evr_cmp x y ≡ r → evr_cmp y x ≡ ordering_reverse r
 reversed x y r e = rw (← e) (evr_total.antisymm y x)
 
 pub meets-shared : (f : Cmp) (e : List ℕ) (g : Cmp) (w x : List ℕ) → one_lacks_release e w ≡ false

@@ -4,7 +4,8 @@ use Rattle.std.specs.Prelude.{Vec, not, ◌||◌}
 use Rattle.std.proofs.lemmas.List.{length-map}
 use Rattle.std.specs.List.{list_any, position_or_len}
 use Rattle.std.specs.Str.{bytes_eq}
-use Rattle.solv_base.specs.Pool.{texts_of, is_name, name_id}
+use Rattle.solv_base.specs.Inner.Pool.{texts_of}
+use Rattle.solv_base.specs.Pool.{is_name, name_id}
 
 pub is_name-texts : {A : Type 0} (vs : List (Vec ℕ A)) (text : List ℕ) → list_any (λ v. bytes_eq text v.items) vs ≡ is_name (texts_of vs) text
 is_name-texts [] text = refl

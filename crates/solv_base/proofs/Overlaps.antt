@@ -8,15 +8,16 @@ use Rattle.std.specs.Prelude.{◌&&◌, ◌||◌, Option, Some, None}
 use Rattle.std.specs.declared.cmp.Ordering.{Ordering}
 use Rattle.std.specs.declared.cmp.Ordering.TheVariants.{Less, Equal, Greater}
 use Rattle.solv_base.specs.declared.comparison.Cmp.{Cmp}
-use Rattle.solv_base.specs.Comparisons.{allows, allows_some}
+use Rattle.solv_base.specs.Inner.Comparisons.{allows, allows_some}
 use Rattle.solv_base.specs.Tokens.{tokens, version_cmp}
 use Rattle.solv_base.specs.Evr.{Parts, parts, stem_cmp, parts_cmp, evr_cmp}
 use Rattle.solv_base.specs.Matching.{meets, meets_by_table, meets_by_order, lacks_release, same_side}
-use Rattle.solv_base.specs.VersionLaws.{one_lacks_release, Overlap}
+use Rattle.solv_base.specs.Inner.VersionLaws.{one_lacks_release, Overlap}
 use Rattle.solv_base.proofs.TokenOrder.{version_total, stem_total, evr_total}
 use Rattle.solv_base.proofs.VersionsBetween.{tildes, higher_version, lower_version, still_lower_version}
 use Rattle.solv_base.proofs.LongerTexts.{lengthened, HasNoDash, parts-append}
-use Rattle.solv_base.proofs.MatchingTable.{table-by_order}
+use Rattle.solv_base.proofs.MatchingTable.{table-by_order, reversed}
+use Rattle.solv_list.proofs.Numbers.{then_equal, then_less}
 
 tildes_plain : (n : ℕ) → HasNoDash (tildes n)
 tildes_plain zero k = refl
@@ -26,11 +27,6 @@ tildes_plain (suc n) (suc k) = tildes_plain n k
 caret_plain : (n : ℕ) → HasNoDash (94 ∷ tildes n)
 caret_plain n zero = refl
 caret_plain n (suc k) = tildes_plain n k
-
-then_equal : (r : Ordering) → ordering_then r Equal ≡ r
-then_equal Less = refl
-then_equal Equal = refl
-then_equal Greater = refl
 
 abbrev made : List ℕ → List ℕ → Option (List ℕ) → Parts
 made epoch version release = record { epoch = epoch; version = version; release = release }
@@ -59,11 +55,6 @@ lower_stem Equal Equal v' r r' f ne h = cc
 lower_stem Equal Greater v' r r' f ne h = cc
 lower_stem Greater v v' r r' f ne h = cc
 
-same_stem : (s r r' : Ordering) → (r ≡ Less → r' ≡ Less) → ordering_then s r ≡ Less → ordering_then s r' ≡ Less
-same_stem Less r r' f h = refl
-same_stem Equal r r' f h = f h
-same_stem Greater r r' f h = cc
-
 unequal : (r : Ordering) → r ≡ Less → is_eq r ≡ false
 unequal r h = rw h refl
 
@@ -88,7 +79,7 @@ still_lower_parts n epoch version None epoch' version' (Some release') fits fits
     (still_lower_version version version' n fits) (sym (and-true (is_eq stem)) ∙ one) low
 still_lower_parts n epoch version (Some release) epoch' version' None fits fits' one low = low
 still_lower_parts n epoch version (Some release) epoch' version' (Some release') fits fits' one low =
-    same_stem (ordering_then (version_cmp epoch epoch') (version_cmp version version')) (version_cmp release release') (version_cmp (release ++ 94 ∷ tildes n) release')
+    then_less (ordering_then (version_cmp epoch epoch') (version_cmp version version')) (version_cmp release release') (version_cmp (release ++ 94 ∷ tildes n) release')
     (still_lower_version release release' n fits') low
 
 between : (e w : List ℕ) (n : ℕ) → length (tokens (parts w).version) < n → release_length (parts w).release < n
@@ -108,9 +99,6 @@ by_ordering Greater a b c = c refl
 from_or : {P : Type 0} (x y : Bool) → (x ≡ true → P) → (y ≡ true → P) → (x || y) ≡ true → P
 from_or true y a b h = a refl
 from_or false y a b h = b h
-
-reversed : (x y : List ℕ) (r : Ordering) → evr_cmp x y ≡ r → evr_cmp y x ≡ ordering_reverse r
-reversed x y r e = rw (← e) (evr_total.antisymm y x)
 
 same : (x : List ℕ) → evr_cmp x x ≡ Equal
 same x = tied_itself evr_total x

@@ -6,6 +6,7 @@ use Rattle.std.specs.List.{list_any, position_or_len}
 use Rattle.std.proofs.lemmas.Option.{slice_get-get_or}
 use Rattle.std.proofs.lemmas.List.Sums.{prefix_len_stops}
 use Rattle.solv_base.specs.Pool.{HasOneId}
+use Rattle.solv_list.proofs.Booleans.{true_of_not}
 
 -- `position` gives the first place
 pub position_first : {X : Type 0} (p : X → Bool) (xs : List X) (o : Option ℕ) → o ≡ position p xs → IfSome o (λ i. i ≡ position_or_len p xs)
@@ -16,21 +17,12 @@ position_first p xs (Some i) e =
       | false ↦ λ s. cc
     ] e
 
-true_from_not : (b : Bool) → not b ≡ false → b ≡ true
-true_from_not true h = refl
-true_from_not false h = sym h
-
 -- the place that `position` gives holds the value
 pub place_found : {X : Type 0} (eq : X → X → Bool) (same : (x y : X) → eq x y ≡ true → x ≡ y) (k : X) (xs : List X) (i : ℕ)
     → i ≡ position_or_len (eq k) xs → i < length xs → slice_get xs i ≡ Some k
 place_found eq same k xs i here within =
     let stops : not (eq k (get_or xs i k)) ≡ false = rw here (prefix_len_stops (λ x. not (eq k x)) xs k (rw (← here) within)) in
-    slice_get-get_or xs i k within ∙ ap Some (sym (same k (get_or xs i k) (true_from_not (eq k (get_or xs i k)) stops)))
-
--- the value at the end of a list that is longer by one
-pub at_end : {X : Type 0} (xs : List X) (x : X) → slice_get (xs ++ x ∷ []) (length xs) ≡ Some x
-at_end [] x = refl
-at_end (y ∷ xs) x = at_end xs x
+    slice_get-get_or xs i k within ∙ ap Some (sym (same k (get_or xs i k) (true_of_not (eq k (get_or xs i k)) stops)))
 
 -- the others stay where they were
 pub at_place : {X : Type 0} (xs : List X) (x y : X) (k : ℕ) → slice_get (xs ++ x ∷ []) k ≡ Some y → (slice_get xs k ≡ Some y) ⊎ ((k ≡ length xs) × (x ≡ y))

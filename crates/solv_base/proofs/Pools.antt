@@ -1,23 +1,20 @@
 -- One more text, or one more relation, keeps what holds of every pool.
-use Rattle.std.proofs.Common.{◌≡◌, ℕ, ◌<◌, ◌≤◌, ◌+◌, true, false, List, [], ◌∷◌, ◌++◌, length, Some, refl, ◌∙◌, arith, rules, length-append, inl, inr}
+use Rattle.std.proofs.Common.{◌≡◌, ℕ, ◌<◌, ◌+◌, true, false, List, [], ◌∷◌, ◌++◌, length, Some, refl, ◌∙◌, arith, rules, length-append, inl, inr}
 use Rattle.std.specs.Prelude.{slice_get, nat_lt}
 use Rattle.std.specs.List.{list_all, list_any}
 use Rattle.std.specs.Str.{bytes_eq}
-use Rattle.std.proofs.lemmas.Bool.{ltb-true, lt-ltb}
-use Rattle.std.proofs.lemmas.Slice.Eq.{bytes_eq-Decides}
+use Rattle.std.proofs.lemmas.Bool.{ltb-true}
 use Rattle.solv_base.specs.Dependency.{tree, tree_of_node, names_in, operands, IsWellFounded}
-use Rattle.solv_base.specs.Pool.{Held, HoldsNames, IsPool, Grows, most, is_name, name_id, text_at, text_tree, text_tree_of_node, uses_below}
+use Rattle.solv_base.specs.Pool.{Held, HoldsNames, IsPool, Grows, most, is_name, name_id, text_at, text_tree}
+use Rattle.solv_base.specs.Inner.Pool.{text_tree_of_node, uses_below}
 use Rattle.solv_base.specs.declared.relation.DepNode.{DepNode}
 use Rattle.solv_base.specs.contracts.relation.DepNodePartialEq.TheImpl.{eq-value}
-use Rattle.solv_base.proofs.Places.{at_place, at_end, before_end, place_found, absent, HasOneId_push}
-use Rattle.solv_base.proofs.Trees.{tree-is, same-tree, same-node as same-tree-node, and_left, and_right}
+use Rattle.solv_base.proofs.Places.{at_place, before_end, place_found, absent, HasOneId_push}
+use Rattle.solv_base.proofs.Trees.{tree-is, same-tree, same-node as same-tree-node}
 use Rattle.solv_base.proofs.Growth.{text_tree-is, trees_stay, same-node}
-
-pub same_text : (a b : List ℕ) → bytes_eq a b ≡ true → a ≡ b
-same_text a b h = search (rules, bytes_eq-Decides a b)
-
-pub text_itself : (a : List ℕ) → bytes_eq a a ≡ true
-text_itself a = search (rules, bytes_eq-Decides a a)
+use Rattle.solv_base.proofs.Identity.{all_held}
+use Rattle.solv_list.proofs.Booleans.{first_of_both, second_of_both}
+use Rattle.solv_list.proofs.Lists.{at_end, bytes_themselves, same_bytes}
 
 pub same_relation : (x y : DepNode) → eq-value.it x y ≡ true → x ≡ y
 same_relation x y h = search rules
@@ -25,38 +22,30 @@ same_relation x y h = search rules
 pub relation_itself : (x : DepNode) → eq-value.it x x ≡ true
 relation_itself x = search rules
 
--- a larger bound
-more_below : (m n : ℕ) → m ≤ n → (xs : List ℕ) → list_all (λ x. nat_lt x m) xs ≡ true → list_all (λ x. nat_lt x n) xs ≡ true
-more_below m n le [] h = refl
-more_below m n le (x ∷ xs) h =
-    let here : x < m = ltb-true x m (and_left (nat_lt x m) (list_all (λ y. nat_lt y m) xs) h) in
-    let below : nat_lt x n ≡ true = lt-ltb x n (omega arith) in
-    rw below (more_below m n le xs (and_right (nat_lt x m) (list_all (λ y. nat_lt y m) xs) h))
-
 -- the text at the place of a held name
 pub name_at : (names : List (List ℕ)) (text : List ℕ) (i : ℕ) → i ≡ name_id names text → i < length names → slice_get names i ≡ Some text
-name_at names text i e h = place_found bytes_eq same_text text names i e h
+name_at names text i e h = place_found bytes_eq same_bytes text names i e h
 
 pub IsPool-name : (names : List (List ℕ)) (nodes : List DepNode) (text : List ℕ) → IsPool (record { names = names; nodes = nodes })
     → is_name names text ≡ false → length names < most → IsPool (record { names = names ++ text ∷ []; nodes = nodes })
 IsPool-name names nodes text p fresh room =
     let longer : length (names ++ text ∷ []) ≡ length names + 1 = length-append names (text ∷ []) in
     record {
-      names_once = HasOneId_push names text p.names_once (λ m at. absent bytes_eq text_itself text names m fresh at);
+      names_once = HasOneId_push names text p.names_once (λ m at. absent bytes_eq bytes_themselves text names m fresh at);
       nodes_once = p.nodes_once;
       names_fit = omega arith;
       nodes_fit = p.nodes_fit;
-      names_held = λ id node at. more_below (length names) (length (names ++ text ∷ [])) (omega arith) (names_in node) (p.names_held id node at);
+      names_held = λ id node at. all_held (length names) (length (names ++ text ∷ [])) (omega arith) (names_in node) (p.names_held id node at);
       operands_before = p.operands_before;
     }
 
 module _ (names : List (List ℕ)) (nodes : List DepNode) (node : DepNode) (p : IsPool (record { names = names; nodes = nodes }))
     (uses : uses_below (length names) (length nodes) node ≡ true) where
   uses_names : list_all (λ n. nat_lt n (length names)) (names_in node) ≡ true
-  uses_names = and_left (list_all (λ n. nat_lt n (length names)) (names_in node)) (list_all (λ o. nat_lt o (length nodes)) (operands node)) uses
+  uses_names = first_of_both (list_all (λ n. nat_lt n (length names)) (names_in node)) (list_all (λ o. nat_lt o (length nodes)) (operands node)) uses
 
   uses_nodes : list_all (λ o. nat_lt o (length nodes)) (operands node) ≡ true
-  uses_nodes = and_right (list_all (λ n. nat_lt n (length names)) (names_in node)) (list_all (λ o. nat_lt o (length nodes)) (operands node)) uses
+  uses_nodes = second_of_both (list_all (λ n. nat_lt n (length names)) (names_in node)) (list_all (λ o. nat_lt o (length nodes)) (operands node)) uses
 
   falls : IsWellFounded (nodes ++ node ∷ [])
   falls id other at =

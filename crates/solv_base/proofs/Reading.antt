@@ -7,17 +7,17 @@ use Rattle.solv_base.specs.Dependency.{Dep, missing, tree_within, tree_of_node, 
 use Rattle.solv_base.specs.RelationLaws.{ReadingEnds}
 use Rattle.solv_base.specs.declared.relation.DepNode.{DepNode}
 use Rattle.solv_base.specs.declared.relation.DepNode.TheVariants.{Simple, Versioned, Namespace, And, Or, With, Without, If, IfElse, Unless, UnlessElse}
-use Rattle.solv_base.proofs.Trees.{and_left, and_right}
 use Rattle.solv_base.proofs.Identity.{node_there}
+use Rattle.solv_list.proofs.Booleans.{first_of_both, second_of_both}
 
 module _ (at : ℕ → Dep ℕ) (small : ℕ → Bool) (whole : (o : ℕ) → small o ≡ true → is_whole (at o) ≡ true) where
   two : (a b : ℕ) → (small a && (small b && true)) ≡ true → (is_whole (at a) && is_whole (at b)) ≡ true
-  two a b h = rw (whole a (and_left (small a) (small b && true) h), whole b (and_left (small b) true (and_right (small a) (small b && true) h))) refl
+  two a b h = rw (whole a (first_of_both (small a) (small b && true) h), whole b (first_of_both (small b) true (second_of_both (small a) (small b && true) h))) refl
 
   three : (a b c : ℕ) → (small a && (small b && (small c && true))) ≡ true → (is_whole (at a) && (is_whole (at b) && is_whole (at c))) ≡ true
   three a b c h =
-      let k = and_right (small a) (small b && (small c && true)) h in
-      rw (whole a (and_left (small a) (small b && (small c && true)) h), whole b (and_left (small b) (small c && true) k), whole c (and_left (small c) true (and_right (small b) (small c && true) k))) refl
+      let k = second_of_both (small a) (small b && (small c && true)) h in
+      rw (whole a (first_of_both (small a) (small b && (small c && true)) h), whole b (first_of_both (small b) (small c && true) k), whole c (first_of_both (small c) true (second_of_both (small b) (small c && true) k))) refl
 
   whole_node : (node : DepNode) → list_all small (operands node) ≡ true → is_whole (tree_of_node at node) ≡ true
   whole_node (Simple n) h = refl

@@ -1,12 +1,12 @@
 -- A run of digits or of letters is one token, and the tokens behind it are those of a text of its own.
 use Rattle.std.proofs.Common.{ℕ, ◌≡◌, ◌+◌, ◌<◌, List, [], ◌∷◌, Bool, true, false, take, drop, get_or, refl, ap, ◌∙◌, arith, cond, eqb}
-use Rattle.std.proofs.lemmas.Grind.{common_steps}
 use Rattle.std.proofs.lemmas.Bool.Decides.{nat_tests}
 use Rattle.std.specs.Char.{is_ascii_digit, is_ascii_alphabetic, digit_value}
 use Rattle.std.specs.List.{prefix_len}
 use Rattle.std.specs.Str.Parse.{AllDigits}
 use Rattle.solv_base.specs.Tokens.{Token, letters, digits, tokens, begins, lengthen}
-use Rattle.solv_base.specs.Heads.{stands_in_token}
+use Rattle.solv_base.specs.Inner.Heads.{stands_in_token}
+use Rattle.solv_list.proofs.Lists.{drop_one_more, take_one_more}
 
 tokens-digit : (c : ℕ) (cs : List ℕ) → is_ascii_digit c ≡ true → tokens (c ∷ cs) ≡ cond (begins is_ascii_digit cs) (lengthen c (tokens cs)) (digits (c ∷ []) ∷ tokens cs)
 tokens-digit c cs h =
@@ -20,12 +20,6 @@ tokens-letter c cs h =
     let caret : eqb c 94 ≡ false = grind (arith, nat_tests) in
     let digit : is_ascii_digit c ≡ false = grind (arith, nat_tests) in
     rw (tilde, caret, digit, h) refl
-
-take_one_more : (n c : ℕ) (cs : List ℕ) → take (1 + n) (c ∷ cs) ≡ c ∷ take n cs
-take_one_more n c cs = grind (arith, common_steps)
-
-drop_one_more : (n c : ℕ) (cs : List ℕ) → drop (1 + n) (c ∷ cs) ≡ drop n cs
-drop_one_more n c cs = grind (arith, common_steps)
 
 -- a run of a kind that `run` makes a token of
 run_cut : (kind : ℕ → Bool) (run : List ℕ → Token)

@@ -1,31 +1,24 @@
 -- A relation read as a tree.
-use Rattle.std.proofs.Common.{◌≡◌, ℕ, zero, suc, ◌<◌, Bool, true, false, ◌&&◌, List, Option, Some, None, refl, ap, ◌∙◌, arith, add-one, ◌+◌}
+use Rattle.std.proofs.Common.{◌≡◌, ℕ, zero, suc, ◌<◌, Bool, true, ◌&&◌, List, Option, Some, None, refl, ap, ◌∙◌, arith, add-one, ◌+◌}
 use Rattle.std.specs.Prelude.{slice_get, nat_lt, unwrap_or, option_map}
 use Rattle.std.specs.List.{list_all}
 use borrow.Author.Tests.{ltb-true}
 use Rattle.solv_base.specs.Dependency.{Dep, and, or, with, without, if_then, if_else, unless, unless_else, missing, tree_of_node, tree_within, tree, operands, IsWellFounded}
 use Rattle.solv_base.specs.declared.relation.DepNode.{DepNode}
 use Rattle.solv_base.specs.declared.relation.DepNode.TheVariants.{Simple, Versioned, Namespace, And, Or, With, Without, If, IfElse, Unless, UnlessElse}
-
-pub and_left : (a b : Bool) → (a && b) ≡ true → a ≡ true
-and_left true b h = refl
-and_left false b h = h
-
-pub and_right : (a b : Bool) → (a && b) ≡ true → b ≡ true
-and_right true b h = h
-and_right false b h = cc
+use Rattle.solv_list.proofs.Booleans.{first_of_both, second_of_both}
 
 module _ (at bt : ℕ → Dep ℕ) (small : ℕ → Bool) (same : (o : ℕ) → small o ≡ true → at o ≡ bt o) where
   first : (a : ℕ) (r : Bool) → (small a && r) ≡ true → at a ≡ bt a
-  first a r h = same a (and_left (small a) r h)
+  first a r h = same a (first_of_both (small a) r h)
 
   two : (f : Dep ℕ → Dep ℕ → Dep ℕ) (a b : ℕ) → (small a && (small b && true)) ≡ true → f (at a) (at b) ≡ f (bt a) (bt b)
-  two f a b h = rw (first a (small b && true) h, first b true (and_right (small a) (small b && true) h))
+  two f a b h = rw (first a (small b && true) h, first b true (second_of_both (small a) (small b && true) h))
 
   three : (f : Dep ℕ → Dep ℕ → Dep ℕ → Dep ℕ) (a b c : ℕ) → (small a && (small b && (small c && true))) ≡ true → f (at a) (at b) (at c) ≡ f (bt a) (bt b) (bt c)
   three f a b c h =
-      let k = and_right (small a) (small b && (small c && true)) h in
-      rw (first a (small b && (small c && true)) h, first b (small c && true) k, first c true (and_right (small b) (small c && true) k))
+      let k = second_of_both (small a) (small b && (small c && true)) h in
+      rw (first a (small b && (small c && true)) h, first b (small c && true) k, first c true (second_of_both (small b) (small c && true) k))
 
   pub same-node : (node : DepNode) → list_all small (operands node) ≡ true → tree_of_node at node ≡ tree_of_node bt node
   same-node (Simple n) h = refl

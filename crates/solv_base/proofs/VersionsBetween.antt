@@ -3,11 +3,10 @@ use Rattle.std.proofs.Common.{ℕ, zero, suc, ◌≡◌, ◌<◌, List, [], ◌�
 use Rattle.std.proofs.lemmas.Cmp.{tied_itself, nat_cmp_total, lists_total}
 use Rattle.std.specs.Char.{is_ascii_digit, is_ascii_alphabetic}
 use Rattle.std.specs.Prelude.{◌==◌, if◌then◌else◌}
-use Rattle.std.specs.Ordering.{ordering_then}
 use Rattle.std.specs.Str.Parse.{digits_value}
-use Rattle.std.specs.declared.cmp.Ordering.{Ordering}
 use Rattle.std.specs.declared.cmp.Ordering.TheVariants.{Less, Equal, Greater}
 use Rattle.solv_base.specs.Tokens.{Token, tilde, caret, letters, digits, tokens, lengthen, begins, token_cmp, tokens_cmp, version_cmp}
+use Rattle.solv_list.proofs.Numbers.{then_less}
 
 abbrev pub tildes : ℕ → List ℕ
 tildes zero = []
@@ -82,11 +81,6 @@ tildes_below (suc n) (tilde ∷ ts) h = tildes_below n ts (omega arith)
 tildes_below (suc n) (caret ∷ ts) h = refl
 tildes_below (suc n) (letters cs ∷ ts) h = refl
 tildes_below (suc n) (digits cs ∷ ts) h = refl
-
-then_less : (r s t : Ordering) → (s ≡ Less → t ≡ Less) → ordering_then r s ≡ Less → ordering_then r t ≡ Less
-then_less Less s t f h = refl
-then_less Equal s t f h = f h
-then_less Greater s t f h = cc
 
 still_below : (ss ts : List Token) (n : ℕ) → length ts < n → tokens_cmp ss ts ≡ Less → tokens_cmp (ss ++ caret ∷ tilde_tokens n) ts ≡ Less
 still_below [] [] n h low = cc

@@ -2,10 +2,9 @@
 use Rattle.std.specs.Prelude.{ℕ, ◌==◌, ◌&&◌, Bool, List, [], ◌∷◌, length, drop, take_while, nat_lt, Option, Some, None, if◌then◌else◌}
 use Rattle.std.specs.Char.{is_ascii_digit}
 use Rattle.std.specs.List.{before_last, after_last, list_any}
-use Rattle.std.specs.Option.{option_cmp, option_copied}
+use Rattle.std.specs.Option.{option_cmp}
 use Rattle.std.specs.Ordering.{ordering_then}
 use Rattle.std.specs.declared.cmp.Ordering.{Ordering}
-use Rattle.solv_base.specs.declared.version.Evr.{Evr}
 use Rattle.solv_base.specs.Tokens.{begins, version_cmp}
 
 -- an EVR text as its parts
@@ -13,10 +12,6 @@ pub record Parts : Type 0 where
   pub epoch : List ℕ
   pub version : List ℕ
   pub release : Option (List ℕ)
-
--- the parts that a call gives
-abbrev pub parts_of : Evr → Parts
-parts_of e = record { epoch = e.epoch.now; version = e.version.now; release = option_copied e.release }
 
 -- `-`
 abbrev pub is_dash : ℕ → Bool

@@ -1,10 +1,9 @@
-pub mod Comparisons
 pub mod Tokens
-pub mod Heads
 pub mod Evr
 pub mod Matching
-pub mod VersionLaws
 pub mod Dependency
 pub mod Places
 pub mod Pool
 pub mod RelationLaws
+pub mod Examples
+pub mod Inner

@@ -1,19 +1,14 @@
 -- What a pool holds: one id for each text and for each node.
-use Rattle.std.specs.Prelude.{ℕ, ◌^◌, ◌≡◌, ◌<◌, ◌≤◌, Bool, true, ◌&&◌, List, [], ◌∷◌, ◌++◌, length, map, slice_get, Some, unwrap_or, if◌then◌else◌, nat_lt, Vec}
+use Rattle.std.specs.Prelude.{ℕ, ◌^◌, ◌≡◌, ◌<◌, ◌≤◌, Bool, true, List, [], ◌∷◌, ◌++◌, length, slice_get, Some, unwrap_or, if◌then◌else◌, nat_lt}
 use Rattle.std.specs.List.{list_any, list_all, position_or_len}
 use Rattle.std.specs.Str.{bytes_eq}
 use Rattle.solv_base.specs.declared.relation.DepNode.{DepNode}
-use Rattle.solv_base.specs.Dependency.{Dep, plain, versioned, one, namespace, and, or, with, without, if_then, if_else, unless, unless_else, tree, map_dep, names_in, operands, IsWellFounded}
-use Rattle.solv_base.specs.declared.relation.DepNode.TheVariants.{Simple, Versioned, Namespace, And, Or, With, Without, If, IfElse, Unless, UnlessElse}
+use Rattle.solv_base.specs.Dependency.{Dep, tree, map_dep, names_in, IsWellFounded}
 
 -- the texts of the names and the nodes of the relations, each by its id
 pub record Held : Type 0 where
   pub names : List (List ℕ)
   pub nodes : List DepNode
-
--- the texts that a list of vectors holds
-abbrev pub texts_of : {A : Type 0} → List (Vec ℕ A) → List (List ℕ)
-texts_of vs = map (λ v. v.items) vs
 
 -- the most names, and the most nodes
 abbrev pub most : ℕ
@@ -26,24 +21,6 @@ text_at held n = unwrap_or (slice_get held.names n) []
 -- the tree of a relation over texts
 unfoldable pub text_tree : Held → ℕ → Dep (List ℕ)
 text_tree held id = map_dep (text_at held) (tree held.nodes id)
-
--- a node over texts, its operands being read by `at`
-abbrev pub text_tree_of_node : (ℕ → List ℕ) → (ℕ → Dep (List ℕ)) → DepNode → Dep (List ℕ)
-text_tree_of_node text at (Simple n) = one (plain (text n))
-text_tree_of_node text at (Versioned n c e) = one (versioned (text n) c (text e))
-text_tree_of_node text at (Namespace n) = namespace (text n)
-text_tree_of_node text at (And a b) = and (at a) (at b)
-text_tree_of_node text at (Or a b) = or (at a) (at b)
-text_tree_of_node text at (With a b) = with (at a) (at b)
-text_tree_of_node text at (Without a b) = without (at a) (at b)
-text_tree_of_node text at (If a b) = if_then (at a) (at b)
-text_tree_of_node text at (IfElse a b c) = if_else (at a) (at b) (at c)
-text_tree_of_node text at (Unless a b) = unless (at a) (at b)
-text_tree_of_node text at (UnlessElse a b c) = unless_else (at a) (at b) (at c)
-
--- a node whose names and operands are below these numbers
-abbrev pub uses_below : ℕ → ℕ → DepNode → Bool
-uses_below names nodes node = list_all (λ n. nat_lt n names) (names_in node) && list_all (λ o. nat_lt o nodes) (operands node)
 
 -- is this text a name?
 abbrev pub is_name : List (List ℕ) → List ℕ → Bool

@@ -1,6 +1,7 @@
 //! One id for each text and for each relation.
 ghost use Rattle.std.specs.Prelude.{◌≡◌, ◌∷◌, [], ◌++◌, ◌<◌, ◌↔◌, ℕ, length, slice_get, Some, IfOk, OnOk, OnErr, IsOk, IsErrOf, IsTrue, Contains, true, false, is_some, IfSome};
-ghost use Rattle.solv_base.specs.Pool.{most, is_name, name_id, with_name, texts_of};
+ghost use Rattle.solv_base.specs.Pool.{most, is_name, name_id, with_name};
+ghost use Rattle.solv_base.specs.Inner.Pool.{texts_of};
 
 use crate::relation::{DepId, DepNode, NameId};
 use indexmap::IndexSet;
@@ -28,7 +29,8 @@ pub struct Pool {
 }
 
 impl Model for Pool {
-    ghost use Rattle.solv_base.specs.Pool.{Held, IsPool, texts_of};
+    ghost use Rattle.solv_base.specs.Pool.{Held, IsPool};
+    ghost use Rattle.solv_base.specs.Inner.Pool.{texts_of};
 
     ghost Value = { Held };
 
@@ -61,7 +63,8 @@ fn add_text(alloc: Global, texts: &mut IndexSet<Vec<u8>>, text: &[u8]) -> Result
 }
 
 impl Pool {
-    ghost use Rattle.solv_base.specs.Pool.{Held, IsPool, Grows, uses_below, text_at, text_tree, text_tree_of_node};
+    ghost use Rattle.solv_base.specs.Pool.{Held, IsPool, Grows, text_at, text_tree};
+    ghost use Rattle.solv_base.specs.Inner.Pool.{uses_below, text_tree_of_node};
     ghost use Rattle.solv_base.specs.Dependency.{tree, tree_of_node, package_wise as is_package_wise};
 
     /// An empty pool. It takes no memory.

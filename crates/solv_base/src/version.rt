@@ -6,9 +6,10 @@ ghost use Rattle.std.specs.List.{list_any, before_last, after_last};
 ghost use Rattle.std.specs.Cmp.{IsTotalOrder};
 ghost use Rattle.std.specs.Option.{option_cmp, option_copied};
 ghost use Rattle.solv_base.specs.Tokens.{version_cmp};
-ghost use Rattle.solv_base.specs.Evr.{parts, parts_after, parts_of, stem_cmp, parts_cmp, evr_cmp, is_dash};
+ghost use Rattle.solv_base.specs.Evr.{parts, parts_after, stem_cmp, parts_cmp, evr_cmp, is_dash};
+ghost use Rattle.solv_base.specs.Inner.Evr.{parts_of};
 ghost use Rattle.solv_base.specs.Matching.{meets, same_side, meets_by_table, meets_by_order};
-ghost use Rattle.solv_base.specs.VersionLaws.{IsReflexive, HasEqualsAlike, MeetsBothWays, ExactMeetsByOrder, MeetsByOverlap};
+ghost use Rattle.solv_base.specs.Inner.VersionLaws.{IsReflexive, HasEqualsAlike, MeetsBothWays, ExactMeetsByOrder, MeetsByOverlap};
 
 use crate::comparison::Cmp;
 use crate::version::tokens::{compare_tokens, digits_len};

@@ -1,7 +1,8 @@
 //! The order and the matching of versions on examples: each clause is computed from the definitions.
 ghost use Rattle.std.specs.Prelude.{◌≡◌, ◌∷◌, [], codes, true, false, Some, None};
 ghost use Rattle.std.specs.declared.cmp.Ordering.TheVariants.{Less, Equal, Greater};
-ghost use Rattle.solv_base.specs.Comparisons.{below, at_most, exactly, at_least, above, other_than};
+ghost use Rattle.solv_base.specs.Examples.Comparisons.{below, at_most, at_least, above, other_than};
+ghost use Rattle.solv_base.specs.Inner.Comparisons.{exactly};
 ghost use Rattle.solv_base.specs.Tokens.{tilde, caret, letters, digits, tokens};
 ghost use Rattle.solv_base.specs.Evr.{parts, evr_cmp};
 ghost use Rattle.solv_base.specs.Matching.{meets};

@@ -1,5 +1,4 @@
 mod Places
-mod Turns
 mod Tops
 mod Puts
 mod Rounds

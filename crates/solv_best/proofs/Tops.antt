@@ -1,13 +1,13 @@
 -- The top of a name beats exactly what some package of the name beats.
-use Rattle.std.proofs.Common.{◌≡◌, ℕ, ℤ, Bool, true, false, not, cond, ◌&&◌, ◌||◌, List, [], ◌∷◌, Option, Some, None, refl, sym, ap, subst, ◌∙◌, ◌⊎◌, inl, inr, eq-eqb}
+use Rattle.std.proofs.Common.{◌≡◌, ℕ, ℤ, Bool, true, false, not, cond, ◌&&◌, ◌||◌, List, [], ◌∷◌, Option, Some, None, refl, sym, ap, subst, ◌∙◌, inl, inr, eq-eqb}
 use Rattle.std.specs.Prelude.{filter, fold, ◌==◌, nat_lt, int_lt, nat_eq, is_some}
 use Rattle.std.specs.Cmp.{IsTotalOrder}
 use Rattle.std.specs.Option.{option_eq}
-use Rattle.std.specs.List.{list_any, list_all}
+use Rattle.std.specs.List.{list_any}
 use Rattle.std.specs.Ordering.{is_gt, is_eq, int_eq, int_cmp, nat_cmp, ordering_then, ordering_reverse}
 use Rattle.std.specs.declared.cmp.Ordering.{Ordering}
 use Rattle.std.specs.declared.cmp.Ordering.TheVariants.{Less, Equal, Greater}
-use Rattle.std.proofs.lemmas.Bool.{eqb-true}
+use Rattle.std.proofs.lemmas.Bool.{eqb-true, and_from, or_left, or_right}
 use Rattle.std.proofs.lemmas.Cmp.{int_cmp_total, nat_cmp_total, tied_itself, upto, on_total, then_total, back_total}
 use Rattle.solv_base.specs.Evr.{evr_cmp}
 use Rattle.solv_pool.specs.declared.packages.Package.{Package}
@@ -15,52 +15,10 @@ use Rattle.solv_pool.specs.Words.{passes, is_among}
 use Rattle.solv_pool.specs.Catalog.{Catalog, packages, package_at, same_name}
 use Rattle.solv_pool.specs.Installable.{is_installable, is_disabled, arch_place, arch_rank}
 use Rattle.solv_pool.specs.Best.{evr_of, compare_evrs, priority_in, top_priority, beats, is_beaten, best}
-use Rattle.solv_best.specs.Standing.{ahead, is_candidate, build_order, priority_under, standing, top_of_name, is_behind, is_unbeaten}
-use Rattle.solv_best.proofs.Places.{left, right}
-
-both : (a b : Bool) → a ≡ true → b ≡ true → (a && b) ≡ true
-both a b h k = rw (h, k)
-
-or_left : (a b : Bool) → a ≡ true → (a || b) ≡ true
-or_left a b h = rw h
-
-or_right : (a b : Bool) → b ≡ true → (a || b) ≡ true
-or_right true b h = refl
-or_right false b h = h
-
-or_cases : (a b : Bool) → (a || b) ≡ true → (a ≡ true) ⊎ (b ≡ true)
-or_cases true b h = inl refl
-or_cases false b h = inr h
-
-true_or_false : (b : Bool) → (b ≡ true) ⊎ (b ≡ false)
-true_or_false true = inl refl
-true_or_false false = inr refl
-
-same_tests : (a b : Bool) → (a ≡ true → b ≡ true) → (b ≡ true → a ≡ true) → a ≡ b
-same_tests true b h k = sym (h refl)
-same_tests false true h k = k refl
-same_tests false false h k = refl
-
-differ : (b : Bool) → b ≡ true → b ≡ false → ⊥
-differ b t f = cc
-
--- a test of some element
-any_from : (f : ℕ → Bool) (xs : List ℕ) (m : ℕ) → is_among xs m ≡ true → f m ≡ true → list_any f xs ≡ true
-any_from f [] m at h = cc
-any_from f (x ∷ xs) m at h = elim (or_cases (x == m) (is_among xs m) at) [
-  | inl e ↦ let here : x ≡ m = eqb-true x m e in or_left (f x) (list_any f xs) (rw here h)
-  | inr e ↦ or_right (f x) (list_any f xs) (any_from f xs m e h)
-]
-
-any_gives : (f : ℕ → Bool) (xs : List ℕ) → list_any f xs ≡ true → (a : ℕ) × (is_among xs a ≡ true) × (f a ≡ true)
-any_gives f [] h = absurd (cc)
-any_gives f (x ∷ xs) h = elim (or_cases (f x) (list_any f xs) h) [
-  | inl e ↦ (x, or_left (x == x) (is_among xs x) (eq-eqb x x refl), e)
-  | inr e ↦ further (any_gives f xs e)
-]
-  where
-    further : ((a : ℕ) × (is_among xs a ≡ true) × (f a ≡ true)) → (a : ℕ) × (is_among (x ∷ xs) a ≡ true) × (f a ≡ true)
-    further (a, at, passing) = (a, or_right (x == a) (is_among xs a) at, passing)
+use Rattle.solv_best.specs.Inner.Standing.{ahead, is_candidate, build_order, priority_under, standing, top_of_name, is_behind, is_unbeaten}
+use Rattle.solv_list.proofs.Booleans.{first_of_both, or_cases, same_truth, second_of_both, true_is_not_false, true_or_false}
+use Rattle.solv_list.proofs.Lists.{filter_same_again}
+use Rattle.solv_pool.proofs.Among.{among_filter, any_from, any_gives}
 
 -- who is ahead in a total order, of those that run
 module _ (order : ℕ → ℕ → Ordering) (total : IsTotalOrder order) (runs : ℕ → Bool) where
@@ -120,7 +78,7 @@ module _ (order : ℕ → ℕ → Ordering) (total : IsTotalOrder order) (runs :
       from = λ f h k. later.from f h (λ y at. k y (or_right (x == y) (is_among xs y) at));
       over_it = later.over_it;
       over = λ a at h. elim (or_cases (x == a) (is_among xs a) at) [
-        | inl e ↦ absurd (differ (runs x) (subst (λ y. runs y ≡ true) (sym (eqb-true x a e)) h) r)
+        | inl e ↦ absurd (true_is_not_false (runs x) (subst (λ y. runs y ≡ true) (sym (eqb-true x a e)) h) r)
         | inr e ↦ later.over a e h
       ];
     }
@@ -139,27 +97,27 @@ module _ (order : ℕ → ℕ → Ordering) (total : IsTotalOrder order) (runs :
   top_of b (x ∷ xs) at h = elim (true_or_false (runs x)) [
     | inl r ↦ let later = first_of x xs in
         let good : (is_among (x ∷ xs) later.top && runs later.top) ≡ true =
-        later.from (λ y. is_among (x ∷ xs) y && runs y) (both (is_among (x ∷ xs) x) (runs x) (or_left (x == x) (is_among xs x) (eq-eqb x x refl)) r)
-        (λ y among running. both (is_among (x ∷ xs) y) (runs y) (or_right (x == y) (is_among xs y) among) running) in
+        later.from (λ y. is_among (x ∷ xs) y && runs y) (and_from (is_among (x ∷ xs) x) (runs x) (or_left (x == x) (is_among xs x) (eq-eqb x x refl)) r)
+        (λ y among running. and_from (is_among (x ∷ xs) y) (runs y) (or_right (x == y) (is_among xs y) among) running) in
         record {
           top = later.top;
           is = rw r later.is;
-          among = left (is_among (x ∷ xs) later.top) (runs later.top) good;
-          running = right (is_among (x ∷ xs) later.top) (runs later.top) good;
+          among = first_of_both (is_among (x ∷ xs) later.top) (runs later.top) good;
+          running = second_of_both (is_among (x ∷ xs) later.top) (runs later.top) good;
           over = λ a at h. elim (or_cases (x == a) (is_among xs a) at) [
             | inl e ↦ subst (λ y. is_gt (order y later.top) ≡ false) (eqb-true x a e) later.over_it
             | inr e ↦ later.over a e h
           ];
         }
     | inr r ↦ elim (or_cases (x == b) (is_among xs b) at) [
-      | inl e ↦ absurd (differ (runs x) (subst (λ y. runs y ≡ true) (sym (eqb-true x b e)) h) r)
+      | inl e ↦ absurd (true_is_not_false (runs x) (subst (λ y. runs y ≡ true) (sym (eqb-true x b e)) h) r)
       | inr e ↦ let later = top_of b xs e h in record {
         top = later.top;
         is = rw r later.is;
         among = or_right (x == later.top) (is_among xs later.top) later.among;
         running = later.running;
         over = λ a at h. elim (or_cases (x == a) (is_among xs a) at) [
-          | inl e ↦ absurd (differ (runs x) (subst (λ y. runs y ≡ true) (sym (eqb-true x a e)) h) r)
+          | inl e ↦ absurd (true_is_not_false (runs x) (subst (λ y. runs y ≡ true) (sym (eqb-true x a e)) h) r)
           | inr e ↦ later.over a e h
         ];
       }
@@ -168,13 +126,13 @@ module _ (order : ℕ → ℕ → Ordering) (total : IsTotalOrder order) (runs :
 
   -- some that runs is ahead of b exactly where the top is
   ahead_is : (xs : List ℕ) (top : IsTop xs) (b : ℕ) → list_any (λ a. runs a && is_gt (order a b)) xs ≡ is_gt (order top.top b)
-  ahead_is xs top b = same_tests (list_any (λ a. runs a && is_gt (order a b)) xs) (is_gt (order top.top b)) (λ h. from (any_gives _ xs h))
-      (λ h. any_from (λ a. runs a && is_gt (order a b)) xs top.top top.among (both (runs top.top) (is_gt (order top.top b)) top.running h))
+  ahead_is xs top b = same_truth (list_any (λ a. runs a && is_gt (order a b)) xs) (is_gt (order top.top b)) (λ h. from (any_gives _ xs h))
+      (λ h. any_from (λ a. runs a && is_gt (order a b)) xs top.top top.among (and_from (runs top.top) (is_gt (order top.top b)) top.running h))
     where
       from : ((a : ℕ) × (is_among xs a ≡ true) × ((runs a && is_gt (order a b)) ≡ true)) → is_gt (order top.top b) ≡ true
       from (a, at, h) = elim (true_or_false (is_gt (order top.top b))) [
         | inl e ↦ e
-        | inr e ↦ absurd (differ (is_gt (order a b)) (right (runs a) (is_gt (order a b)) h) (upto total a top.top b (top.over a at (left (runs a) (is_gt (order a b)) h)) e))
+        | inr e ↦ absurd (true_is_not_false (is_gt (order a b)) (second_of_both (runs a) (is_gt (order a b)) h) (upto total a top.top b (top.over a at (first_of_both (runs a) (is_gt (order a b)) h)) e))
       ]
 
 -- the tests of `beats` as one order
@@ -194,35 +152,9 @@ priorities_then x y o = ap (λ r. int_lt y x || (is_eq r && is_gt o)) (int_cmp_t
     step false true = refl
     step false false = refl
 
-filter_same : (f g : ℕ → Bool) → ((x : ℕ) → f x ≡ g x) → (xs : List ℕ) → filter f xs ≡ filter g xs
-filter_same f g h [] = refl
-filter_same f g h (x ∷ xs) = rw (h x, filter_same f g h xs) refl
-
 any_same : (f g : ℕ → Bool) → ((x : ℕ) → f x ≡ g x) → (xs : List ℕ) → list_any f xs ≡ list_any g xs
 any_same f g h [] = refl
 any_same f g h (x ∷ xs) = rw (h x, any_same f g h xs) refl
-
-among_filter : (f : ℕ → Bool) (xs : List ℕ) (b : ℕ) → is_among (filter f xs) b ≡ (is_among xs b && f b)
-among_filter f [] b = refl
-among_filter f (x ∷ xs) b = step (f x) (x == b) refl refl (among_filter f xs b)
-  where
-    step : (t e : Bool) → f x ≡ t → (x == b) ≡ e → is_among (filter f xs) b ≡ (is_among xs b && f b) → is_among (cond t (x ∷ filter f xs) (filter f xs)) b ≡ ((e || is_among xs b) && f b)
-    step true true is same k = let here : x ≡ b = eqb-true x b same in rw same (sym (ap f (sym here) ∙ is))
-    step true false is same k = rw same k
-    step false true is same k = let here : x ≡ b = eqb-true x b same in k ∙ none (is_among xs b) (f b) (ap f (sym here) ∙ is)
-      where
-        none : (a c : Bool) → c ≡ false → (a && c) ≡ (true && c)
-        none true c h = refl
-        none false c h = sym h
-    step false false is same k = k
-
-pub filtered_within : (test f : ℕ → Bool) (xs : List ℕ) → list_all test xs ≡ true → list_all test (filter f xs) ≡ true
-filtered_within test f [] h = refl
-filtered_within test f (x ∷ xs) h = step (f x) (left (test x) (list_all test xs) h) (filtered_within test f xs (right (test x) (list_all test xs) h))
-  where
-    step : (b : Bool) → test x ≡ true → list_all test (filter f xs) ≡ true → list_all test (cond b (x ∷ filter f xs) (filter f xs)) ≡ true
-    step true here k = rw here k
-    step false here k = k
 
 module _ (total : IsTotalOrder evr_cmp) (catalog : Catalog) (list : List ℕ) where
   standing_total : IsTotalOrder (standing catalog (top_priority catalog list))
@@ -251,14 +183,14 @@ module _ (total : IsTotalOrder evr_cmp) (catalog : Catalog) (list : List ℕ) wh
     behind_is b among fit = by (package_at catalog b) refl
       where
         by : (o : Option Package) → package_at catalog b ≡ o → is_behind catalog (standing catalog (top_priority catalog list)) tops b ≡ is_beaten catalog list b
-        by None at = absurd (differ (is_installable catalog b) fit (some_record b at))
+        by None at = absurd (true_is_not_false (is_installable catalog b) fit (some_record b at))
         by (Some x) at = ap (λ o. passes o (λ (a : Package). passes (tops a.name) (λ t. is_gt (standing catalog (top_priority catalog list) t b)))) at
             ∙ ap (λ o. passes o (λ t. is_gt (standing catalog (top_priority catalog list) t b))) (are x.name ∙ top.is)
             ∙ sym (any_same (λ a. is_installable catalog a && beats catalog list a b) (λ a. is_candidate catalog x.name a && is_gt (standing catalog (top_priority catalog list) a b)) each list
             ∙ ahead_is (standing catalog (top_priority catalog list)) standing_total (is_candidate catalog x.name) list top b)
           where
             own_name : is_candidate catalog x.name b ≡ true
-            own_name = both (is_installable catalog b) _ fit (ap (λ o. passes o (λ (a : Package). a.name == x.name)) at ∙ eq-eqb x.name x.name refl)
+            own_name = and_from (is_installable catalog b) _ fit (ap (λ o. passes o (λ (a : Package). a.name == x.name)) at ∙ eq-eqb x.name x.name refl)
 
             top : IsTop (standing catalog (top_priority catalog list)) standing_total (is_candidate catalog x.name) list
             top = top_of (standing catalog (top_priority catalog list)) standing_total (is_candidate catalog x.name) b list among own_name
@@ -276,7 +208,7 @@ module _ (total : IsTotalOrder evr_cmp) (catalog : Catalog) (list : List ℕ) wh
                 ∙ regroup (is_installable catalog a) (passes (package_at catalog a) (λ (y : Package). y.name == x.name)) (is_gt (standing catalog (top_priority catalog list) a b))
 
     pub best_is : filter (is_among (filter (is_unbeaten catalog (top_priority catalog list) tops) list)) (packages catalog) ≡ best catalog list
-    best_is = filter_same (is_among (filter (is_unbeaten catalog (top_priority catalog list) tops) list)) (λ b. is_among list b && (is_installable catalog b && not (is_beaten catalog list b)))
+    best_is = filter_same_again (is_among (filter (is_unbeaten catalog (top_priority catalog list) tops) list)) (λ b. is_among list b && (is_installable catalog b && not (is_beaten catalog list b)))
         (λ b. among_filter (is_unbeaten catalog (top_priority catalog list) tops) list b ∙ alike (is_among list b) (is_installable catalog b) _ _ (behind_is b)) (packages catalog)
       where
         alike : (a i x y : Bool) → (a ≡ true → i ≡ true → x ≡ y) → (a && (i && not x)) ≡ (a && (i && not y))

@@ -8,8 +8,8 @@ ghost use Rattle.solv_pool.specs.Belonging.{IsOver};
 ghost use Rattle.solv_pool.specs.Best.{top_priority, best};
 ghost use Rattle.solv_pool.specs.Catalog.{catalog_of};
 ghost use Rattle.solv_pool.specs.TaskBelonging.{is_pack};
-ghost use Rattle.solv_updates.specs.Places.{IsPlace};
-ghost use Rattle.solv_best.specs.Standing.{standing, is_behind, ahead_of_name, top_of_name, is_unbeaten, ArePlaces};
+ghost use Rattle.solv_updates.specs.Inner.Places.{IsPlace};
+ghost use Rattle.solv_best.specs.Inner.Standing.{standing, is_behind, ahead_of_name, top_of_name, is_unbeaten, ArePlaces};
 
 use crate::ranking::{greater_of, package, standing};
 use solv_base::evr_order_is_total;

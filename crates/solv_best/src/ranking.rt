@@ -4,8 +4,8 @@ ghost use Rattle.std.specs.Ordering.{int_cmp};
 ghost use Rattle.solv_pool.specs.Belonging.{IsOver};
 ghost use Rattle.solv_pool.specs.Best.{evr_of, priority_of, greater_of};
 ghost use Rattle.solv_pool.specs.Catalog.{catalog_of, package_at, is_installed};
-ghost use Rattle.solv_updates.specs.Places.{IsPlace};
-ghost use Rattle.solv_best.specs.Standing.{priority_under, build_order, standing};
+ghost use Rattle.solv_updates.specs.Inner.Places.{IsPlace};
+ghost use Rattle.solv_best.specs.Inner.Standing.{priority_under, build_order, standing};
 
 use solv_base::evr_compare;
 use solv_pool::{PackNo, Package, Task};

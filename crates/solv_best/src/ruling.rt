@@ -10,8 +10,8 @@ ghost use Rattle.solv_pool.specs.TaskBelonging.{IsClosed, is_pack};
 ghost use Rattle.solv_pool.specs.Words.{when};
 ghost use Rattle.solv_prov.specs.Index.{IsIndexOf};
 ghost use Rattle.solv_jobs.specs.Marking.{HasMarks};
-ghost use Rattle.solv_jobs.specs.Putting.{HasPut};
-ghost use Rattle.solv_updates.specs.Places.{IsPlace};
+ghost use Rattle.solv_jobs.specs.Inner.Putting.{HasPut};
+ghost use Rattle.solv_updates.specs.Inner.Places.{IsPlace};
 
 use crate::choosing::best;
 use solv_jobs::{put_in_order, put_with_set, puts_follow_each_other, select};

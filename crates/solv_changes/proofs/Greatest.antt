@@ -12,9 +12,9 @@ use Rattle.solv_base.specs.Evr.{evr_cmp}
 use Rattle.solv_pool.specs.Best.{evr_of, compare_evrs}
 use Rattle.solv_pool.specs.Catalog.{Catalog, packages, same_name}
 use Rattle.solv_changes.specs.Changes.{greatest, comes, partner}
-use Rattle.solv_changes.specs.Order.{greatest_from}
-use Rattle.solv_changes.proofs.Pairs.{true_or_false, differ}
-use Rattle.solv_changes.proofs.Listing.{filter_twice}
+use Rattle.solv_changes.specs.Inner.Order.{greatest_from}
+use Rattle.solv_list.proofs.Booleans.{true_is_not_false, true_or_false}
+use Rattle.solv_list.proofs.Lists.{filter_twice}
 
 find_same : (f g : ℕ → Bool) → ((x : ℕ) → f x ≡ g x) → (xs : List ℕ) → find f xs ≡ find g xs
 find_same f g h [] = refl
@@ -51,19 +51,19 @@ module _ (order : ℕ → ℕ → Ordering) (total : IsTotalOrder order) where
   above_above : (x t q : ℕ) → is_gt (order x t) ≡ true → is_gt (order t q) ≡ true → is_gt (order x q) ≡ true
   above_above x t q h k = elim (true_or_false (is_gt (order x q))) [
     | inl e ↦ e
-    | inr e ↦ absurd (differ (is_gt (order t q)) k (upto total t x q (turned x t h) e))
+    | inr e ↦ absurd (true_is_not_false (is_gt (order t q)) k (upto total t x q (turned x t h) e))
   ]
 
   not_below : (x t q : ℕ) → is_gt (order x t) ≡ false → is_gt (order x q) ≡ true → is_gt (order t q) ≡ true
   not_below x t q h k = elim (true_or_false (is_gt (order t q))) [
     | inl e ↦ e
-    | inr e ↦ absurd (differ (is_gt (order x q)) k (upto total x t q h e))
+    | inr e ↦ absurd (true_is_not_false (is_gt (order x q)) k (upto total x t q h e))
   ]
 
   exceeds_lower : (r x t : ℕ) → is_gt (order x t) ≡ false → is_gt (order r t) ≡ true → is_gt (order r x) ≡ true
   exceeds_lower r x t h k = elim (true_or_false (is_gt (order r x))) [
     | inl e ↦ e
-    | inr e ↦ absurd (differ (is_gt (order r t)) k (upto total r x t e h))
+    | inr e ↦ absurd (true_is_not_false (is_gt (order r t)) k (upto total r x t e h))
   ]
 
   some_exceeds : (x t : ℕ) → is_gt (order x t) ≡ false → (rs : List ℕ) → list_any (λ r. is_gt (order r t)) rs ≡ true → list_any (λ r. is_gt (order r x)) rs ≡ true
@@ -103,7 +103,7 @@ module _ (order : ℕ → ℕ → Ordering) (total : IsTotalOrder order) where
           passed : is_high (t ∷ xs) t ≡ false → is_high (t ∷ xs) x ≡ false
           passed f = elim (true_or_false (list_any (λ r. is_gt (order r t)) xs)) [
             | inl g ↦ rest (is_gt (order t x)) _ (some_exceeds x t e xs g)
-            | inr g ↦ absurd (differ (is_high (t ∷ xs) t) (rw (ap is_gt (tied_itself total t), g) refl) f)
+            | inr g ↦ absurd (true_is_not_false (is_high (t ∷ xs) t) (rw (ap is_gt (tied_itself total t), g) refl) f)
           ]
             where
               rest : (a b : Bool) → b ≡ true → not (a || b) ≡ false

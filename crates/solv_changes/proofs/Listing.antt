@@ -1,6 +1,6 @@
 -- Lists of packages that pass a test.
-use Rattle.std.proofs.Common.{◌≡◌, ◌<◌, ◌≤◌, ◌+◌, ◌-◌, ℕ, zero, suc, Bool, true, false, cond, ◌&&◌, List, [], ◌∷◌, ◌++◌, map, length, Option, Some, None, refl, sym, ap, ◌∙◌, arith, eq-eqb, append_assoc, drop, get_or}
-use Rattle.std.proofs.lemmas.List.{drop_more, append-nil}
+use Rattle.std.proofs.Common.{◌≡◌, ◌<◌, ◌≤◌, ◌+◌, ◌-◌, ℕ, zero, suc, Bool, true, false, cond, ◌&&◌, List, [], ◌∷◌, ◌++◌, map, length, Some, refl, sym, ap, ◌∙◌, arith, append_assoc}
+use Rattle.std.proofs.lemmas.List.{append-nil}
 use Rattle.std.specs.Prelude.{filter, find, nat_lt, nat_le, ◌==◌}
 use Rattle.std.specs.List.{list_all, range_with_len}
 use Rattle.std.proofs.lemmas.Bool.Decides.{nat_tests}
@@ -10,21 +10,9 @@ use Rattle.solv_pool.specs.Catalog.{Catalog, packages, package_at, same_name}
 use Rattle.solv_pool.specs.Providing.{is_named}
 use Rattle.solv_pool.specs.TaskBelonging.{is_pack}
 use Rattle.solv_pool.specs.declared.packages.Package.{Package}
-
-pub filter_same : {X : Type 0} (f g : X → Bool) → ((x : X) → f x ≡ g x) → (xs : List X) → filter f xs ≡ filter g xs
-filter_same f g h [] = refl
-filter_same f g h (x ∷ xs) = rw (h x, filter_same f g h xs) refl
-
-pub filter_twice : (f g : ℕ → Bool) (xs : List ℕ) → filter g (filter f xs) ≡ filter (λ x. g x && f x) xs
-filter_twice f g [] = refl
-filter_twice f g (x ∷ xs) = step (f x) (g x) refl (filter_twice f g xs)
-  where
-    step : (b d : Bool) → g x ≡ d → filter g (filter f xs) ≡ filter (λ x. g x && f x) xs
-        → filter g (cond b (x ∷ filter f xs) (filter f xs)) ≡ cond (d && b) (x ∷ filter (λ x. g x && f x) xs) (filter (λ x. g x && f x) xs)
-    step true true is h = rw is (ap (λ t. x ∷ t) h)
-    step true false is h = rw is h
-    step false true is h = h
-    step false false is h = h
+use Rattle.solv_list.proofs.Lists.{filter_same}
+use Rattle.solv_list.proofs.Numbers.{equal_swapped}
+use Rattle.solv_pool.proofs.Placed.{passes_same}
 
 pub find_filter : (f g : ℕ → Bool) (xs : List ℕ) → find f (filter g xs) ≡ find (λ x. f x && g x) xs
 find_filter f g [] = refl
@@ -37,24 +25,13 @@ find_filter f g (x ∷ xs) = step (g x) (f x) refl (find_filter f g xs)
     step false true is h = h
     step false false is h = h
 
-passes_same : {X : Type 0} (f g : X → Bool) → ((x : X) → f x ≡ g x) → (o : Option X) → passes o f ≡ passes o g
-passes_same f g h None = refl
-passes_same f g h (Some x) = h x
-
-equal_turned : (a b : ℕ) → (a == b) ≡ (b == a)
-equal_turned a b = step (a == b) refl
-  where
-    step : (t : Bool) → (a == b) ≡ t → t ≡ (b == a)
-    step true h = let e : a ≡ b = grind (arith, nat_tests, h) in sym (eq-eqb b a (sym e))
-    step false h = sym (grind (arith, nat_tests, h))
-
 -- the packages of a package's name
 pub named_are : (catalog : Catalog) (p : ℕ) (a : Package) → package_at catalog p ≡ Some a → filter (is_named catalog (plain a.name)) (packages catalog) ≡ filter (same_name catalog p) (packages catalog)
 named_are catalog p a at = filter_same (is_named catalog (plain a.name)) (same_name catalog p) alike (packages catalog)
   where
     alike : (q : ℕ) → is_named catalog (plain a.name) q ≡ same_name catalog p q
     alike q =
-        passes_same (λ (b : Package). b.name == a.name) (λ (b : Package). a.name == b.name) (λ b. equal_turned b.name a.name) (package_at catalog q)
+        passes_same (λ (b : Package). b.name == a.name) (λ (b : Package). a.name == b.name) (λ b. equal_swapped b.name a.name) (package_at catalog q)
         ∙ sym (ap (λ o. passes o (λ (a : Package). passes (package_at catalog q) (λ (b : Package). a.name == b.name))) at)
 
 range_all : (test f : ℕ → Bool) (start count end : ℕ) → start + count ≤ end → 0 < start → ((p : ℕ) → 0 < p → p < end → test p ≡ true) → list_all test (filter f (range_with_len start count)) ≡ true
@@ -97,7 +74,3 @@ made_turn test make number count done now whole within is h =
 
 pub made_all : {X : Type 0} (test : ℕ → Bool) (make : ℕ → X) (number count : ℕ) (done whole : List X) → number ≤ count → count ≤ number → done ++ made_from test make number count ≡ whole → done ≡ whole
 made_all test make number count done whole low high h = let none : count - number ≡ 0 = omega (arith, high) in sym (append-nil done) ∙ (rw none at h)
-
--- what is left at a place, and all of it
-pub this_turn : {X : Type 0} (xs : List X) (i : ℕ) (x : X) → i < length xs → x ≡ get_or xs i x → drop i xs ≡ x ∷ drop (i + 1) xs
-this_turn xs i x within is = drop_more xs i x within ∙ ap (λ y. y ∷ drop (i + 1) xs) (sym is)

@@ -1,5 +1,5 @@
 -- What is there after the changes to a set is the set.
-use Rattle.std.proofs.Common.{◌≡◌, ◌<◌, ◌≤◌, ◌+◌, ℕ, zero, suc, Bool, true, false, not, cond, ◌&&◌, ◌||◌, List, [], ◌∷◌, ◌++◌, map, length, Option, Some, None, refl, sym, ap, ◌∙◌, inl, inr, arith}
+use Rattle.std.proofs.Common.{◌≡◌, ◌<◌, ◌+◌, ℕ, zero, suc, Bool, true, false, not, cond, ◌&&◌, ◌||◌, List, [], ◌∷◌, ◌++◌, map, length, Option, Some, None, refl, sym, ap, ◌∙◌, inl, inr, arith}
 use Rattle.std.specs.Prelude.{filter, find, ◌==◌}
 use Rattle.std.specs.List.{list_any, range_with_len}
 use Rattle.std.specs.Option.{option_map_or}
@@ -14,8 +14,11 @@ use Rattle.solv_changes.specs.declared.kinds.Change.{Change}
 use Rattle.solv_changes.specs.declared.kinds.Change.TheVariants.{Install, Erase, Obsolete}
 use Rattle.solv_changes.specs.Changes.{is_exceeded, same_build, change_by, change_to, comes, goes, successors, partner, obsoleter, line_of, lines_of_going, is_installed_anew, changes}
 use Rattle.solv_changes.specs.Effects.{takes, brings, is_taken, is_brought, is_there_after, after}
-use Rattle.solv_changes.proofs.Pairs.{left, true_or_false}
 use Rattle.solv_changes.proofs.Same.{filter_range}
+use Rattle.solv_list.proofs.Booleans.{first_of_both, true_or_false}
+use Rattle.solv_list.proofs.Lists.{none_of}
+use Rattle.solv_pool.proofs.Among.{among_filter}
+use Rattle.solv_prov.proofs.Obsoleting.{among_range}
 
 any_appended : {X : Type 0} (f : X → Bool) (xs ys : List X) → list_any f (xs ++ ys) ≡ (list_any f xs || list_any f ys)
 any_appended f [] ys = refl
@@ -28,32 +31,6 @@ any_appended f (x ∷ xs) ys = ap (λ b. f x || b) (any_appended f xs ys) ∙ st
 any_mapped : {X : Type 0} (f : X → Bool) (make : ℕ → X) (g : ℕ → Bool) → ((x : ℕ) → f (make x) ≡ g x) → (xs : List ℕ) → list_any f (map make xs) ≡ list_any g xs
 any_mapped f make g h [] = refl
 any_mapped f make g h (x ∷ xs) = rw (h x, any_mapped f make g h xs) refl
-
-none_of : (xs : List ℕ) → list_any (λ x. false) xs ≡ false
-none_of [] = refl
-none_of (x ∷ xs) = none_of xs
-
-among_filter : (f : ℕ → Bool) (xs : List ℕ) (b : ℕ) → is_among (filter f xs) b ≡ (is_among xs b && f b)
-among_filter f [] b = refl
-among_filter f (x ∷ xs) b = step (f x) (x == b) refl refl (among_filter f xs b)
-  where
-    step : (t e : Bool) → f x ≡ t → (x == b) ≡ e → is_among (filter f xs) b ≡ (is_among xs b && f b) → is_among (cond t (x ∷ filter f xs) (filter f xs)) b ≡ ((e || is_among xs b) && f b)
-    step true true is same k = let here : x ≡ b = eqb-true x b same in rw same (sym (ap f (sym here) ∙ is))
-    step true false is same k = rw same k
-    step false true is same k = let here : x ≡ b = eqb-true x b same in k ∙ none (is_among xs b) (f b) (ap f (sym here) ∙ is)
-      where
-        none : (a c : Bool) → c ≡ false → (a && c) ≡ (true && c)
-        none true c h = refl
-        none false c h = sym h
-    step false false is same k = k
-
-among_range : (start count p : ℕ) → start ≤ p → p < start + count → is_among (range_with_len start count) p ≡ true
-among_range start zero p low high = absurd (omega (arith, low, high))
-among_range start (suc count) p low high = step (start == p) refl (λ further. among_range (start + 1) count p further (omega (arith, high)))
-  where
-    step : (b : Bool) → (start == p) ≡ b → (start + 1 ≤ p → is_among (range_with_len (start + 1) count) p ≡ true) → (b || is_among (range_with_len (start + 1) count) p) ≡ true
-    step true e k = refl
-    step false e k = k (grind (arith, nat_tests, e, low))
 
 none_below : (start count p : ℕ) → p < start → is_among (range_with_len start count) p ≡ false
 none_below start zero p low = refl
@@ -109,7 +86,7 @@ module _ (catalog : Catalog) (set : ℕ → Bool) where
       by (Some q) u is k =
           let here : q ≡ p = eqb-true q p (sym (by_brings catalog x q p (compare_evrs catalog q x)) ∙ k) in
           ap (comes catalog set) (sym here)
-          ∙ left (comes catalog set q) _ (found_filtered (λ r. not (is_exceeded catalog (successors catalog set x) r)) (λ r. comes catalog set r && same_name catalog x r) (packages catalog) q is)
+          ∙ first_of_both (comes catalog set q) _ (found_filtered (λ r. not (is_exceeded catalog (successors catalog set x) r)) (λ r. comes catalog set r && same_name catalog x r) (packages catalog) q is)
       by None (Some q) is k = cc
       by None None is k = cc
 

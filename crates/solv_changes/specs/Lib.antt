@@ -1,5 +1,4 @@
-pub mod Tables
 pub mod Effects
 pub mod Changes
-pub mod Order
-pub mod Rows
+pub mod Inner
+pub mod Examples

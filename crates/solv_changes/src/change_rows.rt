@@ -4,7 +4,7 @@ ghost use Rattle.solv_pool.specs.Words.{is_among};
 ghost use Rattle.solv_changes.specs.declared.kinds.Change.TheVariants.{Install, Erase, Upgrade, Downgrade, Alter, Reinstall, Obsolete};
 ghost use Rattle.solv_changes.specs.Changes.{changes, partner, obsoleter};
 ghost use Rattle.solv_changes.specs.Effects.{after};
-ghost use Rattle.solv_changes.specs.Rows.{all_kinds, chosen};
+ghost use Rattle.solv_changes.specs.Examples.Rows.{all_kinds, chosen};
 
 /// Each kind of line. Of three packages of one name the first one with the greatest EVR comes for the installed one, and
 /// the others have install lines. Another architecture or vendor is a change. Of two packages that obsolete one the lower

@@ -5,7 +5,7 @@ ghost use Rattle.solv_pool.specs.Best.{evr_of, compare_evrs};
 ghost use Rattle.solv_pool.specs.Catalog.{catalog_of, package_at};
 ghost use Rattle.solv_pool.specs.TaskBelonging.{is_pack};
 ghost use Rattle.solv_changes.specs.Changes.{is_same_build, same_build, change_to};
-ghost use Rattle.solv_changes.specs.Order.{greater_of};
+ghost use Rattle.solv_changes.specs.Inner.Order.{greater_of};
 
 use crate::kinds::Change;
 use solv_base::evr_compare;

@@ -8,8 +8,8 @@ ghost use Rattle.solv_pool.specs.TaskBelonging.{is_pack};
 ghost use Rattle.solv_pool.specs.Words.{when};
 ghost use Rattle.solv_prov.specs.Index.{IsIndexOf};
 ghost use Rattle.solv_changes.specs.Changes.{comes, goes, partner, obsoleter, line_of, lines_of_going};
-ghost use Rattle.solv_changes.specs.Order.{greatest_from};
-ghost use Rattle.solv_changes.specs.Tables.{is_true_at};
+ghost use Rattle.solv_changes.specs.Inner.Order.{greatest_from};
+ghost use Rattle.solv_changes.specs.Inner.Tables.{is_true_at};
 
 use crate::comparing::{change_to, greater_of, package};
 use crate::kinds::Change;

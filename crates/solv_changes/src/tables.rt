@@ -2,7 +2,7 @@
 ghost use Rattle.std.specs.Prelude.{ℕ, ◌≡◌, ◌<◌, ◌+◌, ◌||◌, ◌==◌, length, IfOk};
 ghost use Rattle.solv_pool.specs.Words.{is_among};
 ghost use Rattle.solv_changes.specs.Effects.{brings, is_brought};
-ghost use Rattle.solv_changes.specs.Tables.{is_true_at};
+ghost use Rattle.solv_changes.specs.Inner.Tables.{is_true_at};
 
 use crate::kinds::Change;
 use solv_pool::PackNo;

@@ -8,7 +8,7 @@ ghost use Rattle.solv_prov.specs.Index.{IsIndexOf};
 ghost use Rattle.solv_changes.specs.declared.kinds.Change.TheVariants.{Install};
 ghost use Rattle.solv_changes.specs.Changes.{comes, changes};
 ghost use Rattle.solv_changes.specs.Effects.{after, IsMemberList};
-ghost use Rattle.solv_changes.specs.Tables.{is_true_at};
+ghost use Rattle.solv_changes.specs.Inner.Tables.{is_true_at};
 
 use crate::kinds::Change;
 use crate::leaving::{comes, lines_of_going};

@@ -1,16 +1,14 @@
 -- What stands before the first comma is the first of what commas separate.
-use Rattle.std.proofs.Common.{ℕ, zero, suc, ◌≡◌, ◌+◌, ◌<◌, List, [], ◌∷◌, Bool, true, false, take, drop, length, refl, sym, ◌∙◌, arith, cond, add-one}
+use Rattle.std.proofs.Common.{ℕ, suc, ◌≡◌, ◌+◌, ◌<◌, List, [], ◌∷◌, true, false, take, drop, length, refl, sym, ◌∙◌, arith, cond, add-one}
 use Rattle.std.specs.Prelude.{not, ◌==◌}
 use Rattle.std.proofs.lemmas.Grind.{common_steps}
 use Rattle.std.specs.List.{prefix_len}
 use Rattle.solv_commands.specs.Commas.{between_commas, lengthened}
+use Rattle.solv_list.proofs.Lists.{take_one_more}
 
 -- where the first comma stands, or the length
 abbrev pub first_comma : List ℕ → ℕ
 first_comma text = prefix_len (λ byte. not (byte == 44)) text
-
-take_one_more : (n c : ℕ) (cs : List ℕ) → take (1 + n) (c ∷ cs) ≡ c ∷ take n cs
-take_one_more n c cs = grind (arith, common_steps)
 
 drop_one_more : (n c : ℕ) (cs : List ℕ) → drop (suc (1 + n)) (c ∷ cs) ≡ drop (suc n) cs
 drop_one_more n c cs = grind (arith, common_steps)

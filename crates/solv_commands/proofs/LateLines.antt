@@ -1,5 +1,5 @@
 -- A line is not built only where it has a form that comes late.
-use Rattle.std.proofs.Common.{ℕ, ◌≡◌, ◌||◌, ◌&&◌, Bool, true, false, List, [], ◌∷◌, Option, Some, None, Result, Ok, Err, refl, ap, ◌∙◌}
+use Rattle.std.proofs.Common.{ℕ, ◌≡◌, ◌&&◌, Bool, true, false, List, [], ◌∷◌, Option, Some, None, Result, Ok, Err, refl, ap, ◌∙◌}
 use Rattle.std.specs.Prelude.{codes, if◌then◌else◌}
 use Rattle.std.specs.List.{list_any}
 use Rattle.std.specs.Str.{bytes_eq}
@@ -12,6 +12,7 @@ use Rattle.solv_commands.specs.LateForms.{is_late_word, is_late_action, flags_in
 use Rattle.solv_commands.specs.Numbers.{priority}
 use Rattle.solv_commands.specs.declared.causes.Cause.{Cause}
 use Rattle.solv_commands.specs.declared.causes.Cause.TheVariants.{BadNumber, BadOperator, UnknownJobFlag, NotBuilt}
+use Rattle.std.proofs.lemmas.Bool.{or_left, or_right}
 
 -- where this is not built, that holds
 abbrev LateOnly : {A : Type 0} → Type 0 → Result A Cause → Type 0
@@ -112,13 +113,6 @@ module _ {P : Type 0} where
   asked_built Favor [] = λ h. absurd (cc)
   asked_built Disfavor [] = λ h. absurd (cc)
 
-or_first : (a b : Bool) → a ≡ true → (a || b) ≡ true
-or_first a b h = rw h refl
-
-or_second : (a b : Bool) → b ≡ true → (a || b) ≡ true
-or_second true b h = refl
-or_second false b h = h
-
 action_late : (word : List ℕ) → LateOnly (is_late_action word ≡ true) (action word)
 action_late word =
     let is : List ℕ → Bool = bytes_eq word in
@@ -132,8 +126,8 @@ action_late word =
     late_if (is (codes "favor")) _ _ (λ e h. absurd (cc)) (λ e.
     late_if (is (codes "disfavor")) _ _ (λ e h. absurd (cc)) (λ e.
     late_if (is (codes "noop")) _ _ (λ e h. absurd (cc)) (λ e.
-    late_if (is (codes "distupgrade")) _ _ (λ e h. or_first (is (codes "distupgrade")) (is (codes "userinstalled")) e) (λ e.
-    late_if (is (codes "userinstalled")) _ _ (λ e h. or_second (is (codes "distupgrade")) (is (codes "userinstalled")) e) (λ e h. absurd (cc)))))))))))))
+    late_if (is (codes "distupgrade")) _ _ (λ e h. or_left (is (codes "distupgrade")) (is (codes "userinstalled")) e) (λ e.
+    late_if (is (codes "userinstalled")) _ _ (λ e h. or_right (is (codes "distupgrade")) (is (codes "userinstalled")) e) (λ e h. absurd (cc)))))))))))))
 
 flag_late : (flag : List ℕ) → flag_cause flag ≡ Some NotBuilt → bytes_eq flag (codes "cleandeps") ≡ true
 flag_late flag = by_name (bytes_eq flag (codes "forcebest")) (bytes_eq flag (codes "cleandeps"))
@@ -153,10 +147,10 @@ flags_late (flag ∷ flags) h = by_cause (λ (k : flags_cause flags ≡ Some Not
     by_cause : (flags_cause flags ≡ Some NotBuilt → has_flag flags ≡ true) → (o : Option Cause) → flag_cause flag ≡ o → has_flag (flag ∷ flags) ≡ true
     by_cause behind (Some c) e =
         let first : Some c ≡ Some NotBuilt = rw e at h in
-        or_first (bytes_eq flag (codes "cleandeps")) (has_flag flags) (flag_late flag (e ∙ first))
+        or_left (bytes_eq flag (codes "cleandeps")) (has_flag flags) (flag_late flag (e ∙ first))
     by_cause behind None e =
         let later : flags_cause flags ≡ Some NotBuilt = rw e at h in
-        or_second (bytes_eq flag (codes "cleandeps")) (has_flag flags) (behind later)
+        or_right (bytes_eq flag (codes "cleandeps")) (has_flag flags) (behind later)
 
 forced_late : (o : Option (List ℕ)) → LateOnly (has_flag (flags_in o) ≡ true) (forcebest o)
 forced_late None h = absurd (cc)
@@ -174,8 +168,8 @@ job_late : (words : List (List ℕ)) → LateOnly (is_late_job words ≡ true) (
 job_late [] = λ h. absurd (cc)
 job_late (word ∷ words) =
     late_if (has_job_words word words) _ _
-    (λ e. late_then (action word) _ (λ h. or_first (is_late_action word) (has_late_flag words) (action_late word h))
-    (λ a. late_then (forcebest (flag_word words)) _ (λ h. or_second (is_late_action word) (has_late_flag words) (forced_late (flag_word words) h))
+    (λ e. late_then (action word) _ (λ h. or_left (is_late_action word) (has_late_flag words) (action_late word h))
+    (λ a. late_then (forcebest (flag_word words)) _ (λ h. or_right (is_late_action word) (has_late_flag words) (forced_late (flag_word words) h))
     (λ best. late_if (fits_forcebest a best) _ _ (λ e. late_then (asked a (before_flags words)) _ (asked_built a (before_flags words)) (λ s h. absurd (cc))) (λ e h. absurd (cc)))))
     (λ e h. absurd (cc))
 
@@ -190,6 +184,6 @@ command_late = λ first words.
     late_if (is (codes "namespace")) _ _ (λ e. namespace_built words) (λ e.
     late_if (is (codes "disable")) _ _ (λ e. disable_built words) (λ e.
     late_if (is (codes "evrcmp")) _ _ (λ e. evrcmp_built words) (λ e.
-    late_if (is (codes "job")) _ _ (λ e h. or_second word job (rw (e, job_late words h) refl)) (λ e.
+    late_if (is (codes "job")) _ _ (λ e h. or_right word job (rw (e, job_late words h) refl)) (λ e.
     late_if (is (codes "result")) _ _ (λ e. result_built words) (λ e.
-    late_if (is (codes "nextjob")) _ _ (λ e h. or_first word job e) (λ e h. absurd (cc))))))))))
+    late_if (is (codes "nextjob")) _ _ (λ e h. or_left word job e) (λ e h. absurd (cc))))))))))

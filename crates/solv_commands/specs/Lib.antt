@@ -3,6 +3,6 @@ pub mod Numbers
 pub mod Commas
 pub mod Commands
 pub mod SolverFlags
-pub mod Borrowed
 pub mod Examples
 pub mod LateForms
+pub mod Inner

@@ -1,20 +1,20 @@
 -- The derivation by a clause that is falsified without a choice.
-use Rattle.std.proofs.Common.{◌≡◌, ℕ, zero, suc, inl, inr, eq-eqb, ◌<◌, ◌==◌, Bool, true, false, ◌||◌, List, [], ◌∷◌, ◌++◌, length, Option, Some, None, refl, sym, ap, ◌∙◌, subst}
-use Rattle.std.specs.Prelude.{ℤ, pos, nat_lt, ◌&&◌, slice_get, unwrap_or}
+use Rattle.std.proofs.Common.{◌≡◌, ℕ, inl, inr, eq-eqb, ◌<◌, ◌==◌, Bool, true, false, ◌||◌, List, [], ◌∷◌, ◌++◌, length, Option, Some, None, refl, sym, ap, ◌∙◌, subst}
+use Rattle.std.specs.Prelude.{ℤ, nat_lt, ◌&&◌, slice_get, unwrap_or}
 use Rattle.std.specs.List.{list_all, list_any}
-use Rattle.std.proofs.lemmas.Bool.{and_parts, or_left, or_right, or_cases, false≢true}
+use Rattle.std.proofs.lemmas.Bool.{or_left, or_right, or_cases, false≢true}
 use Rattle.std.proofs.lemmas.Option.{slice_get_within}
 use Rattle.solv_derive.specs.Leaves.{leaves}
 use Rattle.solv_derive.specs.Logs.{is_good_log}
-use Rattle.solv_derive.specs.Range.{is_over, are_over, steps_over}
+use Rattle.solv_derive.specs.Range.{steps_over}
 use Rattle.solv_derive.specs.declared.logs.Hint.{Hint}
 use Rattle.solv_derive.specs.declared.logs.Log.{Log}
-use Rattle.solv_derive.specs.declared.logs.Step.{Step}
-use Rattle.solv_trail.specs.Held.{Held}
-use Rattle.solv_trail.specs.Propagated.{IsUsed, Reason, choice, by_rule, IsReasoned, Propagated, clash, rest, in_use}
-use Rattle.solv_learn.specs.Learning.{IsRefuted}
-use Rattle.solv_core.specs.Refutation.{log_steps}
-use Rattle.solv_core.specs.Contradictions.{is_of, IsLogWith, IsRefutedRule, AreRefuted}
+use Rattle.solv_trail.specs.Inner.Held.{Held}
+use Rattle.solv_trail.specs.Inner.Propagated.{Reason, choice, by_rule, IsReasoned, Propagated, clash, rest}
+use Rattle.solv_trail.specs.Propagated.{in_use}
+use Rattle.solv_learn.specs.Inner.Learning.{IsRefuted}
+use Rattle.solv_core.specs.Inner.Refutation.{log_steps}
+use Rattle.solv_core.specs.Inner.Contradictions.{is_of, IsLogWith, IsRefutedRule, AreRefuted}
 use Rattle.solv_core.specs.declared.refuting.RefutedRule.{RefutedRule}
 use Rattle.solv_core.proofs.Refuted.{log_good, log_leaves}
 
@@ -36,11 +36,6 @@ log_by_clause book owners packages enabled other hints log e r =
       over = ap (steps_over packages) e;
       rests = ap (λ s. list_all (λ clause. nat_lt clause (length book) && used clause) (leaves s)) e ∙ log_leaves book used asks 0 packages 0 hints [] tt r;
     }
-
-pub over_at : (count : ℕ) (rules : List (List ℤ)) (r : ℕ) (c : List ℤ) → are_over count rules ≡ true → slice_get rules r ≡ Some c → is_over count c ≡ true
-over_at count [] r c h e = absurd (cc)
-over_at count (d ∷ rules) zero c h e = let f : d ≡ c = ap (λ o. unwrap_or o d) e in ap (is_over count) (sym f) ∙ (and_parts (is_over count d) (are_over count rules) h).0
-over_at count (d ∷ rules) (suc r) c h e = over_at count rules r c (and_parts (is_over count d) (are_over count rules) h).1 e
 
 module _ (book : List (List ℤ)) (owners : List ℕ) (packages : ℕ) (enabled : List Bool) where
   pub refuted_more : (asked : List ℕ) (found : List RefutedRule) (one : RefutedRule) → AreRefuted book owners packages enabled asked found → IsRefutedRule book owners packages enabled asked one

@@ -3,11 +3,12 @@ ghost use Rattle.std.specs.Prelude.{◌≡◌, ◌⊎◌, ◌^◌, ◌≤◌, �
 ghost use Rattle.std.specs.List.{list_all};
 ghost use Rattle.solv_derive.specs.Range.{are_over};
 ghost use Rattle.solv_trail.specs.Propagated.{in_use};
-ghost use Rattle.solv_watch.specs.Watching.{AreChained, AreHeads, AreNarrow};
-ghost use Rattle.solv_core.specs.Ledgers.{are_of_run, IsGoodLedger};
-ghost use Rattle.solv_core.specs.Contradictions.{IsWhatRefutes};
-ghost use Rattle.solv_core.specs.Settling.{HasLearnt};
-ghost use Rattle.solv_core.specs.Running.{is_spent_verdict, is_log_over, IsRefutation, IsFound};
+ghost use Rattle.solv_watch.specs.Inner.Watching.{AreChained, AreHeads, AreNarrow};
+ghost use Rattle.solv_core.specs.Inner.Ledgers.{are_of_run};
+ghost use Rattle.solv_core.specs.Ledgers.{IsGoodLedger};
+ghost use Rattle.solv_core.specs.Inner.Contradictions.{IsWhatRefutes};
+ghost use Rattle.solv_core.specs.Inner.Settling.{HasLearnt};
+ghost use Rattle.solv_core.specs.Inner.Running.{is_spent_verdict, is_log_over, IsRefutation, IsFound};
 ghost use Rattle.solv_core.specs.declared.ledger.Entry.{Entry};
 
 use crate::events::events_of;
@@ -51,7 +52,7 @@ impl Drop for Core {
 
 impl Model for Core {
     ghost use Rattle.std.specs.Prelude.{◌≡◌, ◌≤◌, ◌+◌, ◌*◌, ◌^◌, true, length};
-    ghost use Rattle.solv_watch.specs.Watching.{AreChained, AreHeads, AreNarrow};
+    ghost use Rattle.solv_watch.specs.Inner.Watching.{AreChained, AreHeads, AreNarrow};
     ghost use Rattle.solv_derive.specs.Range.{are_over};
     ghost use Rattle.solv_core.specs.Cores.{CoreOf};
 

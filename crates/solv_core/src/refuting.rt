@@ -4,9 +4,10 @@ ghost use Rattle.std.specs.List.{list_all};
 ghost use Rattle.std.specs.Option.{IfSome};
 ghost use Rattle.solv_derive.specs.Forced.{is_falsified as is_false};
 ghost use Rattle.solv_derive.specs.Range.{is_over, are_over};
-ghost use Rattle.solv_trail.specs.Propagated.{in_use, IsReasoned, Propagated};
-ghost use Rattle.solv_watch.specs.Watching.{AreChained, AreHeads, AreNarrow};
-ghost use Rattle.solv_core.specs.Contradictions.{AreRefuted, IsLogWith, IsRefutedRule, IsWhatRefutes};
+ghost use Rattle.solv_trail.specs.Propagated.{in_use};
+ghost use Rattle.solv_trail.specs.Inner.Propagated.{IsReasoned, Propagated};
+ghost use Rattle.solv_watch.specs.Inner.Watching.{AreChained, AreHeads, AreNarrow};
+ghost use Rattle.solv_core.specs.Inner.Contradictions.{AreRefuted, IsLogWith, IsRefutedRule, IsWhatRefutes};
 
 use crate::refutation::log_of;
 use solv_derive::Log;

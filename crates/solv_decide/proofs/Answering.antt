@@ -14,26 +14,28 @@ use Rattle.solv_derive.specs.Leaves.{leaves, leaves_true, rule_true}
 use Rattle.solv_derive.specs.Logs.{is_good_log}
 use Rattle.solv_derive.specs.Range.{steps_over}
 use Rattle.solv_derive.specs.declared.logs.Log.{Log}
-use Rattle.solv_trail.specs.Asked.{KeepsLaw, enabled_clauses, set_of}
+use Rattle.solv_trail.specs.Inner.Asked.{KeepsLaw}
+use Rattle.solv_trail.specs.Asked.{enabled_clauses, set_of}
 use Rattle.solv_trail.specs.Propagated.{in_use}
 use Rattle.solv_trail.specs.declared.questions.Ask.{Ask}
 use Rattle.solv_core.specs.Cores.{CoreOf}
 use Rattle.solv_core.specs.GoodTrails.{IsGoodTrail, facts_of}
 use Rattle.solv_core.specs.Ledgers.{IsGoodLedger}
-use Rattle.solv_core.specs.Running.{IsFound, IsRefutation, is_log_over}
+use Rattle.solv_core.specs.Inner.Running.{IsFound, IsRefutation, is_log_over}
 use Rattle.solv_core.specs.declared.ledger.Ledger.{Ledger}
 use Rattle.solv_core.specs.declared.verdicts.Trail.{Trail}
 use Rattle.solv_core.specs.declared.verdicts.Verdict.{Verdict}
 use Rattle.solv_core.specs.declared.verdicts.Verdict.TheVariants as verdict
 use Rattle.solv_rules.specs.Books.{owners_from}
 use Rattle.solv_questions.specs.Questions.{Request, rules_of, enabled_rules, asks}
-use Rattle.solv_questions.specs.Law.{QuestionsKeepTheLaw}
+use Rattle.solv_questions.specs.Inner.Law.{QuestionsKeepTheLaw}
 use Rattle.solv_questions.proofs.Members.{Has, all_by, all_at, has_flat, of_flat}
 use Rattle.solv_questions.proofs.Origins.{is_from, of_enabled}
 use Rattle.solv_questions.proofs.Placed.{placed}
-use Rattle.solv_plan.specs.Plans.{plan_asks}
-use Rattle.solv_plan.specs.PlanLaw.{PlansAskTheQuestions}
-use Rattle.solv_decide.specs.Deciding.{Asker, IsLawful, IsAskedFor, IsSolution, IsRefuted, IsDecided, rules_on, clauses_on, meets_all}
+use Rattle.solv_plan.specs.Inner.Plans.{plan_asks}
+use Rattle.solv_plan.specs.Inner.PlanLaw.{PlansAskTheQuestions}
+use Rattle.solv_decide.specs.Deciding.{Asker, IsAskedFor, IsSolution, IsRefuted, IsDecided, rules_on, clauses_on, meets_all}
+use Rattle.solv_decide.specs.Inner.Deciding.{IsLawful}
 use Rattle.solv_decide.proofs.Enabling.{clauses_are, used_there, lengths_are}
 
 module _ (r : Request) (asker : Asker) (core : CoreOf) (asked : IsAskedFor r asker core) (plans : PlansAskTheQuestions) where

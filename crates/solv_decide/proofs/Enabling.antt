@@ -4,7 +4,6 @@ use Rattle.std.specs.Prelude.{ℤ, flat_map, length, replicate, slice_get, nat_l
 use Rattle.std.specs.List.{list_all}
 use Rattle.std.proofs.lemmas.Bool.{and_from, lt-ltb, false≢true}
 use Rattle.std.proofs.lemmas.List.{length-append, length-replicate}
-use Rattle.solv_pool.proofs.Lists.{list_all_join}
 use Rattle.solv_pool.specs.Catalog.{Catalog}
 use Rattle.solv_pool.specs.Clauses.{rule_clauses}
 use Rattle.solv_pool.specs.RuleMeaning.{HardRule}
@@ -13,6 +12,7 @@ use Rattle.solv_trail.specs.Propagated.{in_use}
 use Rattle.solv_rules.specs.Books.{owners_from}
 use Rattle.solv_questions.specs.Questions.{enabled_from}
 use Rattle.solv_questions.proofs.Members.{Has}
+use Rattle.solv_list.proofs.Lists.{list_all_join}
 
 module _ (catalog : Catalog) (enabled : List Bool) where
   abbrev cl : HardRule → List (List ℤ)

@@ -1,7 +1,7 @@
 -- The set of a trail, from the packages of its events.
-use Rattle.std.proofs.Common.{◌≡◌, ◌≤◌, ◌<◌, ◌+◌, ℕ, zero, suc, Bool, true, false, not, cond, ◌&&◌, ◌||◌, List, [], ◌∷◌, ◌++◌, refl, sym, ap, ◌∙◌, inl, inr, subst, arith, eq-eqb}
-use Rattle.std.specs.Prelude.{ℤ, pos, negsuc, filter, flat_map, ◌==◌, Result, Ok, Err, IfOk}
-use Rattle.std.specs.List.{list_any, list_all, range_with_len}
+use Rattle.std.proofs.Common.{◌≡◌, ◌≤◌, ℕ, zero, suc, Bool, true, false, cond, ◌||◌, List, [], ◌∷◌, refl, sym, ap, ◌∙◌, inl, inr, subst, arith, eq-eqb}
+use Rattle.std.specs.Prelude.{pos, negsuc, filter, flat_map, ◌==◌, Result, Ok, Err, IfOk}
+use Rattle.std.specs.List.{list_all, range_with_len}
 use Rattle.std.specs.Ordering.{int_eq}
 use Rattle.std.proofs.lemmas.Bool.{and_parts, and_from, eqb-true, cases_Bool}
 use Rattle.std.proofs.lemmas.Bool.Decides.{Decides-int_eq}
@@ -9,7 +9,6 @@ use Rattle.std.proofs.lemmas.List.Folds.{list_any-append}
 use Rattle.solv_pool.specs.Words.{is_among}
 use Rattle.solv_pool.specs.Propagation.{is_fact}
 use Rattle.solv_pool.specs.TaskBelonging.{is_pack}
-use Rattle.solv_pool.proofs.Lists.{list_all_join}
 use Rattle.solv_derive.specs.Range.{names_package, is_over}
 use Rattle.solv_trail.specs.Asked.{set_of}
 use Rattle.solv_core.specs.GoodTrails.{facts_of, literal_of}
@@ -17,15 +16,11 @@ use Rattle.solv_core.specs.declared.verdicts.Event.{Event}
 use Rattle.solv_core.specs.declared.verdicts.Event.TheVariants as event
 use Rattle.solv_questions.proofs.Members.{Has}
 use Rattle.solv_questions.proofs.Asking.{in_range}
-use Rattle.solv_decide.specs.Sets.{pack_of, IsSetOf}
-
-same_tests : (a b : Bool) → (a ≡ true → b ≡ true) → (b ≡ true → a ≡ true) → a ≡ b
-same_tests true b h k = sym (h refl)
-same_tests false true h k = k refl
-same_tests false false h k = refl
-
-turned : (a b : ℕ) → (a == b) ≡ (b == a)
-turned a b = same_tests (a == b) (b == a) (λ h. eq-eqb b a (sym (eqb-true a b h))) (λ h. eq-eqb a b (sym (eqb-true b a h)))
+use Rattle.solv_decide.specs.Inner.Sets.{pack_of}
+use Rattle.solv_decide.specs.Sets.{IsSetOf}
+use Rattle.solv_list.proofs.Booleans.{or_false, same_truth}
+use Rattle.solv_list.proofs.Lists.{list_all_join}
+use Rattle.solv_list.proofs.Numbers.{equal_swapped}
 
 -- the packages of an event are over what its literal is over
 one_pack : (count : ℕ) (e : Event) → names_package count (literal_of e) ≡ true → list_all (is_pack count) (pack_of e) ≡ true
@@ -43,13 +38,9 @@ packs_over count (e ∷ events) h =
 zero_apart : (p : ℕ) → 1 ≤ p → (p == 0) ≡ false
 zero_apart p h = grind (arith, h)
 
-or_none : (a : Bool) → (a || false) ≡ a
-or_none true = refl
-or_none false = refl
-
 -- a package is one of an event exactly where its literal says that it is in
 int_tests : (p q : ℕ) → int_eq (pos p) (pos q) ≡ (p == q)
-int_tests p q = same_tests (int_eq (pos p) (pos q)) (p == q)
+int_tests p q = same_truth (int_eq (pos p) (pos q)) (p == q)
     (λ h. eq-eqb p q (ap (λ z. elim z as (λ _. ℕ) [ pos n ↦ n | negsuc n ↦ 0 ]) ((Decides-int_eq (pos p) (pos q)).0 h)))
     (λ h. (Decides-int_eq (pos p) (pos q)).1 (ap pos (eqb-true p q h)))
 
@@ -61,9 +52,9 @@ never_out p k = elim (cases_Bool (int_eq (pos p) (negsuc k))) [ inl y ↦ absurd
 
 one_fact : (p : ℕ) → 1 ≤ p → (e : Event) → is_among (pack_of e) p ≡ int_eq (pos p) (literal_of e)
 one_fact p h (event.Known (pos zero)) = sym (int_tests p 0 ∙ zero_apart p h)
-one_fact p h (event.Known (pos (suc q))) = or_none (suc q == p) ∙ turned (suc q) p ∙ sym (int_tests p (suc q))
+one_fact p h (event.Known (pos (suc q))) = or_false (suc q == p) ∙ equal_swapped (suc q) p ∙ sym (int_tests p (suc q))
 one_fact p h (event.Known (negsuc k)) = sym (never_out p k)
-one_fact p h (event.Took q o) = or_none (o == p) ∙ turned o p ∙ sym (int_tests p o)
+one_fact p h (event.Took q o) = or_false (o == p) ∙ equal_swapped o p ∙ sym (int_tests p o)
 
 among_facts : (p : ℕ) → 1 ≤ p → (events : List Event) → is_among (flat_map pack_of events) p ≡ is_fact (facts_of events) (pos p)
 among_facts p h [] = refl
@@ -72,7 +63,7 @@ among_facts p h (e ∷ events) =
     ∙ ap (λ b. b || is_among (flat_map pack_of events) p) (one_fact p h e)
     ∙ ap (λ b. int_eq (pos p) (literal_of e) || b) (among_facts p h events)
 
-filter_alike : (f g : ℕ → Bool) (xs : List ℕ) → ((x : ℕ) → Has xs x → f x ≡ g x) → filter f xs ≡ filter g xs
+pub filter_alike : (f g : ℕ → Bool) (xs : List ℕ) → ((x : ℕ) → Has xs x → f x ≡ g x) → filter f xs ≡ filter g xs
 filter_alike f g [] h = refl
 filter_alike f g (x ∷ xs) h = ap (λ b. cond b (x ∷ filter f xs) (filter f xs)) (h x (inl refl)) ∙ ap (λ l. cond (g x) (x ∷ l) l) (filter_alike f g xs (λ y k. h y (inr k)))
 

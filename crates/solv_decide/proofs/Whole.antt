@@ -5,7 +5,6 @@ use Rattle.std.specs.List.{list_all, range_with_len}
 use Rattle.std.proofs.lemmas.Bool.{and_parts, and_from, lt-ltb, le-leb, eqb-true, cases_Bool, false≢true}
 use Rattle.std.proofs.lemmas.List.{length-append}
 use Rattle.solv_base.specs.Dependency.{IsWellFounded}
-use Rattle.solv_pool.proofs.Lists.{list_all_join, list_all_imp}
 use Rattle.solv_pool.specs.Words.{is_among}
 use Rattle.solv_pool.specs.Catalog.{Catalog, packages}
 use Rattle.solv_pool.specs.Clauses.{rule_clauses, words, words_of_all}
@@ -31,6 +30,7 @@ use Rattle.solv_decide.specs.Deciding.{Asker, IsAskedFor, IsDecided}
 use Rattle.solv_decide.proofs.Enabling.{owners_below}
 use Rattle.solv_questions.proofs.Members.{Has, any_has}
 use Rattle.solv_questions.proofs.Asking.{in_range}
+use Rattle.solv_list.proofs.Lists.{all_weaker, list_all_join}
 
 -- a number among a range is one of it
 among_range : (n p : ℕ) → is_among (range_with_len 1 n) p ≡ true → (1 ≤ p) × (p < 1 + n)
@@ -49,7 +49,7 @@ module _ (catalog : Catalog) where
       and_from (nat_lt 0 (suc k)) (nat_le (suc k) (length catalog.universe.packages)) (lt-ltb 0 (suc k) (omega (arith, r.0))) (le-leb (suc k) (length catalog.universe.packages) (omega (arith, r.1)))
 
   clause_over : (c : List ℤ) → list_all (names_one catalog) c ≡ true → is_over (length catalog.universe.packages) c ≡ true
-  clause_over c h = list_all_imp (names_one catalog) (names_package (length catalog.universe.packages)) literal_over c h
+  clause_over c h = all_weaker (names_one catalog) (names_package (length catalog.universe.packages)) literal_over c h
 
   -- the clauses of rules of which a book can be made name packages
   pub clauses_over : ClausesNamePackages → (rules : List HardRule) → list_all (is_bookable catalog) rules ≡ true → are_over (length catalog.universe.packages) (flat_map (rule_clauses catalog) rules) ≡ true
@@ -57,7 +57,7 @@ module _ (catalog : Catalog) where
   clauses_over law (r ∷ rules) h =
       let both = and_parts (is_bookable catalog r) (list_all (is_bookable catalog) rules) h in
       list_all_join (is_over (length catalog.universe.packages)) (rule_clauses catalog r) (flat_map (rule_clauses catalog) rules)
-      (list_all_imp (list_all (names_one catalog)) (is_over (length catalog.universe.packages)) clause_over (rule_clauses catalog r) (law catalog r (and_parts (names_packages catalog r) (has_form catalog r) both.0).0))
+      (all_weaker (list_all (names_one catalog)) (is_over (length catalog.universe.packages)) clause_over (rule_clauses catalog r) (law catalog r (and_parts (names_packages catalog r) (has_form catalog r) both.0).0))
       (clauses_over law rules both.1)
 
   -- where there is no fault, each word is within the limit

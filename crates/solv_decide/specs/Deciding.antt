@@ -1,5 +1,5 @@
 -- What deciding gives: sets by the questions of a task, and refutations.
-use Rattle.std.specs.Prelude.{◌≡◌, ℕ, ℤ, Bool, true, List, flat_map, length, nat_lt, ◌&&◌, Option}
+use Rattle.std.specs.Prelude.{◌≡◌, ℕ, ℤ, Bool, true, List, flat_map, length, nat_lt, ◌&&◌}
 use Rattle.std.specs.List.{list_all}
 use Rattle.solv_base.specs.Dependency.{IsWellFounded}
 use Rattle.solv_pool.specs.Clauses.{rule_clauses}
@@ -9,9 +9,8 @@ use Rattle.solv_derive.specs.Leaves.{leaves}
 use Rattle.solv_derive.specs.Logs.{is_good_log}
 use Rattle.solv_derive.specs.Range.{are_over, steps_over}
 use Rattle.solv_derive.specs.declared.logs.Log.{Log}
-use Rattle.solv_trail.specs.Asked.{KeepsLaw, enabled_clauses, set_of}
+use Rattle.solv_trail.specs.Asked.{set_of}
 use Rattle.solv_trail.specs.Propagated.{in_use}
-use Rattle.solv_trail.specs.declared.questions.Ask.{Ask}
 use Rattle.solv_core.specs.Cores.{CoreOf}
 use Rattle.solv_core.specs.GoodTrails.{IsGoodTrail, facts_of}
 use Rattle.solv_core.specs.declared.verdicts.Trail.{Trail}
@@ -20,7 +19,6 @@ use Rattle.solv_core.specs.declared.verdicts.Verdict.TheVariants as verdict
 use Rattle.solv_rules.specs.Books.{owners_from}
 use Rattle.solv_questions.specs.Questions.{Request, rules_of, enabled_rules, asks}
 use Rattle.solv_questions.specs.Law.{AsksInForm}
-use Rattle.solv_plan.specs.Plans.{plan_asks}
 use Rattle.solv_plan.specs.PlanOf.{plan_of}
 use Rattle.solv_plan.specs.declared.plans.Plan.{Plan}
 
@@ -28,10 +26,6 @@ use Rattle.solv_plan.specs.declared.plans.Plan.{Plan}
 pub record Asker : Type 0 where
   pub plan : Plan
   pub packages : ℕ
-
--- the law of guides holds of it over these clauses with their owners
-abbrev pub IsLawful : Asker → List (List ℤ) → List ℕ → Type 0
-IsLawful asker clauses owners = (enabled : List Bool) → KeepsLaw asker.packages (enabled_clauses enabled clauses owners) (λ known. plan_asks asker.plan known enabled)
 
 -- it asks the questions of this request, and the core is over the clauses of all its rules
 pub record IsAskedFor (r : Request) (asker : Asker) (core : CoreOf) : Type 0 where

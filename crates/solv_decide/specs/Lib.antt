@@ -1,3 +1,3 @@
 pub mod Deciding
 pub mod Sets
-pub mod GuideLaw
+pub mod Inner

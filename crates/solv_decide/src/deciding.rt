@@ -7,7 +7,7 @@ ghost use Rattle.solv_prov.specs.Index.{IsIndexOf};
 ghost use Rattle.solv_jobs.specs.Marking.{HasMarks};
 ghost use Rattle.solv_rules.specs.Books.{IsBook, first_fault, is_bookable, read_rules};
 ghost use Rattle.solv_core.specs.Ledgers.{IsGoodLedger};
-ghost use Rattle.solv_core.specs.Running.{is_spent_verdict};
+ghost use Rattle.solv_core.specs.Inner.Running.{is_spent_verdict};
 ghost use Rattle.solv_rules.specs.Making.{asks_in_form};
 ghost use Rattle.solv_questions.specs.Questions.{asks, request_of, rules_of};
 ghost use Rattle.solv_decide.specs.Deciding.{IsAskedFor, IsDecided};

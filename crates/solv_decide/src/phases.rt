@@ -6,11 +6,11 @@ ghost use Rattle.solv_prov.specs.Index.{IsIndexOf};
 ghost use Rattle.solv_jobs.specs.Marking.{HasMarks};
 ghost use Rattle.solv_rules.specs.Books.{read_rules};
 ghost use Rattle.solv_questions.specs.Questions.{rules_of, request_of};
-ghost use Rattle.solv_plan.specs.Plans.{plan_asks};
+ghost use Rattle.solv_plan.specs.Inner.Plans.{plan_asks};
 ghost use Rattle.solv_plan.specs.PlanOf.{plan_of};
-ghost use Rattle.solv_plan.specs.Settling.{is_right_for};
-ghost use Rattle.solv_decide.specs.Deciding.{IsLawful};
-ghost use Rattle.solv_decide.specs.GuideLaw.{lawful};
+ghost use Rattle.solv_plan.specs.Inner.Settling.{is_right_for};
+ghost use Rattle.solv_decide.specs.Inner.Deciding.{IsLawful};
+ghost use Rattle.solv_decide.specs.Inner.GuideLaw.{lawful};
 
 use solv_core::{Ask, Guide, Known};
 use solv_plan::{Memory, Plan, next};

@@ -1,16 +1,18 @@
 //! The questions of a task as a guide that remembers what is settled.
-ghost use Rattle.std.specs.Prelude.{◌≡◌, ◌⊎◌, ◌≤◌, ◌+◌, ◌==◌, ◌++◌, ◌∷◌, [], true, length, take, drop, nat_lt, IfOk, OnOk, OnErr};
+ghost use Rattle.std.specs.Prelude.{◌≡◌, ◌⊎◌, ◌≤◌, ◌+◌, ◌==◌, ◌++◌, ◌∷◌, [], true, length, take, drop, nat_lt, IfOk, IfSome, OnOk, OnErr};
 ghost use Rattle.std.specs.List.{list_all};
-ghost use Rattle.solv_core.specs.Ledgers.{are_of_run, IsGoodLedger};
-ghost use Rattle.solv_core.specs.Running.{IsFound, IsRefutation, is_log_over, is_spent_verdict};
-ghost use Rattle.solv_plan.specs.Plans.{plan_asks};
-ghost use Rattle.solv_plan.specs.Settling.{is_right_for};
+ghost use Rattle.solv_core.specs.Inner.Ledgers.{are_of_run};
+ghost use Rattle.solv_core.specs.Ledgers.{IsGoodLedger};
+ghost use Rattle.solv_core.specs.Inner.Running.{IsFound, IsRefutation, is_log_over, is_spent_verdict};
+ghost use Rattle.solv_plan.specs.Inner.Plans.{plan_asks};
+ghost use Rattle.solv_plan.specs.Inner.Settling.{AreFit, is_right_for};
 ghost use Rattle.solv_plan.specs.declared.plans.Plan.{Plan};
-ghost use Rattle.solv_decide.specs.Deciding.{IsLawful};
-ghost use Rattle.solv_decide.specs.GuideLaw.{lawful};
+ghost use Rattle.solv_decide.specs.Inner.Deciding.{IsLawful};
+ghost use Rattle.solv_decide.specs.Inner.GuideLaw.{lawful};
+ghost use Rattle.solv_decide.specs.Inner.Serving.{serves_on, still_fits};
 
 use crate::phases::Phases;
-use solv_core::{Ask, Core, Guide, Known, Ledger, Verdict};
+use solv_core::{Ask, Core, Guide, Known, Ledger, Recaller, Verdict};
 use solv_plan::{Memory, next_recalling};
 use std::alloc::AllocError;
 use std::cell::Cell;
@@ -33,7 +35,8 @@ struct Remembered<K: Planned> {
     ghost right: { is_right_for K.plan memory ≡ true },
 }
 
-/// The questions of a task, and what is settled of them. While it is asked, it lends out what it remembers.
+/// The questions of a task, and what is settled of them. While a core goes from one conflict to the next, it has lent out what it
+/// remembers.
 #[derive(Drop)]
 struct Recalling<'a, K: Planned> {
     phases: &'a Phases,
@@ -49,16 +52,46 @@ impl<'a, K: Planned> Guide for Recalling<'a, K> {
     ghost asks = { λ guide known enabled. plan_asks guide.phases.now.plan known enabled };
 
     fn next(&self, known: &Known, enabled: &[bool]) -> Option<Ask> {
-        let Some(remembered) = self.remembered.take() else {
-            return self.phases.next(known, enabled);
-        };
-        let Remembered { mut memory, of } = remembered;
-        let ask = next_recalling(self.phases.plan(), &mut memory, known, enabled);
-        self.remembered.set(Some(Remembered { memory, of }));
-        ask
+        self.phases.next(known, enabled)
     }
 
     ghost keeps_law = { λ guide count clauses owners enabled law few. lawful guide.phases.now count clauses owners enabled law few };
+}
+
+impl<'a, K: Planned> Recaller for Recalling<'a, K> {
+    type Memory = Option<Remembered<K>>;
+
+    ghost serves = { λ guide lent lits. IfSome lent (λ remembered. AreFit (is_fact lits) remembered.memory) };
+
+    fn begin(&self, known: &Known) -> Option<Remembered<K>> {
+        let Some(remembered) = self.remembered.take() else {
+            return None;
+        };
+        let Remembered { mut memory, of } = remembered;
+        memory.fit(known);
+        Some(Remembered { memory, of })
+    }
+
+    fn next_recalling(
+        &self,
+        memory: &mut Option<Remembered<K>>,
+        known: &Known,
+        enabled: &[bool],
+    ) -> Option<Ask> {
+        let Some(remembered) = memory.take() else {
+            return self.phases.next(known, enabled);
+        };
+        let Remembered { memory: mut held, of } = remembered;
+        let ask = next_recalling(self.phases.plan(), &mut held, known, enabled);
+        *memory = Some(Remembered { memory: held, of });
+        ask
+    }
+
+    fn end(&self, memory: Option<Remembered<K>>) {
+        self.remembered.set(memory);
+    }
+
+    ghost keeps_serving = { λ guide lent before after grown serves. serves_on lent serves (λ remembered fits. still_fits remembered.memory before after grown fits) };
 }
 
 /// A run in which what is settled of the questions is remembered.
@@ -98,5 +131,5 @@ pub(crate) fn run_recalling<K: Planned>(
         phases,
         remembered: Cell::new(Some(remembered)),
     };
-    core.run(enabled, &guide, ledger)
+    core.run_recalling(enabled, &guide, ledger)
 }

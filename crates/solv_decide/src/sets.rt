@@ -1,6 +1,7 @@
 //! The set of a trail.
 ghost use Rattle.std.specs.Prelude.{◌≡◌, ◌++◌, ◌∷◌, [], flat_map, option_to_list, IfOk};
-ghost use Rattle.solv_decide.specs.Sets.{IsSetOf, pack_of};
+ghost use Rattle.solv_decide.specs.Sets.{IsSetOf};
+ghost use Rattle.solv_decide.specs.Inner.Sets.{pack_of};
 
 use solv_core::{Event, Trail};
 use solv_jobs::put_in_order;

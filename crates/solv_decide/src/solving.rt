@@ -1,8 +1,9 @@
 //! Sets that meet the enabled rules of a task, by its questions.
 ghost use Rattle.std.specs.Prelude.{◌≡◌, ◌⊎◌, ◌≤◌, ◌+◌, ◌==◌, ◌++◌, ◌∷◌, [], true, length, take, drop, nat_lt, IfOk, OnOk, OnErr};
 ghost use Rattle.std.specs.List.{list_all};
-ghost use Rattle.solv_core.specs.Ledgers.{are_of_run, IsGoodLedger};
-ghost use Rattle.solv_core.specs.Running.{is_log_over, is_spent_verdict};
+ghost use Rattle.solv_core.specs.Inner.Ledgers.{are_of_run};
+ghost use Rattle.solv_core.specs.Ledgers.{IsGoodLedger};
+ghost use Rattle.solv_core.specs.Inner.Running.{is_log_over, is_spent_verdict};
 ghost use Rattle.solv_questions.specs.Questions.{Request, asks};
 ghost use Rattle.solv_decide.specs.Deciding.{IsAskedFor, IsDecided};
 

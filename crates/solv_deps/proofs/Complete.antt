@@ -10,14 +10,7 @@ use Rattle.solv_deps.specs.declared.sign.Operator.{Operator}
 use Rattle.solv_deps.specs.declared.sign.Operator.TheVariants.{Link, Minus, If, Else}
 use Rattle.solv_deps.specs.Grammar.{operator, comparison, no_comparison, opens, closes, is_plain, is_namespace, named, joined, sign, Operand, Chain, Expr, name, compared, inside, two, more, alone, chain, less, provided, provided_else, provided_inside, operand_words, chain_words, expr_words, operand_sense, chain_sense, expr_sense, operand_right, chain_right, expr_right, operand_depth, chain_depth, expr_depth, operand_operators, chain_operators, expr_operators}
 use Rattle.solv_deps.specs.Reading.{Hand, nothing, in_chain, in_difference, in_condition, in_else, in_inner_else, Due, operand_due, evr_due, operator_due, Point, whole, goes_on, reading_from, reading, and_then, comparison_due, at_operator}
-
-left : (a b : Bool) → (a && b) ≡ true → a ≡ true
-left true b h = refl
-left false b h = h
-
-right : (a b : Bool) → (a && b) ≡ true → b ≡ true
-right true b h = h
-right false b h = cc
+use Rattle.solv_list.proofs.Booleans.{false_of_not, first_of_both, second_of_both}
 
 abbrev pub point : List Hand → ℕ → Due → Point
 point outer n due = record { outer = outer; operators = n; due = due }
@@ -145,10 +138,6 @@ max_left a b c h = omega arith
 max_right : (a b c : ℕ) → c + max a b ≤ 64 → c + b ≤ 64
 max_right a b c h = omega arith
 
-not_true : (b : Bool) → not b ≡ true → b ≡ false
-not_true true h = sym h
-not_true false h = refl
-
 chain_whole : (j : Joint) (c : Chain) → joined j (chain_front j c) (operand_sense (chain_last c)) ≡ chain_sense j c
 chain_whole j (two a b) = refl
 chain_whole j (more c b) = refl
@@ -163,12 +152,12 @@ mutual
   operand_reads : (a : Operand) → operand_right a ≡ true → Reads a
   operand_reads (name w) r outer n h rest lo ld = plain_step outer n h w rest r ∙ rw (add-zero) refl
   operand_reads (compared w c e) r outer n h rest lo ld =
-      let r1 = right (is_plain w) (not (is_namespace w) && (is_some (comparison c) && is_plain e)) r in
-      let r2 = right (not (is_namespace w)) (is_some (comparison c) && is_plain e) r1 in
-      plain_step outer n h w (c ∷ e ∷ rest) (left (is_plain w) _ r)
-      ∙ ap (λ b. reading_from (point outer n (operator_due h (if b then None else Some w) (named w))) (c ∷ e ∷ rest)) (not_true (is_namespace w) (left (not (is_namespace w)) _ r1))
-      ∙ compared_step outer n h w c (named w) (e ∷ rest) (left (is_some (comparison c)) _ r2)
-      ∙ evr_step outer n h w (unwrap_or (comparison c) no_comparison) e rest (right (is_some (comparison c)) _ r2)
+      let r1 = second_of_both (is_plain w) (not (is_namespace w) && (is_some (comparison c) && is_plain e)) r in
+      let r2 = second_of_both (not (is_namespace w)) (is_some (comparison c) && is_plain e) r1 in
+      plain_step outer n h w (c ∷ e ∷ rest) (first_of_both (is_plain w) _ r)
+      ∙ ap (λ b. reading_from (point outer n (operator_due h (if b then None else Some w) (named w))) (c ∷ e ∷ rest)) (false_of_not (is_namespace w) (first_of_both (not (is_namespace w)) _ r1))
+      ∙ compared_step outer n h w c (named w) (e ∷ rest) (first_of_both (is_some (comparison c)) _ r2)
+      ∙ evr_step outer n h w (unwrap_or (comparison c) no_comparison) e rest (second_of_both (is_some (comparison c)) _ r2)
       ∙ rw (add-zero) refl
   operand_reads (inside x) r outer n h rest lo ld =
       open_step outer n h ((expr_words x ++ codes ")" ∷ []) ++ rest) (omega arith)
@@ -179,13 +168,13 @@ mutual
   chain_reads : (c : Chain) → chain_right c ≡ true → (j : Joint) (outer : List Hand) (n : ℕ) (rest : List (List ℕ)) → n + chain_operators c ≤ 64 → length outer + chain_depth c ≤ 64
       → reading_from (point outer n (operand_due nothing)) (chain_words j c ++ rest) ≡ reading_from (point outer (n + chain_operators c) (operator_due (in_chain j (chain_front j c)) (bare (chain_last c)) (operand_sense (chain_last c)))) rest
   chain_reads (two a b) r j outer n rest lo ld =
-      pair_reads a b (operand_reads a (left (operand_right a) _ r)) (operand_reads b (right (operand_right a) _ r)) outer n nothing (in_chain j (operand_sense a)) (Link j) rest refl lo
+      pair_reads a b (operand_reads a (first_of_both (operand_right a) _ r)) (operand_reads b (second_of_both (operand_right a) _ r)) outer n nothing (in_chain j (operand_sense a)) (Link j) rest refl lo
       (max_left (operand_depth a) (operand_depth b) (length outer) ld) (max_right (operand_depth a) (operand_depth b) (length outer) ld)
   chain_reads (more c b) r j outer n rest lo ld =
       let m : n + chain_operators c + (operand_operators b + 1) ≡ n + (chain_operators c + operand_operators b + 1) = omega arith in
       ap (reading_from (point outer n (operand_due nothing))) (append_assoc (chain_words j c) (sign (Link j) ∷ operand_words b) rest)
-      ∙ chain_reads c (left (chain_right c) _ r) j outer n (sign (Link j) ∷ (operand_words b ++ rest)) (omega arith) (max_left (chain_depth c) (operand_depth b) (length outer) ld)
-      ∙ after_sign b (operand_reads b (right (chain_right c) _ r)) outer (n + chain_operators c) (in_chain j (chain_front j c)) (in_chain j (chain_sense j c)) (bare (chain_last c)) (operand_sense (chain_last c)) (Link j) rest
+      ∙ chain_reads c (first_of_both (chain_right c) _ r) j outer n (sign (Link j) ∷ (operand_words b ++ rest)) (omega arith) (max_left (chain_depth c) (operand_depth b) (length outer) ld)
+      ∙ after_sign b (operand_reads b (second_of_both (chain_right c) _ r)) outer (n + chain_operators c) (in_chain j (chain_front j c)) (in_chain j (chain_sense j c)) (bare (chain_last c)) (operand_sense (chain_last c)) (Link j) rest
       (joint_again outer j (chain_front j c) (operand_sense (chain_last c)) ∙ ap (λ d. Some (in_chain j d)) (chain_whole j c)) (omega arith) (max_right (chain_depth c) (operand_depth b) (length outer) ld)
       ∙ ap (λ i. reading_from (point outer i (operator_due (in_chain j (chain_sense j c)) (bare b) (operand_sense b))) rest) m
 
@@ -194,13 +183,13 @@ mutual
   expr_reads (alone a) r outer n rest lo ld = operand_reads a r outer n nothing rest lo ld
   expr_reads (chain j c) r outer n rest lo ld = chain_reads c r j outer n rest lo ld
   expr_reads (less a b) r outer n rest lo ld =
-      pair_reads a b (operand_reads a (left (operand_right a) _ r)) (operand_reads b (right (operand_right a) _ r)) outer n nothing (in_difference (operand_sense a)) Minus rest refl lo
+      pair_reads a b (operand_reads a (first_of_both (operand_right a) _ r)) (operand_reads b (second_of_both (operand_right a) _ r)) outer n nothing (in_difference (operand_sense a)) Minus rest refl lo
       (max_left (operand_depth a) (operand_depth b) (length outer) ld) (max_right (operand_depth a) (operand_depth b) (length outer) ld)
   expr_reads (provided a b) r outer n rest lo ld =
-      pair_reads a b (operand_reads a (left (operand_right a) _ r)) (operand_reads b (right (operand_right a) _ r)) outer n nothing (in_condition (operand_sense a)) If rest refl lo
+      pair_reads a b (operand_reads a (first_of_both (operand_right a) _ r)) (operand_reads b (second_of_both (operand_right a) _ r)) outer n nothing (in_condition (operand_sense a)) If rest refl lo
       (max_left (operand_depth a) (operand_depth b) (length outer) ld) (max_right (operand_depth a) (operand_depth b) (length outer) ld)
   expr_reads (provided_else a b c) r outer n rest lo ld =
-      let r1 = right (operand_right a) (operand_right b && operand_right c) r in
+      let r1 = second_of_both (operand_right a) (operand_right b && operand_right c) r in
       let oa = operand_operators a in
       let ob = operand_operators b in
       let oc = operand_operators c in
@@ -208,14 +197,14 @@ mutual
       let dr = max_right (operand_depth a) (max (operand_depth b) (operand_depth c)) (length outer) ld in
       let m : n + oa + (ob + 1) + (oc + 1) ≡ n + (oa + ob + oc + 2) = omega arith in
       ap (reading_from (point outer n (operand_due nothing))) (regroup (operand_words a) (sign If) (operand_words b) (sign Else) (operand_words c) rest)
-      ∙ operand_reads a (left (operand_right a) _ r) outer n nothing (sign If ∷ (operand_words b ++ sign Else ∷ (operand_words c ++ rest))) (omega arith) da
-      ∙ after_sign b (operand_reads b (left (operand_right b) _ r1)) outer (n + oa) nothing (in_condition (operand_sense a)) (bare a) (operand_sense a) If (sign Else ∷ (operand_words c ++ rest)) refl (omega arith)
+      ∙ operand_reads a (first_of_both (operand_right a) _ r) outer n nothing (sign If ∷ (operand_words b ++ sign Else ∷ (operand_words c ++ rest))) (omega arith) da
+      ∙ after_sign b (operand_reads b (first_of_both (operand_right b) _ r1)) outer (n + oa) nothing (in_condition (operand_sense a)) (bare a) (operand_sense a) If (sign Else ∷ (operand_words c ++ rest)) refl (omega arith)
       (max_left (operand_depth b) (operand_depth c) (length outer) dr)
-      ∙ after_sign c (operand_reads c (right (operand_right b) _ r1)) outer (n + oa + (ob + 1)) (in_condition (operand_sense a)) (in_else (operand_sense a) (operand_sense b)) (bare b) (operand_sense b) Else rest refl (omega arith)
+      ∙ after_sign c (operand_reads c (second_of_both (operand_right b) _ r1)) outer (n + oa + (ob + 1)) (in_condition (operand_sense a)) (in_else (operand_sense a) (operand_sense b)) (bare b) (operand_sense b) Else rest refl (omega arith)
       (max_right (operand_depth b) (operand_depth c) (length outer) dr)
       ∙ ap (λ i. reading_from (point outer i (operator_due (in_else (operand_sense a) (operand_sense b)) (bare c) (operand_sense c))) rest) m
   expr_reads (provided_inside a b c) r outer n rest lo ld =
-      let r1 = right (operand_right a) (operand_right b && operand_right c) r in
+      let r1 = second_of_both (operand_right a) (operand_right b && operand_right c) r in
       let oa = operand_operators a in
       let ob = operand_operators b in
       let oc = operand_operators c in
@@ -225,12 +214,12 @@ mutual
       let inner : length (in_condition (operand_sense a) ∷ outer) + mx ≤ 64 = omega arith in
       let m : n + oa + 1 + ob + (oc + 1) ≡ n + (oa + ob + oc + 2) = omega arith in
       ap (reading_from (point outer n (operand_due nothing))) (regroup_inside (operand_words a) (sign If) (operand_words b) (sign Else) (operand_words c) rest)
-      ∙ operand_reads a (left (operand_right a) _ r) outer n nothing (sign If ∷ codes "(" ∷ (operand_words b ++ sign Else ∷ (operand_words c ++ codes ")" ∷ rest))) (omega arith) da
+      ∙ operand_reads a (first_of_both (operand_right a) _ r) outer n nothing (sign If ∷ codes "(" ∷ (operand_words b ++ sign Else ∷ (operand_words c ++ codes ")" ∷ rest))) (omega arith) da
       ∙ sign_step If outer (n + oa) nothing (in_condition (operand_sense a)) (bare a) (operand_sense a) (codes "(" ∷ (operand_words b ++ sign Else ∷ (operand_words c ++ codes ")" ∷ rest))) refl (omega arith)
       ∙ open_step outer (n + oa + 1) (in_condition (operand_sense a)) (operand_words b ++ sign Else ∷ (operand_words c ++ codes ")" ∷ rest)) (omega arith)
-      ∙ operand_reads b (left (operand_right b) _ r1) (in_condition (operand_sense a) ∷ outer) (n + oa + 1) nothing (sign Else ∷ (operand_words c ++ codes ")" ∷ rest)) (omega arith)
+      ∙ operand_reads b (first_of_both (operand_right b) _ r1) (in_condition (operand_sense a) ∷ outer) (n + oa + 1) nothing (sign Else ∷ (operand_words c ++ codes ")" ∷ rest)) (omega arith)
       (max_left (operand_depth b) (operand_depth c) (length (in_condition (operand_sense a) ∷ outer)) inner)
-      ∙ after_sign c (operand_reads c (right (operand_right b) _ r1)) (in_condition (operand_sense a) ∷ outer) (n + oa + 1 + ob) nothing (in_inner_else (operand_sense a) (operand_sense b)) (bare b) (operand_sense b) Else (codes ")" ∷ rest) refl (omega arith)
+      ∙ after_sign c (operand_reads c (second_of_both (operand_right b) _ r1)) (in_condition (operand_sense a) ∷ outer) (n + oa + 1 + ob) nothing (in_inner_else (operand_sense a) (operand_sense b)) (bare b) (operand_sense b) Else (codes ")" ∷ rest) refl (omega arith)
       (max_right (operand_depth b) (operand_depth c) (length (in_condition (operand_sense a) ∷ outer)) inner)
       ∙ ap (λ i. reading_from (point outer i (operator_due (in_else (operand_sense a) (operand_sense b)) None (operand_sense c))) rest) m
 

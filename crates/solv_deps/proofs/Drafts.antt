@@ -8,8 +8,8 @@ use Rattle.std.proofs.lemmas.Grind.{common_steps}
 use Rattle.solv_base.specs.Dependency.{Dep, missing}
 use Rattle.solv_deps.specs.declared.draft.Written.{Written}
 use Rattle.solv_deps.specs.declared.draft.Written.TheVariants.{Simple, Versioned, Namespace, Joined, Without, If, IfElse}
-use Rattle.solv_deps.specs.Drafts.{at, written, written_after, operands_below, operands_first, said, Extends, Enters, IsDraft}
-use Rattle.solv_deps.proofs.Both.{both_left, both_right}
+use Rattle.solv_deps.specs.Inner.Drafts.{at, written, written_after, operands_below, operands_first, said, Extends, Enters, IsDraft}
+use Rattle.solv_list.proofs.Booleans.{first_of_both, second_of_both}
 
 pub written_after-push : (draft : List (Dep (List ℕ))) (parts : List Written) (part : Written)
     → written_after draft (parts ++ part ∷ []) ≡ written_after draft parts ++ written (at (written_after draft parts)) part ∷ []
@@ -28,20 +28,20 @@ pub operands_first-push : (n : ℕ) (parts : List Written) (part : Written) → 
 operands_first-push n [] part h k = let e : n + 0 ≡ n = omega arith in rw (rw e at k) refl
 operands_first-push n (p ∷ parts) part h k =
     let e : n + suc (length parts) ≡ suc n + length parts = omega arith in
-    rw (both_left (operands_below n p) (operands_first (suc n) parts) h)
-    (operands_first-push (suc n) parts part (both_right (operands_below n p) (operands_first (suc n) parts) h) (rw e at k))
+    rw (first_of_both (operands_below n p) (operands_first (suc n) parts) h)
+    (operands_first-push (suc n) parts part (second_of_both (operands_below n p) (operands_first (suc n) parts) h) (rw e at k))
 
 -- a part reads the same over operands that are the same
 pub same_written : (f g : ℕ → Dep (List ℕ)) (n : ℕ) → ((a : ℕ) → a < n → f a ≡ g a) → (part : Written) → operands_below n part ≡ true → written f part ≡ written g part
 same_written f g n e (Simple w) h = refl
 same_written f g n e (Versioned w c v) h = refl
 same_written f g n e (Namespace w) h = refl
-same_written f g n e (Joined j a b) h = rw (e a (ltb-true a n (both_left (nat_lt a n) (nat_lt b n) h)), e b (ltb-true b n (both_right (nat_lt a n) (nat_lt b n) h))) refl
-same_written f g n e (Without a b) h = rw (e a (ltb-true a n (both_left (nat_lt a n) (nat_lt b n) h)), e b (ltb-true b n (both_right (nat_lt a n) (nat_lt b n) h))) refl
-same_written f g n e (If a b) h = rw (e a (ltb-true a n (both_left (nat_lt a n) (nat_lt b n) h)), e b (ltb-true b n (both_right (nat_lt a n) (nat_lt b n) h))) refl
+same_written f g n e (Joined j a b) h = rw (e a (ltb-true a n (first_of_both (nat_lt a n) (nat_lt b n) h)), e b (ltb-true b n (second_of_both (nat_lt a n) (nat_lt b n) h))) refl
+same_written f g n e (Without a b) h = rw (e a (ltb-true a n (first_of_both (nat_lt a n) (nat_lt b n) h)), e b (ltb-true b n (second_of_both (nat_lt a n) (nat_lt b n) h))) refl
+same_written f g n e (If a b) h = rw (e a (ltb-true a n (first_of_both (nat_lt a n) (nat_lt b n) h)), e b (ltb-true b n (second_of_both (nat_lt a n) (nat_lt b n) h))) refl
 same_written f g n e (IfElse a b c) h =
-    let k = both_right (nat_lt a n) (nat_lt b n && nat_lt c n) h in
-    rw (e a (ltb-true a n (both_left (nat_lt a n) (nat_lt b n && nat_lt c n) h)), e b (ltb-true b n (both_left (nat_lt b n) (nat_lt c n) k)), e c (ltb-true c n (both_right (nat_lt b n) (nat_lt c n) k))) refl
+    let k = second_of_both (nat_lt a n) (nat_lt b n && nat_lt c n) h in
+    rw (e a (ltb-true a n (first_of_both (nat_lt a n) (nat_lt b n && nat_lt c n) h)), e b (ltb-true b n (first_of_both (nat_lt b n) (nat_lt c n) k)), e c (ltb-true c n (second_of_both (nat_lt b n) (nat_lt c n) k))) refl
 
 -- what stands before stays
 pub before_stays : (draft : List (Dep (List ℕ))) (parts : List Written) (k : ℕ) → k < length draft → at (written_after draft parts) k ≡ at draft k
@@ -57,7 +57,7 @@ part_at draft [] i part h e = cc
 part_at draft (p ∷ parts) zero part h e =
     let same : p ≡ part = cc in
     let n = length draft in
-    let below : operands_below n p ≡ true = both_left (operands_below n p) (operands_first (suc n) parts) h in
+    let below : operands_below n p ≡ true = first_of_both (operands_below n p) (operands_first (suc n) parts) h in
     let d = written (at draft) p in
     let z : n + 0 ≡ n = omega arith in
     let is : at (written_after (draft ++ d ∷ []) parts) n ≡ written (at (written_after (draft ++ d ∷ []) parts)) p =
@@ -69,7 +69,7 @@ part_at draft (p ∷ parts) (suc i) part h e =
     let d = written (at draft) p in
     let l = one_longer draft d in
     let s : length draft + suc i ≡ length (draft ++ d ∷ []) + i = omega arith in
-    rw s (part_at (draft ++ d ∷ []) parts i part (rw l (both_right (operands_below n p) (operands_first (suc n) parts) h)) e)
+    rw s (part_at (draft ++ d ∷ []) parts i part (rw l (second_of_both (operands_below n p) (operands_first (suc n) parts) h)) e)
 
 -- the part of a number, in a draft
 pub said-part : (draft : List Written) (i : ℕ) (part : Written) → operands_first 0 draft ≡ true → slice_get draft i ≡ Some part

@@ -9,10 +9,12 @@ use Rattle.std.proofs.lemmas.Option.{slice_get-get_or}
 use Rattle.solv_base.specs.declared.interning.PoolFault.{PoolFault}
 use Rattle.solv_base.specs.declared.interning.PoolFault.TheVariants as PoolFull
 use Rattle.solv_base.specs.Pool.{Held, HasOneId, most, is_name, name_id, with_name}
-use Rattle.solv_base.proofs.Places.{place_found, at_end, absent}
+use Rattle.solv_base.proofs.Places.{place_found, absent}
 use Rattle.solv_base.proofs.Pools.{same_relation, relation_itself}
 use Rattle.solv_deps.specs.declared.fault.DepFault.TheVariants.{FullRelations}
-use Rattle.solv_deps.specs.Entering.{is_relation, relation_id, text_entered, relation_entered, IsRefusal, refusal}
+use Rattle.solv_deps.specs.Entering.{is_relation, relation_id, text_entered, relation_entered}
+use Rattle.solv_deps.specs.Inner.Entering.{IsRefusal, refusal}
+use Rattle.solv_list.proofs.Lists.{at_end}
 
 below_most : (n : ℕ) → n ≤ most → (n ≡ most → ⊥) → nat_lt n most ≡ true
 below_most n le ne = grind (arith, nat_tests)

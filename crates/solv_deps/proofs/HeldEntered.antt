@@ -7,14 +7,16 @@ use Rattle.solv_base.specs.contracts.relation.DepNodePartialEq.TheImpl.{eq-value
 use Rattle.solv_base.specs.declared.relation.DepNode.{DepNode}
 use Rattle.solv_base.specs.declared.relation.DepNode.TheVariants.{Simple, Versioned, Namespace, And, Or, With, Without, If, IfElse, Unless, UnlessElse}
 use Rattle.solv_base.specs.Dependency.{names_in, operands}
-use Rattle.solv_base.specs.Pool.{Held, HasOneId, IsPool, text_at, text_tree, text_tree_of_node}
+use Rattle.solv_base.specs.Pool.{Held, HasOneId, IsPool, text_at, text_tree}
+use Rattle.solv_base.specs.Inner.Pool.{text_tree_of_node}
 use Rattle.solv_base.proofs.Growth.{text_tree-is}
 use Rattle.solv_base.proofs.Identity.{node_there}
 use Rattle.solv_base.proofs.Places.{place_found, absent}
-use Rattle.solv_base.proofs.Pools.{same_text, text_itself, same_relation, relation_itself}
+use Rattle.solv_base.proofs.Pools.{same_relation, relation_itself}
 use Rattle.solv_deps.specs.Entering.{text_entered, relation_entered, dependency_entered}
-use Rattle.solv_deps.proofs.Both.{both_left, both_right}
 use Rattle.solv_deps.proofs.Entering.{place_within}
+use Rattle.solv_list.proofs.Booleans.{first_of_both, second_of_both}
+use Rattle.solv_list.proofs.Lists.{bytes_themselves, same_bytes}
 
 -- the place of a value that a list holds once
 place_here : {X : Type 0} (eq : X → X → Bool) → ((x y : X) → eq x y ≡ true → x ≡ y) → ((x : X) → eq x x ≡ true)
@@ -35,7 +37,7 @@ some_at (x ∷ xs) (suc k) d h = some_at xs k d (omega arith)
 module _ (held : Held) (p : IsPool held) where
   text_there : (n : ℕ) → n < length held.names → text_entered (text_at held n) held ≡ Ok (record { id = n; held = held })
   text_there n l =
-      let here = place_here bytes_eq same_text text_itself (text_at held n) held.names n p.names_once (some_at held.names n [] l) in
+      let here = place_here bytes_eq same_bytes bytes_themselves (text_at held n) held.names n p.names_once (some_at held.names n [] l) in
       rw (here.0, here.1) refl
 
   relation_there : (id : ℕ) (node : DepNode) → slice_get held.nodes id ≡ Some node → relation_entered node held ≡ Ok (record { id = id; held = held })
@@ -45,16 +47,16 @@ module _ (held : Held) (p : IsPool held) where
 
   module _ (id : ℕ) (below : (o : ℕ) → o < id → dependency_entered (text_tree held o) held ≡ Ok (record { id = o; held = held })) where
     first : (o : ℕ) (os : List ℕ) → list_all (λ x. nat_lt x id) (o ∷ os) ≡ true → dependency_entered (text_tree held o) held ≡ Ok (record { id = o; held = held })
-    first o os h = below o (ltb-true o id (both_left (nat_lt o id) (list_all (λ x. nat_lt x id) os) h))
+    first o os h = below o (ltb-true o id (first_of_both (nat_lt o id) (list_all (λ x. nat_lt x id) os) h))
 
     rest : (o : ℕ) (os : List ℕ) → list_all (λ x. nat_lt x id) (o ∷ os) ≡ true → list_all (λ x. nat_lt x id) os ≡ true
-    rest o os h = both_right (nat_lt o id) (list_all (λ x. nat_lt x id) os) h
+    rest o os h = second_of_both (nat_lt o id) (list_all (λ x. nat_lt x id) os) h
 
     text_first : (n : ℕ) (ns : List ℕ) → list_all (λ x. nat_lt x (length held.names)) (n ∷ ns) ≡ true → text_entered (text_at held n) held ≡ Ok (record { id = n; held = held })
-    text_first n ns h = text_there n (ltb-true n (length held.names) (both_left (nat_lt n (length held.names)) (list_all (λ x. nat_lt x (length held.names)) ns) h))
+    text_first n ns h = text_there n (ltb-true n (length held.names) (first_of_both (nat_lt n (length held.names)) (list_all (λ x. nat_lt x (length held.names)) ns) h))
 
     text_rest : (n : ℕ) (ns : List ℕ) → list_all (λ x. nat_lt x (length held.names)) (n ∷ ns) ≡ true → list_all (λ x. nat_lt x (length held.names)) ns ≡ true
-    text_rest n ns h = both_right (nat_lt n (length held.names)) (list_all (λ x. nat_lt x (length held.names)) ns) h
+    text_rest n ns h = second_of_both (nat_lt n (length held.names)) (list_all (λ x. nat_lt x (length held.names)) ns) h
 
     node_entered : (node : DepNode) → slice_get held.nodes id ≡ Some node
         → list_all (λ x. nat_lt x (length held.names)) (names_in node) ≡ true → list_all (λ x. nat_lt x id) (operands node) ≡ true

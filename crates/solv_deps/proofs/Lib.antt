@@ -1,4 +1,3 @@
-pub mod Both
 pub mod Drafts
 pub mod InnerElse
 pub mod Entering

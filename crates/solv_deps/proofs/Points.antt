@@ -2,7 +2,7 @@
 use Rattle.std.proofs.Common.{◌≡◌, ℕ, ◌+◌, ◌<◌, ◌≤◌, Bool, true, false, ◌&&◌, List, [], ◌∷◌, length, Option, Some, None, Result, Ok, refl, sym, ap, ◌∙◌, arith, nat_lt}
 use Rattle.std.specs.Prelude.{nat_le, not, is_none, if◌then◌else◌, option_map}
 use Rattle.std.specs.Borrow.{Bor}
-use Rattle.std.proofs.lemmas.Bool.{ltb-true}
+use Rattle.std.proofs.lemmas.Bool.{ltb-true, and_from}
 use Rattle.std.proofs.lemmas.List.{length-map}
 use Rattle.solv_base.specs.Dependency.{Dep, namespace, one, plain, versioned}
 use Rattle.solv_base.specs.declared.comparison.Cmp.{Cmp}
@@ -14,23 +14,25 @@ use Rattle.solv_deps.specs.declared.reading.Due.{Due}
 use Rattle.solv_deps.specs.declared.reading.Due.TheVariants.{Operand, Evr, Named, Operator}
 use Rattle.solv_deps.specs.Words.{words}
 use Rattle.solv_deps.specs.Grammar.{opens, closes, operator, comparison, is_plain, is_namespace}
-use Rattle.solv_deps.specs.Drafts.{said, Extends, Enters}
+use Rattle.solv_deps.specs.Inner.Drafts.{said, Extends, Enters}
 use Rattle.solv_deps.specs.Reading.{Hand, Point, at_operand, at_evr, at_other, at_operator, operand_due, operator_due, evr_due, in_chain, in_difference, in_condition, in_else, in_inner_else, whole, closed, go_on, comparison_due, reading, reading_from, end_due}
-use Rattle.solv_deps.specs.Points.{rule_hand, hands, due_seen, seen, rule_in, rules_in, pending, option_pending, rules_pending, due_pending, due_entered, Belongs, Stands, GoesOn, Leads, Ends}
-use Rattle.solv_deps.proofs.Both.{both_left, both_right, both_true, more, below_true}
+use Rattle.solv_deps.specs.Inner.Points.{rule_hand, hands, due_seen, seen, rule_in, rules_in, pending, option_pending, rules_pending, due_pending, due_entered, Belongs, Stands, GoesOn, Leads, Ends}
 use Rattle.solv_deps.proofs.Complete.{choose_second, not_full}
+use Rattle.solv_list.proofs.Booleans.{first_of_both, second_of_both}
+use Rattle.solv_list.proofs.Lists.{below_true}
+use Rattle.solv_list.proofs.Numbers.{below_wider}
 
 rule_more : (m n : ℕ) (r : Rule) → m ≤ n → rule_in m r ≡ true → rule_in n r ≡ true
 rule_more m n Nothing le h = refl
-rule_more m n (Chain j a) le h = more a m n le h
-rule_more m n (Difference a) le h = more a m n le h
-rule_more m n (Condition a) le h = more a m n le h
-rule_more m n (Else a b) le h = both_true (nat_lt a n) (nat_lt b n) (more a m n le (both_left (nat_lt a m) (nat_lt b m) h)) (more b m n le (both_right (nat_lt a m) (nat_lt b m) h))
-rule_more m n (InnerElse a b) le h = both_true (nat_lt a n) (nat_lt b n) (more a m n le (both_left (nat_lt a m) (nat_lt b m) h)) (more b m n le (both_right (nat_lt a m) (nat_lt b m) h))
+rule_more m n (Chain j a) le h = below_wider a m n le h
+rule_more m n (Difference a) le h = below_wider a m n le h
+rule_more m n (Condition a) le h = below_wider a m n le h
+rule_more m n (Else a b) le h = and_from (nat_lt a n) (nat_lt b n) (below_wider a m n le (first_of_both (nat_lt a m) (nat_lt b m) h)) (below_wider b m n le (second_of_both (nat_lt a m) (nat_lt b m) h))
+rule_more m n (InnerElse a b) le h = and_from (nat_lt a n) (nat_lt b n) (below_wider a m n le (first_of_both (nat_lt a m) (nat_lt b m) h)) (below_wider b m n le (second_of_both (nat_lt a m) (nat_lt b m) h))
 
 rules_more : (m n : ℕ) (o : List Rule) → m ≤ n → rules_in m o ≡ true → rules_in n o ≡ true
 rules_more m n [] le h = refl
-rules_more m n (r ∷ o) le h = both_true (rule_in n r) (rules_in n o) (rule_more m n r le (both_left (rule_in m r) (rules_in m o) h)) (rules_more m n o le (both_right (rule_in m r) (rules_in m o) h))
+rules_more m n (r ∷ o) le h = and_from (rule_in n r) (rules_in n o) (rule_more m n r le (first_of_both (rule_in m r) (rules_in m o) h)) (rules_more m n o le (second_of_both (rule_in m r) (rules_in m o) h))
 
 -- what stands before a draft's end
 module _ (old new : List Written) (g : Extends old new) where
@@ -42,14 +44,14 @@ module _ (old new : List Written) (g : Extends old new) where
   rule_kept (Chain j a) h = ap (in_chain j) (kept a h)
   rule_kept (Difference a) h = ap in_difference (kept a h)
   rule_kept (Condition a) h = ap in_condition (kept a h)
-  rule_kept (Else a b) h = let x = kept a (both_left (nat_lt a (length old)) (nat_lt b (length old)) h) in let y = kept b (both_right (nat_lt a (length old)) (nat_lt b (length old)) h) in cc
-  rule_kept (InnerElse a b) h = let x = kept a (both_left (nat_lt a (length old)) (nat_lt b (length old)) h) in let y = kept b (both_right (nat_lt a (length old)) (nat_lt b (length old)) h) in cc
+  rule_kept (Else a b) h = let x = kept a (first_of_both (nat_lt a (length old)) (nat_lt b (length old)) h) in let y = kept b (second_of_both (nat_lt a (length old)) (nat_lt b (length old)) h) in cc
+  rule_kept (InnerElse a b) h = let x = kept a (first_of_both (nat_lt a (length old)) (nat_lt b (length old)) h) in let y = kept b (second_of_both (nat_lt a (length old)) (nat_lt b (length old)) h) in cc
 
   pub rules_kept : (o : List Rule) → rules_in (length old) o ≡ true → hands (said new) o ≡ hands (said old) o
   rules_kept [] h = refl
   rules_kept (r ∷ o) h =
-      let x = rule_kept r (both_left (rule_in (length old) r) (rules_in (length old) o) h) in
-      let y = rules_kept o (both_right (rule_in (length old) r) (rules_in (length old) o) h) in
+      let x = rule_kept r (first_of_both (rule_in (length old) r) (rules_in (length old) o) h) in
+      let y = rules_kept o (second_of_both (rule_in (length old) r) (rules_in (length old) o) h) in
       cc
 
 same_seen : (draft : List Written) (o : List Rule) (count : ℕ) (due : Due) (hs : List Hand) (d : Rattle.solv_deps.specs.Reading.Due)
@@ -65,8 +67,8 @@ pub stands_operator : (old new : List Written) (o : List Rule) (count : ℕ) (r 
     → Stands new o count (Operator r id) answer
 stands_operator old new o count r id d answer h e l room few is =
     let g = e.extends in
-    let ho = both_left (rules_in (length old) o) (rule_in (length old) r) h in
-    let hr = both_right (rules_in (length old) o) (rule_in (length old) r) h in
+    let ho = first_of_both (rules_in (length old) o) (rule_in (length old) r) h in
+    let hr = second_of_both (rules_in (length old) o) (rule_in (length old) r) h in
     let x = rule_kept old new g r hr in
     let y = e.is in
     let due : due_seen (said new) (Operator r id) ≡ operator_due (rule_hand (said old) r) None d = cc in
@@ -74,7 +76,7 @@ stands_operator old new o count r id d answer h e l room few is =
       point = is ∙ ap Ok (sym (same_seen new o count (Operator r id) _ _ (rules_kept old new g o ho) due));
       belongs = record {
         outer = rules_more _ _ o g.longer ho;
-        due = both_true (rule_in (length new) r) (nat_lt id (length new)) (rule_more _ _ r g.longer hr) (below_true id (length new) e.below);
+        due = and_from (rule_in (length new) r) (nat_lt id (length new)) (rule_more _ _ r g.longer hr) (below_true id (length new) e.below);
         room = omega arith;
         few = few;
       };
@@ -90,12 +92,12 @@ pub stands_open : (draft : List Written) (o p : List Rule) (count : ℕ) (r : Ru
     → Stands draft p count (Operand Nothing) (at_operand (hands (said draft) o) count (rule_hand (said draft) r) w)
 unfolding seen
 stands_open draft o p count r w e h room few op l =
-    let ho = both_left (rules_in (length draft) o) (rule_in (length draft) r) h in
-    let hr = both_right (rules_in (length draft) o) (rule_in (length draft) r) h in
+    let ho = first_of_both (rules_in (length draft) o) (rule_in (length draft) r) h in
+    let hr = second_of_both (rules_in (length draft) o) (rule_in (length draft) r) h in
     let f : nat_le 64 (length (hands (said draft) o)) ≡ false = rw (length-map o (rule_hand (said draft))) (not_full (length o) l) in
     rw e (record {
       point = opened (opens w) (nat_le 64 (length (hands (said draft) o))) _ _ _ op f;
-      belongs = record { outer = both_true (rule_in (length draft) r) (rules_in (length draft) o) hr ho; due = refl; room = omega arith; few = few };
+      belongs = record { outer = and_from (rule_in (length draft) r) (rules_in (length draft) o) hr ho; due = refl; room = omega arith; few = few };
     })
 
 -- a bare name stands there
@@ -109,8 +111,8 @@ stands_named draft o count r w h room few p s =
       point = choose_second (opens w.now) (not (closes w.now) && (is_none (operator w.now) && is_none (comparison w.now))) _ _ _ p
           ∙ rw s refl;
       belongs = record {
-        outer = both_left (rules_in (length draft) o) (rule_in (length draft) r) h;
-        due = both_right (rules_in (length draft) o) (rule_in (length draft) r) h;
+        outer = first_of_both (rules_in (length draft) o) (rule_in (length draft) r) h;
+        due = second_of_both (rules_in (length draft) o) (rule_in (length draft) r) h;
         room = omega arith;
         few = few;
       };
@@ -149,7 +151,7 @@ leads_closed old new r before w d alone hb e =
     let y = e.is in
     record {
       is = closed_other (said old) r (rule_hand (said old) before) d alone ∙ same (rule_hand (said old) before) (rule_hand (said new) before) _ _ (sym x) (sym y);
-      inside = both_true (rule_in (length new) before) (nat_lt w (length new)) (rule_more _ _ before g.longer hb) (below_true w (length new) e.below);
+      inside = and_from (rule_in (length new) before) (nat_lt w (length new)) (rule_more _ _ before g.longer hb) (below_true w (length new) e.below);
     }
   where
     same : (h k : Hand) (a b : Dep (List ℕ)) → h ≡ k → a ≡ b → operator_due h None a ≡ operator_due k None b
@@ -162,7 +164,7 @@ pub stands_closed : (old new : List Written) (o p : List Rule) (count : ℕ) (ru
     → Leads new due (closed (rule_hand (said old) rule) (rule_hand (said old) before) d)
     → Stands new p count due (at_other (hands (said old) o) count (rule_hand (said old) rule) d w)
 stands_closed old new o p count rule d w before due e ho room few c g longer entered l =
-    let hp : rules_in (length old) p ≡ true = both_right (rule_in (length old) before) (rules_in (length old) p) (rw e at ho) in
+    let hp : rules_in (length old) p ≡ true = second_of_both (rule_in (length old) before) (rules_in (length old) p) (rw e at ho) in
     let opening : rules_pending o ≡ pending before + rules_pending p = rw e refl in
     record {
       point = rw (c, e) (ap Ok (sym (same_seen new p count due _ _ (rules_kept old new g p hp) (sym l.is))));
@@ -187,8 +189,8 @@ pub still_in : (old mid : List Written) (o : List Rule) (r : Rule) (id : ℕ) (d
     → (rules_in (length mid) o && (rule_in (length mid) r && nat_lt id (length mid))) ≡ true
 still_in old mid o r id d h e =
     let n = length old in
-    both_true (rules_in (length mid) o) _ (rules_more _ _ o e.extends.longer (both_left (rules_in n o) (rule_in n r) h))
-    (both_true (rule_in (length mid) r) (nat_lt id (length mid)) (rule_more _ _ r e.extends.longer (both_right (rules_in n o) (rule_in n r) h)) (below_true id (length mid) e.below))
+    and_from (rules_in (length mid) o) _ (rules_more _ _ o e.extends.longer (first_of_both (rules_in n o) (rule_in n r) h))
+    (and_from (rule_in (length mid) r) (nat_lt id (length mid)) (rule_more _ _ r e.extends.longer (second_of_both (rules_in n o) (rule_in n r) h)) (below_true id (length mid) e.below))
 
 -- a word behind a bare name, which is put into the draft first
 pub named_same : (old mid : List Written) (o : List Rule) (count : ℕ) (r : Rule) (name w : List ℕ) (id : ℕ)
@@ -197,7 +199,7 @@ pub named_same : (old mid : List Written) (o : List Rule) (count : ℕ) (r : Rul
     ≡ at_operator (hands (said old) o) count (rule_hand (said old) r) (one (plain name)) w (comparison_due (comparison w) (Some name)) (operator w)
 named_same old mid o count r name w id h e c =
     let n = length old in
-    rw (rules_kept old mid e.extends o (both_left (rules_in n o) (rule_in n r) h), rule_kept old mid e.extends r (both_right (rules_in n o) (rule_in n r) h), e.is, c) refl
+    rw (rules_kept old mid e.extends o (first_of_both (rules_in n o) (rule_in n r) h), rule_kept old mid e.extends r (second_of_both (rules_in n o) (rule_in n r) h), e.is, c) refl
 
 pub stands_evr : (draft : List Written) (o : List Rule) (count : ℕ) (r : Rule) (name : Bor (List ℕ)) (w : List ℕ) (c : Cmp)
     → (rules_in (length draft) o && rule_in (length draft) r) ≡ true → length draft + rules_pending o + pending r ≤ count + count → count ≤ 64 → comparison w ≡ Some c
@@ -207,8 +209,8 @@ stands_evr draft o count r name w c h room few e =
     record {
       point = rw e refl;
       belongs = record {
-        outer = both_left (rules_in (length draft) o) (rule_in (length draft) r) h;
-        due = both_right (rules_in (length draft) o) (rule_in (length draft) r) h;
+        outer = first_of_both (rules_in (length draft) o) (rule_in (length draft) r) h;
+        due = second_of_both (rules_in (length draft) o) (rule_in (length draft) r) h;
         room = omega arith;
         few = few;
       };

@@ -14,6 +14,10 @@ use Rattle.solv_deps.specs.Grammar.{comparison, no_comparison, is_plain, is_name
 use Rattle.solv_deps.specs.Reading.{same_joint, reading}
 use Rattle.solv_deps.specs.Canonical.{comparison_text, is_rich, is_chain, ends_unpaired, space_before_close, parenthesised, operand_text, spaced, chain_text, text}
 use Rattle.solv_deps.proofs.Complete.{written_is_read}
+use Rattle.solv_list.proofs.Booleans.{false_of_not, first_of_both, second_of_both}
+use Rattle.solv_list.proofs.Lists.{take_front}
+use Rattle.solv_list.proofs.Numbers.{same_number as equal}
+use Rattle.std.proofs.lemmas.Bool.{and_from, or_parts}
 
 -- is it one word?
 abbrev pub is_word : List ℕ → Bool
@@ -49,41 +53,18 @@ rest_before u (c ∷ cs) rest e h =
     let k = goes_on (ends_word u c) (word_rest (unpaired_after u c (is_close c)) cs) (length cs) e in
     rw (k.0) (ap suc (rest_before (unpaired_after u c (is_close c)) cs rest k.1 h))
 
-take_front : (cs rest : List ℕ) → take (length cs) (cs ++ rest) ≡ cs
-take_front [] rest = refl
-take_front (c ∷ cs) rest = ap (λ t. c ∷ t) (take_front cs rest)
-
 behind_front : (cs rest : List ℕ) → words_behind (length cs) (cs ++ rest) ≡ words rest
 behind_front [] rest = refl
 behind_front (c ∷ cs) rest = behind_front cs rest
-
-both_left : (a b : Bool) → (a && b) ≡ true → a ≡ true
-both_left true b h = refl
-both_left false b h = h
-
-both_right : (a b : Bool) → (a && b) ≡ true → b ≡ true
-both_right true b h = h
-both_right false b h = cc
-
-not_true : (b : Bool) → not b ≡ true → b ≡ false
-not_true true h = sym h
-not_true false h = refl
-
-either_false : (a b : Bool) → (a || b) ≡ false → (a ≡ false) × (b ≡ false)
-either_false true b h = cc
-either_false false b h = (refl, h)
-
-equal : (m n : ℕ) → (m == n) ≡ true → m ≡ n
-equal m n h = grind (arith, nat_tests)
 
 -- a word before what stops it is the first word
 pub word_front : (w rest : List ℕ) → is_word w ≡ true → stops (nat_lt 0 (unpaired_in 0 w)) rest ≡ true → words (w ++ rest) ≡ w ∷ words rest
 word_front [] rest h s = cc
 word_front (c ∷ cs) rest h s =
-    let f = not_true (is_blank c || (is_open c || is_close c)) (both_left (not (is_blank c || (is_open c || is_close c))) (word_rest 0 cs == length cs) h) in
-    let g = either_false (is_blank c) (is_open c || is_close c) f in
-    let k = either_false (is_open c) (is_close c) g.1 in
-    let l : word_rest 0 cs ≡ length cs = equal _ _ (both_right (not (is_blank c || (is_open c || is_close c))) (word_rest 0 cs == length cs) h) in
+    let f = false_of_not (is_blank c || (is_open c || is_close c)) (first_of_both (not (is_blank c || (is_open c || is_close c))) (word_rest 0 cs == length cs) h) in
+    let g = or_parts (is_blank c) (is_open c || is_close c) f in
+    let k = or_parts (is_open c) (is_close c) g.1 in
+    let l : word_rest 0 cs ≡ length cs = equal _ _ (second_of_both (not (is_blank c || (is_open c || is_close c))) (word_rest 0 cs == length cs) h) in
     let u : unpaired_after 0 c (is_close c) ≡ 0 = rw (k.0, k.1) refl in
     let s2 : stops (nat_lt 0 (unpaired_in 0 cs)) rest ≡ true = rw u at s in
     let m : word_rest 0 (cs ++ rest) ≡ length cs = rest_before 0 cs rest l s2 in
@@ -242,28 +223,28 @@ pair_reads o a b ha hb ra rb rest s =
     (op_words a ha ra (spaced o ++ (r ++ rest)) (spaced_stops o (r ++ rest) (ends_unpaired a))) (op_words b hb rb rest s)
 
 text_reads : (d : Dep (List ℕ)) → well d ≡ true → Reads d
-text_reads (one (plain w)) h rest s = word_front w rest (both_left (is_word w) _ h) s
+text_reads (one (plain w)) h rest s = word_front w rest (first_of_both (is_word w) _ h) s
 text_reads (one (versioned w c e)) h rest s =
-    let h1 = both_right (is_word w) (is_plain w && (not (is_namespace w) && (right_cmp c && (is_word e && is_plain e)))) h in
-    let h2 = both_right (is_plain w) (not (is_namespace w) && (right_cmp c && (is_word e && is_plain e))) h1 in
-    let h3 = both_right (not (is_namespace w)) (right_cmp c && (is_word e && is_plain e)) h2 in
-    let h4 = both_right (right_cmp c) (is_word e && is_plain e) h3 in
+    let h1 = second_of_both (is_word w) (is_plain w && (not (is_namespace w) && (right_cmp c && (is_word e && is_plain e)))) h in
+    let h2 = second_of_both (is_plain w) (not (is_namespace w) && (right_cmp c && (is_word e && is_plain e))) h1 in
+    let h3 = second_of_both (not (is_namespace w)) (right_cmp c && (is_word e && is_plain e)) h2 in
+    let h4 = second_of_both (right_cmp c) (is_word e && is_plain e) h3 in
     let tail = codes " " ++ (comparison_text c ++ (codes " " ++ e)) in
     ap words (append_assoc w tail rest)
-    ∙ word_front w (tail ++ rest) (both_left (is_word w) _ h) refl
+    ∙ word_front w (tail ++ rest) (first_of_both (is_word w) _ h) refl
     ∙ ap (λ t. w ∷ words (codes " " ++ t)) (append_assoc (comparison_text c) (codes " " ++ e) rest)
-    ∙ ap (λ v. w ∷ v) (cmp_words c (e ++ rest) (both_left (right_cmp c) _ h3) ∙ ap (λ v. comparison_text c ∷ v) (word_front e rest (both_left (is_word e) _ h4) s))
-text_reads (namespace w) h rest s = word_front w rest (both_left (is_word w) _ h) s
-text_reads (and a b) h rest s = let ha = both_left (well a) (well b) h in let hb = both_right (well a) (well b) h in chain_reads Both a b ha hb (text_reads a ha) (text_reads b hb) rest s
-text_reads (or a b) h rest s = let ha = both_left (well a) (well b) h in let hb = both_right (well a) (well b) h in chain_reads Either a b ha hb (text_reads a ha) (text_reads b hb) rest s
-text_reads (with a b) h rest s = let ha = both_left (well a) (well b) h in let hb = both_right (well a) (well b) h in chain_reads Jointly a b ha hb (text_reads a ha) (text_reads b hb) rest s
-text_reads (without a b) h rest s = let ha = both_left (well a) (well b) h in let hb = both_right (well a) (well b) h in pair_reads Minus a b ha hb (text_reads a ha) (text_reads b hb) rest s
-text_reads (if_then a b) h rest s = let ha = both_left (well a) (well b) h in let hb = both_right (well a) (well b) h in pair_reads If a b ha hb (text_reads a ha) (text_reads b hb) rest s
+    ∙ ap (λ v. w ∷ v) (cmp_words c (e ++ rest) (first_of_both (right_cmp c) _ h3) ∙ ap (λ v. comparison_text c ∷ v) (word_front e rest (first_of_both (is_word e) _ h4) s))
+text_reads (namespace w) h rest s = word_front w rest (first_of_both (is_word w) _ h) s
+text_reads (and a b) h rest s = let ha = first_of_both (well a) (well b) h in let hb = second_of_both (well a) (well b) h in chain_reads Both a b ha hb (text_reads a ha) (text_reads b hb) rest s
+text_reads (or a b) h rest s = let ha = first_of_both (well a) (well b) h in let hb = second_of_both (well a) (well b) h in chain_reads Either a b ha hb (text_reads a ha) (text_reads b hb) rest s
+text_reads (with a b) h rest s = let ha = first_of_both (well a) (well b) h in let hb = second_of_both (well a) (well b) h in chain_reads Jointly a b ha hb (text_reads a ha) (text_reads b hb) rest s
+text_reads (without a b) h rest s = let ha = first_of_both (well a) (well b) h in let hb = second_of_both (well a) (well b) h in pair_reads Minus a b ha hb (text_reads a ha) (text_reads b hb) rest s
+text_reads (if_then a b) h rest s = let ha = first_of_both (well a) (well b) h in let hb = second_of_both (well a) (well b) h in pair_reads If a b ha hb (text_reads a ha) (text_reads b hb) rest s
 text_reads (if_else a b c) h rest s =
-    let ha = both_left (well a) (well b && well c) h in
-    let h1 = both_right (well a) (well b && well c) h in
-    let hb = both_left (well b) (well c) h1 in
-    let hc = both_right (well b) (well c) h1 in
+    let ha = first_of_both (well a) (well b && well c) h in
+    let h1 = second_of_both (well a) (well b && well c) h in
+    let hb = first_of_both (well b) (well c) h1 in
+    let hc = second_of_both (well b) (well c) h1 in
     let r = operand_text false b (text b) ++ (spaced Else ++ operand_text false c (text c)) in
     let q = operand_text false b (text b) in
     let z = operand_text false c (text c) in
@@ -288,23 +269,23 @@ means_operand : (d : Dep (List ℕ)) → expr_sense (canonical d) ≡ d → oper
 means_operand d e = operand_same (canonical d) ∙ e
 
 means : (d : Dep (List ℕ)) → well d ≡ true → expr_sense (canonical d) ≡ d
-means (one (plain w)) h = rw (not_true (is_namespace w) (both_right (is_plain w) _ (both_right (is_word w) (is_plain w && not (is_namespace w)) h))) refl
+means (one (plain w)) h = rw (false_of_not (is_namespace w) (second_of_both (is_plain w) _ (second_of_both (is_word w) (is_plain w && not (is_namespace w)) h))) refl
 means (one (versioned w c e)) h =
-    let h1 = both_right (is_word w) (is_plain w && (not (is_namespace w) && (right_cmp c && (is_word e && is_plain e)))) h in
-    let h2 = both_right (is_plain w) (not (is_namespace w) && (right_cmp c && (is_word e && is_plain e))) h1 in
-    let h3 = both_right (not (is_namespace w)) (right_cmp c && (is_word e && is_plain e)) h2 in
-    ap (λ k. one (versioned w k e)) (cmp_back c.less c.greater c.equal (both_left (right_cmp c) _ h3))
-means (namespace w) h = rw (both_right (is_plain w) (is_namespace w) (both_right (is_word w) (is_plain w && is_namespace w) h)) refl
-means (and a b) h = let x = means a (both_left (well a) (well b) h) in let y = means_operand b (means b (both_right (well a) (well b) h)) in front_sense Both (canonical a) (as_operand (canonical b)) ∙ rw (x, y) refl
-means (or a b) h = let x = means a (both_left (well a) (well b) h) in let y = means_operand b (means b (both_right (well a) (well b) h)) in front_sense Either (canonical a) (as_operand (canonical b)) ∙ rw (x, y) refl
-means (with a b) h = let x = means a (both_left (well a) (well b) h) in let y = means_operand b (means b (both_right (well a) (well b) h)) in front_sense Jointly (canonical a) (as_operand (canonical b)) ∙ rw (x, y) refl
-means (without a b) h = let x = means_operand a (means a (both_left (well a) (well b) h)) in let y = means_operand b (means b (both_right (well a) (well b) h)) in rw (x, y) refl
-means (if_then a b) h = let x = means_operand a (means a (both_left (well a) (well b) h)) in let y = means_operand b (means b (both_right (well a) (well b) h)) in rw (x, y) refl
+    let h1 = second_of_both (is_word w) (is_plain w && (not (is_namespace w) && (right_cmp c && (is_word e && is_plain e)))) h in
+    let h2 = second_of_both (is_plain w) (not (is_namespace w) && (right_cmp c && (is_word e && is_plain e))) h1 in
+    let h3 = second_of_both (not (is_namespace w)) (right_cmp c && (is_word e && is_plain e)) h2 in
+    ap (λ k. one (versioned w k e)) (cmp_back c.less c.greater c.equal (first_of_both (right_cmp c) _ h3))
+means (namespace w) h = rw (second_of_both (is_plain w) (is_namespace w) (second_of_both (is_word w) (is_plain w && is_namespace w) h)) refl
+means (and a b) h = let x = means a (first_of_both (well a) (well b) h) in let y = means_operand b (means b (second_of_both (well a) (well b) h)) in front_sense Both (canonical a) (as_operand (canonical b)) ∙ rw (x, y) refl
+means (or a b) h = let x = means a (first_of_both (well a) (well b) h) in let y = means_operand b (means b (second_of_both (well a) (well b) h)) in front_sense Either (canonical a) (as_operand (canonical b)) ∙ rw (x, y) refl
+means (with a b) h = let x = means a (first_of_both (well a) (well b) h) in let y = means_operand b (means b (second_of_both (well a) (well b) h)) in front_sense Jointly (canonical a) (as_operand (canonical b)) ∙ rw (x, y) refl
+means (without a b) h = let x = means_operand a (means a (first_of_both (well a) (well b) h)) in let y = means_operand b (means b (second_of_both (well a) (well b) h)) in rw (x, y) refl
+means (if_then a b) h = let x = means_operand a (means a (first_of_both (well a) (well b) h)) in let y = means_operand b (means b (second_of_both (well a) (well b) h)) in rw (x, y) refl
 means (if_else a b c) h =
-    let h1 = both_right (well a) (well b && well c) h in
-    let x = means_operand a (means a (both_left (well a) (well b && well c) h)) in
-    let y = means_operand b (means b (both_left (well b) (well c) h1)) in
-    let z = means_operand c (means c (both_right (well b) (well c) h1)) in
+    let h1 = second_of_both (well a) (well b && well c) h in
+    let x = means_operand a (means a (first_of_both (well a) (well b && well c) h)) in
+    let y = means_operand b (means b (first_of_both (well b) (well c) h1)) in
+    let z = means_operand c (means c (second_of_both (well b) (well c) h1)) in
     rw (x, y, z) refl
 means d h = cc
 
@@ -317,37 +298,34 @@ operand_is_right (provided a b) h = h
 operand_is_right (provided_else a b c) h = h
 operand_is_right (provided_inside a b c) h = h
 
-two_true : (a b : Bool) → a ≡ true → b ≡ true → (a && b) ≡ true
-two_true a b h k = rw h k
-
 front_right : (j : Joint) (x : Expr) (b : Operand) → expr_right x ≡ true → operand_right b ≡ true → chain_right (front j x b) ≡ true
-front_right j (chain i c) b h k = elim (same_joint i j) as (λ s. chain_right (if s then more c b else two (inside (chain i c)) b) ≡ true) [ true ↦ two_true (chain_right c) (operand_right b) h k | false ↦ two_true (chain_right c) (operand_right b) h k ]
-front_right j (alone a) b h k = two_true (operand_right a) (operand_right b) h k
-front_right j (less a c) b h k = two_true (expr_right (less a c)) (operand_right b) h k
-front_right j (provided a c) b h k = two_true (expr_right (provided a c)) (operand_right b) h k
-front_right j (provided_else a c e) b h k = two_true (expr_right (provided_else a c e)) (operand_right b) h k
-front_right j (provided_inside a c e) b h k = two_true (expr_right (provided_inside a c e)) (operand_right b) h k
+front_right j (chain i c) b h k = elim (same_joint i j) as (λ s. chain_right (if s then more c b else two (inside (chain i c)) b) ≡ true) [ true ↦ and_from (chain_right c) (operand_right b) h k | false ↦ and_from (chain_right c) (operand_right b) h k ]
+front_right j (alone a) b h k = and_from (operand_right a) (operand_right b) h k
+front_right j (less a c) b h k = and_from (expr_right (less a c)) (operand_right b) h k
+front_right j (provided a c) b h k = and_from (expr_right (provided a c)) (operand_right b) h k
+front_right j (provided_else a c e) b h k = and_from (expr_right (provided_else a c e)) (operand_right b) h k
+front_right j (provided_inside a c e) b h k = and_from (expr_right (provided_inside a c e)) (operand_right b) h k
 
 is_right_operand : (d : Dep (List ℕ)) → expr_right (canonical d) ≡ true → operand_right (as_operand (canonical d)) ≡ true
 is_right_operand d h = operand_is_right (canonical d) h
 
 is_right : (d : Dep (List ℕ)) → well d ≡ true → expr_right (canonical d) ≡ true
-is_right (one (plain w)) h = both_left (is_plain w) _ (both_right (is_word w) (is_plain w && not (is_namespace w)) h)
+is_right (one (plain w)) h = first_of_both (is_plain w) _ (second_of_both (is_word w) (is_plain w && not (is_namespace w)) h)
 is_right (one (versioned w c e)) h =
-    let h1 = both_right (is_word w) (is_plain w && (not (is_namespace w) && (right_cmp c && (is_word e && is_plain e)))) h in
-    let h2 = both_right (is_plain w) (not (is_namespace w) && (right_cmp c && (is_word e && is_plain e))) h1 in
-    let h3 = both_right (not (is_namespace w)) (right_cmp c && (is_word e && is_plain e)) h2 in
-    two_true (is_plain w) _ (both_left (is_plain w) _ h1) (two_true (not (is_namespace w)) _ (both_left (not (is_namespace w)) _ h2) (two_true (right_cmp c) _ (both_left (right_cmp c) _ h3) (both_right (is_word e) (is_plain e) (both_right (right_cmp c) (is_word e && is_plain e) h3))))
-is_right (namespace w) h = both_left (is_plain w) _ (both_right (is_word w) (is_plain w && is_namespace w) h)
-is_right (and a b) h = front_right Both (canonical a) (as_operand (canonical b)) (is_right a (both_left (well a) (well b) h)) (is_right_operand b (is_right b (both_right (well a) (well b) h)))
-is_right (or a b) h = front_right Either (canonical a) (as_operand (canonical b)) (is_right a (both_left (well a) (well b) h)) (is_right_operand b (is_right b (both_right (well a) (well b) h)))
-is_right (with a b) h = front_right Jointly (canonical a) (as_operand (canonical b)) (is_right a (both_left (well a) (well b) h)) (is_right_operand b (is_right b (both_right (well a) (well b) h)))
-is_right (without a b) h = two_true (operand_right (as_operand (canonical a))) _ (is_right_operand a (is_right a (both_left (well a) (well b) h))) (is_right_operand b (is_right b (both_right (well a) (well b) h)))
-is_right (if_then a b) h = two_true (operand_right (as_operand (canonical a))) _ (is_right_operand a (is_right a (both_left (well a) (well b) h))) (is_right_operand b (is_right b (both_right (well a) (well b) h)))
+    let h1 = second_of_both (is_word w) (is_plain w && (not (is_namespace w) && (right_cmp c && (is_word e && is_plain e)))) h in
+    let h2 = second_of_both (is_plain w) (not (is_namespace w) && (right_cmp c && (is_word e && is_plain e))) h1 in
+    let h3 = second_of_both (not (is_namespace w)) (right_cmp c && (is_word e && is_plain e)) h2 in
+    and_from (is_plain w) _ (first_of_both (is_plain w) _ h1) (and_from (not (is_namespace w)) _ (first_of_both (not (is_namespace w)) _ h2) (and_from (right_cmp c) _ (first_of_both (right_cmp c) _ h3) (second_of_both (is_word e) (is_plain e) (second_of_both (right_cmp c) (is_word e && is_plain e) h3))))
+is_right (namespace w) h = first_of_both (is_plain w) _ (second_of_both (is_word w) (is_plain w && is_namespace w) h)
+is_right (and a b) h = front_right Both (canonical a) (as_operand (canonical b)) (is_right a (first_of_both (well a) (well b) h)) (is_right_operand b (is_right b (second_of_both (well a) (well b) h)))
+is_right (or a b) h = front_right Either (canonical a) (as_operand (canonical b)) (is_right a (first_of_both (well a) (well b) h)) (is_right_operand b (is_right b (second_of_both (well a) (well b) h)))
+is_right (with a b) h = front_right Jointly (canonical a) (as_operand (canonical b)) (is_right a (first_of_both (well a) (well b) h)) (is_right_operand b (is_right b (second_of_both (well a) (well b) h)))
+is_right (without a b) h = and_from (operand_right (as_operand (canonical a))) _ (is_right_operand a (is_right a (first_of_both (well a) (well b) h))) (is_right_operand b (is_right b (second_of_both (well a) (well b) h)))
+is_right (if_then a b) h = and_from (operand_right (as_operand (canonical a))) _ (is_right_operand a (is_right a (first_of_both (well a) (well b) h))) (is_right_operand b (is_right b (second_of_both (well a) (well b) h)))
 is_right (if_else a b c) h =
-    let h1 = both_right (well a) (well b && well c) h in
-    two_true (operand_right (as_operand (canonical a))) _ (is_right_operand a (is_right a (both_left (well a) (well b && well c) h)))
-    (two_true (operand_right (as_operand (canonical b))) _ (is_right_operand b (is_right b (both_left (well b) (well c) h1))) (is_right_operand c (is_right c (both_right (well b) (well c) h1))))
+    let h1 = second_of_both (well a) (well b && well c) h in
+    and_from (operand_right (as_operand (canonical a))) _ (is_right_operand a (is_right a (first_of_both (well a) (well b && well c) h)))
+    (and_from (operand_right (as_operand (canonical b))) _ (is_right_operand b (is_right b (first_of_both (well b) (well c) h1))) (is_right_operand c (is_right c (second_of_both (well b) (well c) h1))))
 is_right d h = cc
 
 -- its operators and its depth
@@ -374,28 +352,28 @@ ops : (d : Dep (List ℕ)) → well d ≡ true → expr_operators (canonical d) 
 ops (one (plain w)) h = refl
 ops (one (versioned w c e)) h = refl
 ops (namespace w) h = refl
-ops (and a b) h = let ha = both_left (well a) (well b) h in let hb = both_right (well a) (well b) h in let x = ops a ha in let y = ops_operand b (ops b hb) in let z = front_ops Both (canonical a) (as_operand (canonical b)) in omega arith
-ops (or a b) h = let ha = both_left (well a) (well b) h in let hb = both_right (well a) (well b) h in let x = ops a ha in let y = ops_operand b (ops b hb) in let z = front_ops Either (canonical a) (as_operand (canonical b)) in omega arith
-ops (with a b) h = let ha = both_left (well a) (well b) h in let hb = both_right (well a) (well b) h in let x = ops a ha in let y = ops_operand b (ops b hb) in let z = front_ops Jointly (canonical a) (as_operand (canonical b)) in omega arith
-ops (without a b) h = let ha = both_left (well a) (well b) h in let hb = both_right (well a) (well b) h in let x = ops_operand a (ops a ha) in let y = ops_operand b (ops b hb) in omega arith
-ops (if_then a b) h = let ha = both_left (well a) (well b) h in let hb = both_right (well a) (well b) h in let x = ops_operand a (ops a ha) in let y = ops_operand b (ops b hb) in omega arith
-ops (if_else a b c) h = let h1 = both_right (well a) (well b && well c) h in let ha = both_left (well a) (well b && well c) h in let hb = both_left (well b) (well c) h1 in let hc = both_right (well b) (well c) h1 in let x = ops_operand a (ops a ha) in let y = ops_operand b (ops b hb) in let z = ops_operand c (ops c hc) in omega arith
+ops (and a b) h = let ha = first_of_both (well a) (well b) h in let hb = second_of_both (well a) (well b) h in let x = ops a ha in let y = ops_operand b (ops b hb) in let z = front_ops Both (canonical a) (as_operand (canonical b)) in omega arith
+ops (or a b) h = let ha = first_of_both (well a) (well b) h in let hb = second_of_both (well a) (well b) h in let x = ops a ha in let y = ops_operand b (ops b hb) in let z = front_ops Either (canonical a) (as_operand (canonical b)) in omega arith
+ops (with a b) h = let ha = first_of_both (well a) (well b) h in let hb = second_of_both (well a) (well b) h in let x = ops a ha in let y = ops_operand b (ops b hb) in let z = front_ops Jointly (canonical a) (as_operand (canonical b)) in omega arith
+ops (without a b) h = let ha = first_of_both (well a) (well b) h in let hb = second_of_both (well a) (well b) h in let x = ops_operand a (ops a ha) in let y = ops_operand b (ops b hb) in omega arith
+ops (if_then a b) h = let ha = first_of_both (well a) (well b) h in let hb = second_of_both (well a) (well b) h in let x = ops_operand a (ops a ha) in let y = ops_operand b (ops b hb) in omega arith
+ops (if_else a b c) h = let h1 = second_of_both (well a) (well b && well c) h in let ha = first_of_both (well a) (well b && well c) h in let hb = first_of_both (well b) (well c) h1 in let hc = second_of_both (well b) (well c) h1 in let x = ops_operand a (ops a ha) in let y = ops_operand b (ops b hb) in let z = ops_operand c (ops c hc) in omega arith
 ops d h = cc
 
 depth : (d : Dep (List ℕ)) → well d ≡ true → operand_depth (as_operand (canonical d)) ≤ operators d
 depth (one (plain w)) h = omega arith
 depth (one (versioned w c e)) h = omega arith
 depth (namespace w) h = omega arith
-depth (and a b) h = let x = depth a (both_left (well a) (well b) h) in let y = depth b (both_right (well a) (well b) h) in let z = front_depth Both (canonical a) (as_operand (canonical b)) in omega arith
-depth (or a b) h = let x = depth a (both_left (well a) (well b) h) in let y = depth b (both_right (well a) (well b) h) in let z = front_depth Either (canonical a) (as_operand (canonical b)) in omega arith
-depth (with a b) h = let x = depth a (both_left (well a) (well b) h) in let y = depth b (both_right (well a) (well b) h) in let z = front_depth Jointly (canonical a) (as_operand (canonical b)) in omega arith
-depth (without a b) h = let x = depth a (both_left (well a) (well b) h) in let y = depth b (both_right (well a) (well b) h) in omega arith
-depth (if_then a b) h = let x = depth a (both_left (well a) (well b) h) in let y = depth b (both_right (well a) (well b) h) in omega arith
+depth (and a b) h = let x = depth a (first_of_both (well a) (well b) h) in let y = depth b (second_of_both (well a) (well b) h) in let z = front_depth Both (canonical a) (as_operand (canonical b)) in omega arith
+depth (or a b) h = let x = depth a (first_of_both (well a) (well b) h) in let y = depth b (second_of_both (well a) (well b) h) in let z = front_depth Either (canonical a) (as_operand (canonical b)) in omega arith
+depth (with a b) h = let x = depth a (first_of_both (well a) (well b) h) in let y = depth b (second_of_both (well a) (well b) h) in let z = front_depth Jointly (canonical a) (as_operand (canonical b)) in omega arith
+depth (without a b) h = let x = depth a (first_of_both (well a) (well b) h) in let y = depth b (second_of_both (well a) (well b) h) in omega arith
+depth (if_then a b) h = let x = depth a (first_of_both (well a) (well b) h) in let y = depth b (second_of_both (well a) (well b) h) in omega arith
 depth (if_else a b c) h =
-    let h1 = both_right (well a) (well b && well c) h in
-    let x = depth a (both_left (well a) (well b && well c) h) in
-    let y = depth b (both_left (well b) (well c) h1) in
-    let z = depth c (both_right (well b) (well c) h1) in
+    let h1 = second_of_both (well a) (well b && well c) h in
+    let x = depth a (first_of_both (well a) (well b && well c) h) in
+    let y = depth b (first_of_both (well b) (well c) h1) in
+    let z = depth c (second_of_both (well b) (well c) h1) in
     omega arith
 depth d h = cc
 

@@ -1,10 +1,9 @@
 -- What is read has words for names and EVRs, and no more operators than were counted.
-use Rattle.std.proofs.Common.{◌≡◌, ℕ, zero, suc, ◌+◌, ◌<◌, ◌≤◌, Bool, true, false, ◌&&◌, ◌||◌, List, [], ◌∷◌, ◌++◌, length, take, drop, Option, Some, None, Result, Ok, Err, refl, sym, ap, ◌∙◌, arith, not, nat_le, nat_lt}
-use Rattle.std.specs.Prelude.{codes, if◌then◌else◌, ◌==◌, is_none}
+use Rattle.std.proofs.Common.{◌≡◌, ℕ, zero, suc, ◌+◌, ◌<◌, ◌≤◌, Bool, true, false, ◌&&◌, ◌||◌, List, [], ◌∷◌, length, take, Option, Some, None, Result, Ok, Err, refl, ap, ◌∙◌, arith, not, nat_le}
+use Rattle.std.specs.Prelude.{codes, if◌then◌else◌, is_none}
 use Rattle.std.specs.List.{list_all}
 use Rattle.std.proofs.lemmas.Bool.Decides.{nat_tests}
 use Rattle.std.specs.Str.{bytes_eq}
-use Rattle.std.proofs.lemmas.Slice.Eq.{bytes_eq-Decides}
 use Rattle.solv_base.specs.declared.comparison.Cmp.{Cmp}
 use Rattle.solv_base.specs.Dependency.{Dep, plain, one, namespace, operators}
 use Rattle.solv_deps.specs.declared.fault.DepFault.{DepFault}
@@ -17,6 +16,9 @@ use Rattle.solv_deps.specs.Words.{is_open, is_close, ends_word, unpaired_after, 
 use Rattle.solv_deps.specs.Grammar.{operator, comparison, opens, closes, is_plain, is_namespace, named, joined}
 use Rattle.solv_deps.specs.Reading.{Hand, nothing, in_chain, in_difference, in_condition, in_else, in_inner_else, Due, operand_due, evr_due, operator_due, Point, whole, inner_else, same_joint, going_on_if, goes_on, closed, close, go_on, at_operand, at_evr, at_operator, comparison_due, step_due, step, end_due, and_then, reading_from, reading, beginning}
 use Rattle.solv_deps.proofs.Printed.{is_word, well, right_cmp}
+use Rattle.solv_list.proofs.Booleans.{first_of_both, second_of_both}
+use Rattle.solv_list.proofs.Numbers.{equal_to_itself, same_number as is_number}
+use Rattle.std.proofs.lemmas.Bool.{and_from}
 
 abbrev hand_well : Hand → Bool
 hand_well nothing = true
@@ -75,23 +77,9 @@ if_good : (b : Bool) (x y : Result Point DepFault) → (b ≡ true → IsGood x)
 if_good true x y f g = f refl
 if_good false x y f g = g refl
 
-same_word : (k c : List ℕ) → bytes_eq k c ≡ true → k ≡ c
-same_word k c h = search (Rattle.std.proofs.Common.rules, bytes_eq-Decides k c)
-
 -- a word of a text is a parenthesis or one word
 abbrev ok_word : List ℕ → Bool
 ok_word w = (opens w || closes w) || is_word w
-
-right : (a b : Bool) → (a && b) ≡ true → b ≡ true
-right true b h = h
-right false b h = cc
-
-left : (a b : Bool) → (a && b) ≡ true → a ≡ true
-left true b h = refl
-left false b h = h
-
-two : (a b : Bool) → a ≡ true → b ≡ true → (a && b) ≡ true
-two a b h k = rw h k
 
 plain_word : (w : List ℕ) → ok_word w ≡ true → is_plain w ≡ true → is_word w ≡ true
 plain_word w ok p = find (opens w) (closes w) (is_none (operator w) && is_none (comparison w)) (is_word w) ok p
@@ -104,15 +92,15 @@ plain_word w ok p = find (opens w) (closes w) (is_none (operator w) && is_none (
 named_well : (w : List ℕ) → is_word w ≡ true → is_plain w ≡ true → (well (named w) ≡ true) × (operators (named w) ≡ 0)
 named_well w h p =
     elim (is_namespace w) as (λ b. is_namespace w ≡ b → (well (if b then namespace w else one (plain w)) ≡ true) × (operators (if b then namespace w else one (plain w)) ≡ 0)) [
-      | true ↦ λ e. (two (is_word w) _ h (two (is_plain w) _ p e), refl)
-      | false ↦ λ e. (two (is_word w) _ h (two (is_plain w) _ p (ap not e)), refl)
+      | true ↦ λ e. (and_from (is_word w) _ h (and_from (is_plain w) _ p e), refl)
+      | false ↦ λ e. (and_from (is_word w) _ h (and_from (is_plain w) _ p (ap not e)), refl)
     ] refl
 
 bare_well : (w : List ℕ) → is_word w ≡ true → is_plain w ≡ true → name_well (if is_namespace w then None else Some w) ≡ true
 bare_well w h p =
     elim (is_namespace w) as (λ b. is_namespace w ≡ b → name_well (if b then None else Some w) ≡ true) [
       | true ↦ λ e. refl
-      | false ↦ λ e. two (is_word w) _ h (two (is_plain w) _ p (ap not e))
+      | false ↦ λ e. and_from (is_word w) _ h (and_from (is_plain w) _ p (ap not e))
     ] refl
 
 operand_good : (o : List Hand) (n : ℕ) (h : Hand) (w : List ℕ) → GoodHands n 0 (h ∷ o) → ok_word w ≡ true → IsGood (at_operand o n h w)
@@ -128,8 +116,8 @@ evr_good o n h name c w g ok =
     if_good (is_plain w) _ _
     (λ p.
     let i = plain_word w ok p in
-    let r = right (is_word name) (is_plain name && not (is_namespace name)) g.1 in
-    (g.0, two (is_word name) _ (left (is_word name) _ g.1) (two (is_plain name) _ (left (is_plain name) _ r) (two (not (is_namespace name)) _ (right (is_plain name) _ r) (two (right_cmp c) _ g.2 (two (is_word w) _ i p)))), refl))
+    let r = second_of_both (is_word name) (is_plain name && not (is_namespace name)) g.1 in
+    (g.0, and_from (is_word name) _ (first_of_both (is_word name) _ g.1) (and_from (is_plain name) _ (first_of_both (is_plain name) _ r) (and_from (not (is_namespace name)) _ (second_of_both (is_plain name) _ r) (and_from (right_cmp c) _ g.2 (and_from (is_word w) _ i p)))), refl))
     (λ p. tt)
 
 -- a comparison's own text is one
@@ -156,16 +144,16 @@ IsGoodHand most o None = Unit {0}
 IsGoodHand most o (Some k) = (hand_well k ≡ true) × (hand_ops k ≤ most) × Linked k o
 
 joined_well : (j : Joint) (a b : Dep (List ℕ)) → well a ≡ true → well b ≡ true → (well (joined j a b) ≡ true) × (operators (joined j a b) ≡ operators a + operators b + 1)
-joined_well Both a b h k = (two (well a) (well b) h k, omega arith)
-joined_well Either a b h k = (two (well a) (well b) h k, omega arith)
-joined_well Jointly a b h k = (two (well a) (well b) h k, omega arith)
+joined_well Both a b h k = (and_from (well a) (well b) h k, omega arith)
+joined_well Either a b h k = (and_from (well a) (well b) h k, omega arith)
+joined_well Jointly a b h k = (and_from (well a) (well b) h k, omega arith)
 
 inner_good : (o : List Hand) (d : Dep (List ℕ)) → list_all hand_well o ≡ true → well d ≡ true → IsGoodHand (0 + operators d + 1) o (inner_else o d)
 inner_good [] d w h = tt
 inner_good (nothing ∷ o) d w h = tt
 inner_good (in_chain j a ∷ o) d w h = tt
 inner_good (in_difference a ∷ o) d w h = tt
-inner_good (in_condition a ∷ o) d w h = (two (well a) (well d) (left (well a) (list_all hand_well o) w) h, omega arith, refl)
+inner_good (in_condition a ∷ o) d w h = (and_from (well a) (well d) (first_of_both (well a) (list_all hand_well o) w) h, omega arith, refl)
 inner_good (in_else a b ∷ o) d w h = tt
 inner_good (in_inner_else a b ∷ o) d w h = tt
 
@@ -178,8 +166,8 @@ goes_good o nothing d (Link j) w k = (k, omega arith, tt)
 goes_good o nothing d Minus w k = (k, omega arith, tt)
 goes_good o nothing d If w k = (k, omega arith, tt)
 goes_good o nothing d Else w k = inner_good o d w k
-goes_good o (in_chain i a) d (Link j) w k = chain_good (same_joint i j) i j a d o (left (well a) (list_all hand_well o) w) k
-goes_good o (in_condition a) d Else w k = (two (well a) (well d) (left (well a) (list_all hand_well o) w) k, omega arith, tt)
+goes_good o (in_chain i a) d (Link j) w k = chain_good (same_joint i j) i j a d o (first_of_both (well a) (list_all hand_well o) w) k
+goes_good o (in_condition a) d Else w k = (and_from (well a) (well d) (first_of_both (well a) (list_all hand_well o) w) k, omega arith, tt)
 goes_good o (in_chain i a) d Minus w k = tt
 goes_good o (in_chain i a) d If w k = tt
 goes_good o (in_chain i a) d Else w k = tt
@@ -198,7 +186,7 @@ go_on_good o n h d op (Some x) g k =
     let below : n < 64 = grind (arith, nat_tests) in
     let c = g.counted in
     let m = k.1 in
-    record { wells = two (hand_well x) _ k.0 (right (hand_well h) (list_all hand_well o) g.wells); links = (k.2, g.links.1); counted = omega arith; limit = omega arith })
+    record { wells = and_from (hand_well x) _ k.0 (second_of_both (hand_well h) (list_all hand_well o) g.wells); links = (k.2, g.links.1); counted = omega arith; limit = omega arith })
 
 -- what a rule that is not such an `<ELSE>` makes
 abbrev whole_is : Hand → Dep (List ℕ) → Type 0
@@ -208,8 +196,8 @@ closed_good : (os : List Hand) (n : ℕ) (h o : Hand) (d : Dep (List ℕ)) → G
 closed_good os n (in_inner_else a b) (in_condition c) d g k =
     let e = g.links.0 in
     let m = g.counted in
-    let r = right (well a && well b) (list_all hand_well (in_condition c ∷ os)) g.wells in
-    (record { wells = two (well a && well b) _ (left (well a && well b) _ g.wells) (right (well c) (list_all hand_well os) r); links = (tt, g.links.1.1); counted = omega arith; limit = g.limit }, k, refl)
+    let r = second_of_both (well a && well b) (list_all hand_well (in_condition c ∷ os)) g.wells in
+    (record { wells = and_from (well a && well b) _ (first_of_both (well a && well b) _ g.wells) (second_of_both (well c) (list_all hand_well os) r); links = (tt, g.links.1.1); counted = omega arith; limit = g.limit }, k, refl)
 closed_good os n (in_inner_else a b) nothing d g k = absurd (g.links.0)
 closed_good os n (in_inner_else a b) (in_chain j c) d g k = absurd (g.links.0)
 closed_good os n (in_inner_else a b) (in_difference c) d g k = absurd (g.links.0)
@@ -218,19 +206,19 @@ closed_good os n (in_inner_else a b) (in_inner_else c e) d g k = absurd (g.links
 closed_good os n nothing o d g k = let m = g.counted in (record { wells = g.wells; links = g.links.1; counted = omega arith; limit = g.limit }, k, refl)
 closed_good os n (in_chain j a) o d g k =
     let m = g.counted in
-    let w = joined_well j a d (left (well a) _ g.wells) k in
+    let w = joined_well j a d (first_of_both (well a) _ g.wells) k in
     let e = w.1 in
-    (record { wells = right (well a) _ g.wells; links = g.links.1; counted = omega arith; limit = g.limit }, w.0, refl)
+    (record { wells = second_of_both (well a) _ g.wells; links = g.links.1; counted = omega arith; limit = g.limit }, w.0, refl)
 closed_good os n (in_difference a) o d g k =
     let m = g.counted in
-    (record { wells = right (well a) _ g.wells; links = g.links.1; counted = omega arith; limit = g.limit }, two (well a) (well d) (left (well a) _ g.wells) k, refl)
+    (record { wells = second_of_both (well a) _ g.wells; links = g.links.1; counted = omega arith; limit = g.limit }, and_from (well a) (well d) (first_of_both (well a) _ g.wells) k, refl)
 closed_good os n (in_condition a) o d g k =
     let m = g.counted in
-    (record { wells = right (well a) _ g.wells; links = g.links.1; counted = omega arith; limit = g.limit }, two (well a) (well d) (left (well a) _ g.wells) k, refl)
+    (record { wells = second_of_both (well a) _ g.wells; links = g.links.1; counted = omega arith; limit = g.limit }, and_from (well a) (well d) (first_of_both (well a) _ g.wells) k, refl)
 closed_good os n (in_else a b) o d g k =
     let m = g.counted in
-    let ab = left (well a && well b) _ g.wells in
-    (record { wells = right (well a && well b) _ g.wells; links = g.links.1; counted = omega arith; limit = g.limit }, two (well a) _ (left (well a) (well b) ab) (two (well b) (well d) (right (well a) (well b) ab) k), refl)
+    let ab = first_of_both (well a && well b) _ g.wells in
+    (record { wells = second_of_both (well a && well b) _ g.wells; links = g.links.1; counted = omega arith; limit = g.limit }, and_from (well a) _ (first_of_both (well a) (well b) ab) (and_from (well b) (well d) (second_of_both (well a) (well b) ab) k), refl)
 
 close_good : (o : List Hand) (n : ℕ) (h : Hand) (d : Dep (List ℕ)) → GoodHands n (operators d) (h ∷ o) → well d ≡ true → IsGood (close o n h d)
 close_good [] n h d g k = tt
@@ -266,20 +254,20 @@ end_good o n (operand_due h) g = tt
 end_good o n (evr_due h name c) g = tt
 end_good (o ∷ os) n (operator_due h name d) g = tt
 end_good [] n (operator_due nothing name d) g = let m = g.0.counted in let l = g.0.limit in (g.1, omega arith)
-end_good [] n (operator_due (in_chain j a) name d) g = let m = g.0.counted in let l = g.0.limit in let w = joined_well j a d (left (well a) _ g.0.wells) g.1 in let e = w.1 in (w.0, omega arith)
-end_good [] n (operator_due (in_difference a) name d) g = let m = g.0.counted in let l = g.0.limit in (two (well a) (well d) (left (well a) _ g.0.wells) g.1, omega arith)
-end_good [] n (operator_due (in_condition a) name d) g = let m = g.0.counted in let l = g.0.limit in (two (well a) (well d) (left (well a) _ g.0.wells) g.1, omega arith)
+end_good [] n (operator_due (in_chain j a) name d) g = let m = g.0.counted in let l = g.0.limit in let w = joined_well j a d (first_of_both (well a) _ g.0.wells) g.1 in let e = w.1 in (w.0, omega arith)
+end_good [] n (operator_due (in_difference a) name d) g = let m = g.0.counted in let l = g.0.limit in (and_from (well a) (well d) (first_of_both (well a) _ g.0.wells) g.1, omega arith)
+end_good [] n (operator_due (in_condition a) name d) g = let m = g.0.counted in let l = g.0.limit in (and_from (well a) (well d) (first_of_both (well a) _ g.0.wells) g.1, omega arith)
 end_good [] n (operator_due (in_else a b) name d) g =
     let m = g.0.counted in let l = g.0.limit in
-    let ab = left (well a && well b) _ g.0.wells in
-    (two (well a) _ (left (well a) (well b) ab) (two (well b) (well d) (right (well a) (well b) ab) g.1), omega arith)
+    let ab = first_of_both (well a && well b) _ g.0.wells in
+    (and_from (well a) _ (first_of_both (well a) (well b) ab) (and_from (well b) (well d) (second_of_both (well a) (well b) ab) g.1), omega arith)
 end_good [] n (operator_due (in_inner_else a b) name d) g = absurd (g.0.links.0)
 
 read_good : (ws : List (List ℕ)) (p : Point) → Good p → list_all ok_word ws ≡ true → IsWellRead (reading_from p ws)
 read_good [] p g h = end_good p.outer p.operators p.due g
 read_good (w ∷ ws) p g h =
-    then_read (step p w) (λ q. reading_from q ws) (due_good p.outer p.operators p.due w g (left (ok_word w) (list_all ok_word ws) h))
-    (λ q k. read_good ws q k (right (ok_word w) (list_all ok_word ws) h))
+    then_read (step p w) (λ q. reading_from q ws) (due_good p.outer p.operators p.due w g (first_of_both (ok_word w) (list_all ok_word ws) h))
+    (λ q k. read_good ws q k (second_of_both (ok_word w) (list_all ok_word ws) h))
 
 -- the words of a text are parentheses and words
 rest_again : (u : ℕ) (cs : List ℕ) → word_rest u (take (word_rest u cs) cs) ≡ length (take (word_rest u cs) cs)
@@ -290,15 +278,9 @@ rest_again u (c ∷ cs) =
       | false ↦ λ e. rw e (ap suc (rest_again (unpaired_after u c (is_close c)) cs))
     ] refl
 
-same_number : (m : ℕ) → (m == m) ≡ true
-same_number m = grind (arith, nat_tests)
-
-is_number : (m n : ℕ) → (m == n) ≡ true → m ≡ n
-is_number m n h = grind (arith, nat_tests)
-
 one_word : (c : ℕ) (cs : List ℕ) → (is_blank c || (is_open c || is_close c)) ≡ false → ok_word (c ∷ take (word_rest 0 cs) cs) ≡ true
 one_word c cs h =
-    let e : is_word (c ∷ take (word_rest 0 cs) cs) ≡ true = two (not (is_blank c || (is_open c || is_close c))) _ (ap not h) (rw (rest_again 0 cs) (same_number (length (take (word_rest 0 cs) cs)))) in
+    let e : is_word (c ∷ take (word_rest 0 cs) cs) ≡ true = and_from (not (is_blank c || (is_open c || is_close c))) _ (ap not h) (rw (rest_again 0 cs) (equal_to_itself (length (take (word_rest 0 cs) cs)))) in
     rw e (last (opens (c ∷ take (word_rest 0 cs) cs)) (closes (c ∷ take (word_rest 0 cs) cs)))
   where
     last : (a b : Bool) → ((a || b) || true) ≡ true
@@ -326,7 +308,7 @@ words_ok (c ∷ cs) (suc n) = words_ok cs n
 words_ok (c ∷ cs) zero =
     elim (is_blank c) as (λ b. is_blank c ≡ b → list_all ok_word (if b then words_behind (after_first c cs) cs else (c ∷ take (after_first c cs) cs) ∷ words_behind (after_first c cs) cs) ≡ true) [
       | true ↦ λ e. words_ok cs (after_first c cs)
-      | false ↦ λ e. two (ok_word (c ∷ take (after_first c cs) cs)) _ (first_ok c cs e) (words_ok cs (after_first c cs))
+      | false ↦ λ e. and_from (ok_word (c ∷ take (after_first c cs) cs)) _ (first_ok c cs e) (words_ok cs (after_first c cs))
     ] refl
 
 -- what a text is read as has words for names and EVRs, and at most 64 operators

@@ -3,7 +3,6 @@ use Rattle.std.proofs.Common.{◌≡◌, ℕ, ◌+◌, Bool, true, false, ◌&&�
 use Rattle.std.specs.Prelude.{codes, if◌then◌else◌, is_some}
 use Rattle.solv_base.specs.declared.comparison.Cmp.{Cmp}
 use Rattle.solv_base.specs.Dependency.{Dep, versioned, one}
-use Rattle.solv_base.proofs.Pools.{same_text}
 use Rattle.solv_deps.specs.declared.fault.DepFault.{DepFault}
 use Rattle.solv_deps.specs.declared.fault.DepFault.TheVariants as Fault
 use Rattle.solv_deps.specs.declared.sign.Joint.{Joint}
@@ -13,7 +12,8 @@ use Rattle.solv_deps.specs.declared.sign.Operator.TheVariants.{Link, Minus, If, 
 use Rattle.solv_deps.specs.Grammar.{operator, comparison, opens, closes, is_plain, is_namespace, named, joined, sign, word_is, Operand, Chain, name, compared, inside, two, more, alone, chain, less, provided, provided_else, provided_inside, operand_words, chain_words, expr_words, operand_sense, chain_sense, operand_right, chain_right, expr_right}
 use Rattle.solv_deps.specs.Reading.{Hand, nothing, in_chain, in_difference, in_condition, in_else, in_inner_else, Due, operand_due, evr_due, operator_due, Point, whole, goes_on, going_on_if, same_joint, closed, close, go_on, at_operand, at_evr, at_other, at_operator, comparison_due, step_due, step, and_then, reading_from, reading, beginning, end_due}
 use Rattle.solv_deps.specs.Laws.{Spells}
-use Rattle.solv_deps.proofs.Both.{both_true}
+use Rattle.solv_list.proofs.Lists.{same_bytes}
+use Rattle.std.proofs.lemmas.Bool.{and_from}
 
 -- the words of a text so far
 abbrev pub Words : Type 0
@@ -25,7 +25,7 @@ chosen true p o rest e = inl (refl, cc)
 chosen false p o rest e = inr e
 
 is_sign : (p o : Operator) (w : List ℕ) → (word_is (sign p) w ≡ true) × (p ≡ o) → w ≡ sign o
-is_sign p o w k = sym (same_text (sign p) w k.0) ∙ ap sign k.1
+is_sign p o w k = sym (same_bytes (sign p) w k.0) ∙ ap sign k.1
 
 pub operator_sign : (w : List ℕ) (o : Operator) → operator w ≡ Some o → w ≡ sign o
 operator_sign w o e =
@@ -86,8 +86,8 @@ with_last (first x) y = two x y
 with_last (several c) y = more c y
 
 last_right : (f : Front) (y : Operand) → front_right f ≡ true → operand_right y ≡ true → chain_right (with_last f y) ≡ true
-last_right (first x) y h k = both_true (operand_right x) (operand_right y) h k
-last_right (several c) y h k = both_true (chain_right c) (operand_right y) h k
+last_right (first x) y h k = and_from (operand_right x) (operand_right y) h k
+last_right (several c) y h k = and_from (chain_right c) (operand_right y) h k
 
 last_sense : (j : Joint) (f : Front) (y : Operand) → chain_sense j (with_last f y) ≡ joined j (front_sense j f) (operand_sense y)
 last_sense j (first x) y = refl
@@ -209,21 +209,21 @@ whole_operated o (in_chain j a) vs x d n f r s =
 whole_operated o (in_difference a) vs x d n l r s =
     record {
       expr = less l.operand x;
-      right = both_true (operand_right l.operand) (operand_right x) l.right r;
+      right = and_from (operand_right l.operand) (operand_right x) l.right r;
       sense = rw (l.sense, s) refl;
       is = behind (operand_words l.operand) (sign Minus) (operand_words x) vs l.is;
     }
 whole_operated o (in_condition a) vs x d n l r s =
     record {
       expr = provided l.operand x;
-      right = both_true (operand_right l.operand) (operand_right x) l.right r;
+      right = and_from (operand_right l.operand) (operand_right x) l.right r;
       sense = rw (l.sense, s) refl;
       is = behind (operand_words l.operand) (sign If) (operand_words x) vs l.is;
     }
 whole_operated o (in_else a b) vs x d n l r s =
     record {
       expr = provided_else l.operand l.condition x;
-      right = both_true (operand_right l.operand) (operand_right l.condition && operand_right x) l.right (both_true (operand_right l.condition) (operand_right x) l.right_condition r);
+      right = and_from (operand_right l.operand) (operand_right l.condition && operand_right x) l.right (and_from (operand_right l.condition) (operand_right x) l.right_condition r);
       sense = rw (l.sense, l.sense_condition, s) refl;
       is = behind_else (operand_words l.operand) (sign If) (operand_words l.condition) (sign Else) (operand_words x) vs l.is;
     }
@@ -281,7 +281,7 @@ at_compared o h nm c w vs p g =
       front = g.front;
       hand = g.hand;
       operand = compared nm g.sign_word w;
-      right = both_true (is_plain nm) _ g.right (both_true (not (is_namespace nm)) _ bare (both_true (is_some (comparison g.sign_word)) (is_plain w) some p));
+      right = and_from (is_plain nm) _ g.right (and_from (not (is_namespace nm)) _ bare (and_from (is_some (comparison g.sign_word)) (is_plain w) some p));
       sense = rw e refl;
       named = tt;
       is = sym (append_assoc g.front (nm ∷ g.sign_word ∷ []) (w ∷ [])) ∙ ap (λ v. v ++ w ∷ []) g.is;
@@ -422,7 +422,7 @@ closed_due (in_condition c) os (in_inner_else a b) nm d vs here k g =
             operand = k.operand;
             condition = l.operand;
             other = x.operand;
-            right = both_true (operand_right k.operand) (operand_right l.operand && operand_right x.operand) k.right (both_true (operand_right l.operand) (operand_right x.operand) l.right x.right);
+            right = and_from (operand_right k.operand) (operand_right l.operand && operand_right x.operand) k.right (and_from (operand_right l.operand) (operand_right x.operand) l.right x.right);
             hand = rw (same, k.sense, l.sense) refl;
             bare = tt;
             sense = x.sense;
@@ -478,7 +478,7 @@ step_operand o n h w q ws p e = cases (opens w) (nat_le 64 (length o)) (is_plain
     cases true true r k l e = cc
     cases true false r k l e =
         let same : record { outer = h ∷ o; operators = n; due = operand_due nothing } ≡ q = cc in
-        subst (λ q. At q (ws ++ w ∷ [])) same (opened o h ws w p (sym (same_text (codes "(") w k)))
+        subst (λ q. At q (ws ++ w ∷ [])) same (opened o h ws w p (sym (same_bytes (codes "(") w k)))
     cases false f true k l e =
         let same : record { outer = o; operators = n; due = operator_due h (if is_namespace w then None else Some w) (named w) } ≡ q = cc in
         subst (λ q. At q (ws ++ w ∷ [])) same (further o (operand_due h) (operator_due h (if is_namespace w then None else Some w) (named w)) ws w p (at_name o h w p.here l p.due))
@@ -517,7 +517,7 @@ step_other o n h nm d w q ws p e = cases o p (closes w) refl e
     cases [] p true k e = cc
     cases (x ∷ os) p true k e =
         let same : record { outer = os; operators = n; due = closed h x d } ≡ q = cc in
-        subst (λ q. At q (ws ++ w ∷ [])) same (closing x os h nm d ws w p (sym (same_text (codes ")") w k)))
+        subst (λ q. At q (ws ++ w ∷ [])) same (closing x os h nm d ws w p (sym (same_bytes (codes ")") w k)))
 
 step_operator : (o : List Hand) (n : ℕ) (h : Hand) (nm : Option (List ℕ)) (d : Dep (List ℕ)) (w : List ℕ) (q : Point) (ws : Words) → IsAt o (operator_due h nm d) ws
     → at_operator o n h d w (comparison_due (comparison w) nm) (operator w) ≡ Ok q → At q (ws ++ w ∷ [])

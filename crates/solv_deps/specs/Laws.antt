@@ -1,6 +1,5 @@
 -- Laws of dependency text, and how its examples are said.
-use Rattle.std.specs.Prelude.{ℕ, zero, suc, ◌++◌, ◌≡◌, ◌↔◌, ◌<◌, ◌≤◌, Bool, true, false, List, length, Result, Ok, Err}
-use Rattle.std.specs.Str.{bytes_eq}
+use Rattle.std.specs.Prelude.{ℕ, ◌≡◌, ◌<◌, ◌≤◌, Bool, true, List, length, Ok}
 use Rattle.solv_base.specs.Dependency.{Dep, operators}
 use Rattle.solv_base.specs.Pool.{Held, IsPool, Grows, text_tree}
 use Rattle.solv_deps.specs.Grammar.{Expr, expr_right, expr_operators, expr_depth, expr_words, expr_sense}
@@ -8,8 +7,6 @@ use Rattle.solv_deps.specs.Reading.{dependency, dependency_by, reading}
 use Rattle.solv_deps.specs.Entering.{dependency_entered}
 use Rattle.solv_deps.specs.Canonical.{text}
 use Rattle.solv_deps.specs.declared.place.Place.{Place}
-use Rattle.solv_deps.specs.declared.fault.DepFault.{DepFault}
-use Rattle.solv_deps.specs.declared.fault.DepFault.TheVariants.{TooDeep}
 
 -- the words of what is written by the grammar, within the limits, are read as what it means
 abbrev pub WrittenIsRead : Type 0
@@ -47,26 +44,3 @@ PrintedIsTheSame = (old new : Held) (place : Place) (t : List ℕ) (id again : �
 abbrev pub HeldIsEntered : Type 0
 HeldIsEntered = (held : Held) (id : ℕ) → IsPool held → id < length held.nodes
     → dependency_entered (text_tree held id) held ≡ Ok (record { id = id; held = held })
-
--- is this the canonical text of what was read?
-abbrev pub has_text : List ℕ → Result (Dep (List ℕ)) DepFault → Bool
-has_text t (Ok d) = bytes_eq t (text d)
-has_text t (Err e) = false
-
--- the text is read at the place, and its canonical text is the other
-abbrev pub reads_as : Place → List ℕ → List ℕ → Bool
-reads_as place given canonical = has_text canonical (dependency place given)
-
--- the text is refused at the place for this cause
-abbrev pub IsRefused : Place → List ℕ → DepFault → Type 0
-IsRefused place given cause = dependency place given ≡ Err cause
-
--- was the limit of operators or of parentheses passed?
-abbrev pub is_too_deep : Result (Dep (List ℕ)) DepFault → Bool
-is_too_deep (Err TooDeep) = true
-is_too_deep r = false
-
--- a piece, so many times, before the rest
-abbrev pub repeated : ℕ → List ℕ → List ℕ → List ℕ
-repeated zero piece rest = rest
-repeated (suc n) piece rest = piece ++ repeated n piece rest

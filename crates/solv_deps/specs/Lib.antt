@@ -1,11 +1,9 @@
 pub mod Words
 pub mod Grammar
 pub mod Table
-pub mod Drafts
-pub mod Points
 pub mod Entering
-pub mod Singles
 pub mod Reading
 pub mod Canonical
-pub mod Appending
 pub mod Laws
+pub mod Inner
+pub mod Examples

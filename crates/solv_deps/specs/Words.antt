@@ -44,13 +44,3 @@ words text = words_behind 0 text
 abbrev pub unpaired_in : ℕ → List ℕ → ℕ
 unpaired_in unpaired [] = unpaired
 unpaired_in unpaired (c ∷ cs) = unpaired_in (unpaired_after unpaired c (is_close c)) cs
-
--- how many blanks a text begins with
-abbrev pub blanks : List ℕ → ℕ
-blanks [] = 0
-blanks (c ∷ cs) = if is_blank c then suc (blanks cs) else 0
-
--- how long the word is that a text begins with
-abbrev pub word_length : List ℕ → ℕ
-word_length [] = 0
-word_length (c ∷ cs) = if is_open c || is_close c then 1 else word_rest 0 cs + 1

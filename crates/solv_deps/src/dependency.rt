@@ -1,12 +1,14 @@
 //! Reading a dependency into a pool.
 ghost use Rattle.std.specs.Prelude.{ℕ, List, ◌≡◌, ◌<◌, length, IfOk, IfErr, IsTrue, Ok, Err, ◌↔◌};
 ghost use Rattle.solv_base.specs.Dependency.{one, plain, versioned, namespace};
-ghost use Rattle.solv_base.specs.Pool.{Grows, text_at, text_tree, text_tree_of_node, uses_below};
+ghost use Rattle.solv_base.specs.Pool.{Grows, text_at, text_tree};
+ghost use Rattle.solv_base.specs.Inner.Pool.{text_tree_of_node, uses_below};
 ghost use Rattle.solv_deps.specs.declared.fault.DepFault.{DepFault as Cause};
-ghost use Rattle.solv_deps.specs.Drafts.{said};
+ghost use Rattle.solv_deps.specs.Inner.Drafts.{said};
 ghost use Rattle.solv_deps.specs.Reading.{dependency};
-ghost use Rattle.solv_deps.specs.Singles.{capability_of};
-ghost use Rattle.solv_deps.specs.Entering.{text_entered, relation_entered, dependency_entered, text_read, IsEntered, IsRefusal, IsOfPool, refusal, link_node};
+ghost use Rattle.solv_deps.specs.Inner.Singles.{capability_of};
+ghost use Rattle.solv_deps.specs.Entering.{text_entered, relation_entered, dependency_entered};
+ghost use Rattle.solv_deps.specs.Inner.Entering.{text_read, IsEntered, IsRefusal, IsOfPool, refusal, link_node};
 
 use crate::draft::{Draft, Written};
 use crate::fault::DepFault;

@@ -27,7 +27,7 @@ pub(crate) struct Draft<'a> {
 impl<'a> Model for Draft<'a> {
     ghost use Rattle.std.specs.Prelude.{List, take};
     ghost use Rattle.solv_deps.specs.declared.draft.Written.{Written};
-    ghost use Rattle.solv_deps.specs.Drafts.{IsDraft};
+    ghost use Rattle.solv_deps.specs.Inner.Drafts.{IsDraft};
 
     ghost Value = { List Written };
 
@@ -37,7 +37,7 @@ impl<'a> Model for Draft<'a> {
 }
 
 impl<'a> Draft<'a> {
-    ghost use Rattle.solv_deps.specs.Drafts.{said, written, operands_below, Enters};
+    ghost use Rattle.solv_deps.specs.Inner.Drafts.{said, written, operands_below, Enters};
 
     pub(crate) fn new() -> Draft<'a>
         ensures { result ≡ [] }

@@ -1,6 +1,7 @@
 //! The words of a text, one at a time.
 ghost use Rattle.std.specs.Prelude.{◌≡◌, ◌+◌, ◌<◌, ◌≤◌, ◌∷◌, [], length, drop, take, IfSome, IfNone, IsTrue, ℕ, false};
-ghost use Rattle.solv_deps.specs.Words.{is_open, is_close, words, word_rest, word_length, blanks};
+ghost use Rattle.solv_deps.specs.Words.{is_open, is_close, words, word_rest};
+ghost use Rattle.solv_deps.specs.Inner.Words.{word_length, blanks};
 
 use solv_io::is_blank;
 

@@ -4,7 +4,7 @@ ghost use Rattle.solv_base.specs.Dependency.{versioned};
 ghost use Rattle.solv_base.specs.Pool.{text_tree};
 ghost use Rattle.solv_deps.specs.Words.{unpaired_in};
 ghost use Rattle.solv_deps.specs.Canonical.{text, is_rich, is_chain, ends_unpaired, space_before_close, comparison_text, operand_text, between, spaced, capability_text};
-ghost use Rattle.solv_deps.specs.Appending.{Keeps};
+ghost use Rattle.solv_deps.specs.Inner.Appending.{Keeps};
 ghost use Rattle.solv_deps.specs.declared.sign.Operator.TheVariants.{Else};
 
 use crate::sign::Joint;

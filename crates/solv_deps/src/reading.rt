@@ -1,8 +1,8 @@
 //! Reading a dependency's text into a draft, word by word.
 ghost use Rattle.std.specs.Prelude.{ℕ, List, ◌≡◌, ◌<◌, ◌≤◌, ◌+◌, ◌∷◌, [], length, IfOk, IfErr, true, Some, None, Err, option_map, ◌&&◌, nat_lt};
 ghost use Rattle.solv_base.specs.Dependency.{Dep, one, plain};
-ghost use Rattle.solv_deps.specs.Drafts.{said, Extends, Enters};
-ghost use Rattle.solv_deps.specs.Points.{option_in, Ends, Leads, GoesOn, Stands, rule_hand, hands, due_seen, seen, rule_in, rules_in, due_in, pending, option_pending, rules_pending, due_pending, due_entered};
+ghost use Rattle.solv_deps.specs.Inner.Drafts.{said, Extends, Enters};
+ghost use Rattle.solv_deps.specs.Inner.Points.{option_in, Ends, Leads, GoesOn, Stands, rule_hand, hands, due_seen, seen, rule_in, rules_in, due_in, pending, option_pending, rules_pending, due_pending, due_entered};
 ghost use Rattle.solv_deps.specs.Reading.{whole, goes_on, nothing, inner_else, at_operand, at_evr, at_other, closed, comparison_due, at_operator, end_due, reading, refused_operator};
 ghost use Rattle.solv_deps.specs.Reading.{go_on as go_on_by, step as step_by};
 ghost use Rattle.solv_deps.specs.Grammar.{operator, comparison};
@@ -295,7 +295,7 @@ fn take_named<'a>(
 }
 
 /// The next word.
-#[tactic(auto, unfolding(crate::specs::Points::seen))]
+#[tactic(auto, unfolding(crate::specs::Inner::Points::seen))]
 fn step<'a>(
     draft: &mut Draft<'a>,
     outer: &mut Outer,

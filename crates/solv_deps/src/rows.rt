@@ -4,7 +4,7 @@ ghost use Rattle.solv_base.specs.Dependency.{one, plain};
 ghost use Rattle.solv_deps.specs.Words.{words};
 ghost use Rattle.solv_deps.specs.Grammar.{comparison, operator};
 ghost use Rattle.solv_deps.specs.Reading.{dependency};
-ghost use Rattle.solv_deps.specs.Laws.{reads_as, IsRefused, is_too_deep, repeated};
+ghost use Rattle.solv_deps.specs.Examples.Laws.{reads_as, IsRefused, is_too_deep, repeated};
 ghost use Rattle.solv_deps.specs.declared.place.Place.TheVariants.{Requires, Conflicts, Plain};
 ghost use Rattle.solv_deps.specs.declared.fault.DepFault.TheVariants.{BadOperator, MissingOperand, MixedOperators, UnclosedParenthesis, TooDeep, OperatorNotHere};
 

@@ -3,7 +3,7 @@ ghost use Rattle.std.specs.Prelude.{◌≡◌, ◌∷◌, [], Ok, IfSome, true, 
 ghost use Rattle.solv_base.specs.Dependency.{one};
 ghost use Rattle.solv_deps.specs.Grammar.{is_plain, is_namespace};
 ghost use Rattle.solv_deps.specs.Reading.{reading};
-ghost use Rattle.solv_deps.specs.Singles.{capability_of};
+ghost use Rattle.solv_deps.specs.Inner.Singles.{capability_of};
 ghost use Rattle.solv_deps.specs.Words.{words};
 
 use crate::lexer::next_word;

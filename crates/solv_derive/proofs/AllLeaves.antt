@@ -6,13 +6,13 @@ use Rattle.solv_derive.specs.Leaves.{is_one_of, leaves, named_rules}
 use Rattle.solv_derive.specs.declared.logs.Step.{Step}
 use Rattle.solv_derive.proofs.Named.{leaves_are_named}
 
-at_member : (p : ℕ → Bool) (xs : List ℕ) (x : ℕ) → list_all p xs ≡ true → is_one_of xs x ≡ true → p x ≡ true
+pub at_member : (p : ℕ → Bool) (xs : List ℕ) (x : ℕ) → list_all p xs ≡ true → is_one_of xs x ≡ true → p x ≡ true
 at_member p [] x h k = absurd (false≢true k)
 at_member p (y ∷ ys) x h k =
     let both = and_parts (p y) (list_all p ys) h in
     elim (or_cases (eqb x y) (is_one_of ys x) k) [ inl e ↦ ap p (eqb-true x y e) ∙ both.0 | inr r ↦ at_member p ys x both.1 r ]
 
-by_members : (p : ℕ → Bool) (xs : List ℕ) → ((x : ℕ) → is_one_of xs x ≡ true → p x ≡ true) → list_all p xs ≡ true
+pub by_members : (p : ℕ → Bool) (xs : List ℕ) → ((x : ℕ) → is_one_of xs x ≡ true → p x ≡ true) → list_all p xs ≡ true
 by_members p [] h = refl
 by_members p (y ∷ ys) h = and_from (p y) (list_all p ys) (h y (here y ys)) (by_members p ys (λ x k. h x (or_right (eqb x y) (is_one_of ys x) k)))
   where

@@ -1,5 +1,5 @@
 -- Membership in lists of literals, and what a clause forces.
-use Rattle.std.proofs.Common.{◌≡◌, zero, suc, Bool, true, false, not, ◌&&◌, ◌||◌, List, [], ◌∷◌, Some, None, ◌⊎◌, inl, inr, refl, sym, ap, ◌∙◌, subst, filter}
+use Rattle.std.proofs.Common.{◌≡◌, zero, suc, Bool, true, false, ◌&&◌, ◌||◌, List, [], ◌∷◌, Some, None, ◌⊎◌, inl, inr, refl, sym, ap, ◌∙◌, subst, filter}
 use Rattle.std.specs.Prelude.{ℤ, pos, negsuc, neg_ℤ}
 use Rattle.std.specs.List.{list_any, list_all}
 use Rattle.std.specs.Ordering.{int_eq}
@@ -7,9 +7,8 @@ use Rattle.std.proofs.lemmas.Bool.{or_left, or_right, or_cases, or_parts, or_fro
 use Rattle.std.proofs.lemmas.Bool.Decides.{Decides-int_eq}
 use Rattle.solv_pool.specs.Propagation.{is_fact, is_refuted, is_open}
 use Rattle.solv_derive.specs.Forced.{is_satisfied, only, forced}
-
-pub same : (x y : ℤ) → int_eq x y ≡ true → x ≡ y
-same x y h = (Decides-int_eq x y).0 h
+use Rattle.solv_list.proofs.Booleans.{neither}
+use Rattle.solv_list.proofs.Numbers.{same_integer}
 
 pub same_self : (x : ℤ) → int_eq x x ≡ true
 same_self x = (Decides-int_eq x x).1 refl
@@ -24,7 +23,7 @@ pub known_same : (x l : ℤ) (xs : List ℤ) → l ≡ x → is_fact (x ∷ xs) 
 known_same x l xs e = let P : ℤ → Type 0 = λ v. is_fact (x ∷ xs) v ≡ true in subst P (sym e) (known_here x xs)
 
 pub known_cases : (x l : ℤ) (xs : List ℤ) → is_fact (x ∷ xs) l ≡ true → (l ≡ x) ⊎ (is_fact xs l ≡ true)
-known_cases x l xs h = elim (or_cases (int_eq l x) (is_fact xs l) h) [ inl e ↦ inl (same l x e) | inr k ↦ inr k ]
+known_cases x l xs h = elim (or_cases (int_eq l x) (is_fact xs l) h) [ inl e ↦ inl (same_integer l x e) | inr k ↦ inr k ]
 
 pub neg-neg : (l : ℤ) → neg_ℤ (neg_ℤ l) ≡ l
 neg-neg (pos zero) = refl
@@ -130,13 +129,8 @@ forces_from facts c x h = elim (cases_Bool (is_satisfied facts c)) [
 pub forced_from : (facts c : List ℤ) (x : ℤ) → Forces facts c x → forced facts c ≡ Some x
 forced_from facts c x h = rw (h.none_true, h.the_open) refl
 
-not_of_open : (a b : Bool) → (not a && not b) ≡ true → (a ≡ false) × (b ≡ false)
-not_of_open true b h = cc
-not_of_open false true h = cc
-not_of_open false false h = (refl, refl)
-
 pub open_parts : (facts : List ℤ) (l : ℤ) → is_open facts l ≡ true → (is_fact facts l ≡ false) × (is_refuted facts l ≡ false)
-open_parts facts l h = not_of_open (is_fact facts l) (is_refuted facts l) h
+open_parts facts l h = neither (is_fact facts l) (is_refuted facts l) h
 
 pub open_from : (facts : List ℤ) (l : ℤ) → is_fact facts l ≡ false → is_refuted facts l ≡ false → is_open facts l ≡ true
 open_from facts l h k = rw (h, k) refl

@@ -6,7 +6,7 @@ use Rattle.std.proofs.lemmas.Bool.{and_parts}
 use Rattle.solv_pool.specs.Propagation.{is_fact}
 use Rattle.solv_derive.specs.Forced.{is_falsified, only, forced}
 use Rattle.solv_derive.specs.Range.{is_over, are_over, steps_over, names_package}
-use Rattle.solv_derive.specs.Marks.{forced_by}
+use Rattle.solv_derive.specs.Inner.Marks.{forced_by}
 use Rattle.solv_derive.specs.Logs.{ends_in_conflict, hint_clause}
 use Rattle.solv_derive.specs.declared.logs.Hint.{Hint}
 use Rattle.solv_derive.specs.declared.logs.Hint.TheVariants as hint
@@ -44,7 +44,7 @@ module _ (look : Hint → Option (List ℤ)) (facts : List ℤ) where
   run_over (x ∷ xs) zero h = absurd (omega arith)
   run_over (x ∷ xs) (suc k) h = run_over xs k (omega arith)
 
-clause_over : (count : ℕ) (clauses : List (List ℤ)) (k : ℕ) (c : List ℤ) → are_over count clauses ≡ true → slice_get clauses k ≡ Some c → is_over count c ≡ true
+pub clause_over : (count : ℕ) (clauses : List (List ℤ)) (k : ℕ) (c : List ℤ) → are_over count clauses ≡ true → slice_get clauses k ≡ Some c → is_over count c ≡ true
 clause_over count [] k c h e = cc
 clause_over count (x ∷ xs) zero c h e = let f : x ≡ c = cc in ap (is_over count) (sym f) ∙ (and_parts (is_over count x) (are_over count xs) h).0
 clause_over count (x ∷ xs) (suc k) c h e = clause_over count xs k c (and_parts (is_over count x) (are_over count xs) h).1 e

@@ -17,6 +17,7 @@ use Rattle.std.proofs.lemmas.Map.Keys.{IsStrictlyIncreasing-dedup}
 use mathlib.Core.Path.{fun_ext}
 use Rattle.solv_derive.specs.Leaves.{is_one_of, leaves, named_rules}
 use Rattle.solv_derive.specs.Laws.{LeavesAreNamed}
+use Rattle.solv_list.proofs.Booleans.{or_once_more, or_second_first, or_turned, with_or_false}
 
 -- each number of the list is above this one
 abbrev pub AllAbove : ℕ → List ℕ → Type 0
@@ -60,35 +61,15 @@ insert_rises k (x ∷ xs) r =
       ]
     ]
 
-or_twice : (a b : Bool) → (a || b) ≡ (a || (a || b))
-or_twice true b = refl
-or_twice false b = refl
-
-or_swap : (a b c : Bool) → (a || (b || c)) ≡ (b || (a || c))
-or_swap true true c = refl
-or_swap true false c = refl
-or_swap false true c = refl
-or_swap false false c = refl
-
-or_moved : (a s c : Bool) → ((a || s) || c) ≡ (s || (a || c))
-or_moved true true c = refl
-or_moved true false c = refl
-or_moved false true c = refl
-or_moved false false c = refl
-
-or_none : (a : Bool) → a ≡ (a || false)
-or_none true = refl
-or_none false = refl
-
 insert_has : (k x : ℕ) (xs : List ℕ) → is_one_of (insert_key nat_cmp xs k) x ≡ (eqb x k || is_one_of xs x)
 insert_has k x [] = refl
 insert_has k x (y ∷ ys) =
     let P : Ordering → Type 0 = λ o. is_one_of (match_ordering o (k ∷ y ∷ ys) (y ∷ ys) (y ∷ insert_key nat_cmp ys k)) x ≡ (eqb x k || is_one_of (y ∷ ys) x) in
     elim (cases_order k y) [
-      | inl e ↦ subst P (nat_cmp_is k y Equal e) (or_twice (eqb x y) (is_one_of ys x) ∙ ap (λ v. eqb x v || is_one_of (y ∷ ys) x) (sym e))
+      | inl e ↦ subst P (nat_cmp_is k y Equal e) (or_once_more (eqb x y) (is_one_of ys x) ∙ ap (λ v. eqb x v || is_one_of (y ∷ ys) x) (sym e))
       | inr d ↦ elim d [
         | inl l ↦ subst P (nat_cmp_is k y Less l) refl
-        | inr g ↦ subst P (nat_cmp_is k y Greater g) (ap (λ b. eqb x y || b) (insert_has k x ys) ∙ or_swap (eqb x y) (eqb x k) (is_one_of ys x))
+        | inr g ↦ subst P (nat_cmp_is k y Greater g) (ap (λ b. eqb x y || b) (insert_has k x ys) ∙ or_second_first (eqb x y) (eqb x k) (is_one_of ys x))
       ]
     ]
 
@@ -97,11 +78,11 @@ fold_rises [] start r = r
 fold_rises (x ∷ xs) start r = fold_rises xs (insert_key nat_cmp start x) (insert_rises x start r)
 
 fold_has : (x : ℕ) (xs start : List ℕ) → is_one_of (fold (insert_key nat_cmp) start xs) x ≡ (is_one_of start x || is_one_of xs x)
-fold_has x [] start = or_none (is_one_of start x)
+fold_has x [] start = with_or_false (is_one_of start x)
 fold_has x (n ∷ ns) start =
     fold_has x ns (insert_key nat_cmp start n)
     ∙ ap (λ b. b || is_one_of ns x) (insert_has n x start)
-    ∙ or_moved (eqb x n) (is_one_of start x) (is_one_of ns x)
+    ∙ or_turned (eqb x n) (is_one_of start x) (is_one_of ns x)
 
 rises_next : (xs : List ℕ) → Rises xs → (k : ℕ) → suc k < length xs → get_or xs k 0 < get_or xs (suc k) 0
 rises_next [] r k h = absurd (omega arith)

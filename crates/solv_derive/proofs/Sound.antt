@@ -1,6 +1,6 @@
 -- What a good log says: no set makes its leaves true.
 use Rattle.std.proofs.Common.{◌≡◌, ℕ, zero, suc, ◌<◌, Bool, true, false, not, ◌&&◌, ◌||◌, List, [], ◌∷◌, ◌++◌, map, Option, Some, None, inl, inr, refl, sym, ap, ◌∙◌, arith}
-use Rattle.std.specs.Prelude.{ℤ, pos, negsuc, neg_ℤ, nat_abs, slice_get}
+use Rattle.std.specs.Prelude.{ℤ, pos, negsuc, neg_ℤ, nat_abs}
 use Rattle.std.specs.List.{list_all}
 use Rattle.std.proofs.lemmas.Bool.{and_parts, and_from, cases_Bool, false≢true}
 use Rattle.std.proofs.lemmas.List.Folds.{list_all-append}
@@ -17,6 +17,7 @@ use Rattle.solv_derive.specs.declared.logs.Step.{Step}
 use Rattle.solv_derive.proofs.AllLeaves.{all_leaves}
 use Rattle.solv_derive.proofs.Facts.{known_here, known_cases, all_member, any_member, none_member, forces_from, forced_others}
 use Rattle.solv_derive.proofs.Tables.{names_parts}
+use Rattle.solv_list.proofs.Lists.{clause_at}
 
 not_not : (b : Bool) → b ≡ not (not b)
 not_not true = refl
@@ -77,7 +78,7 @@ module _ (look : Hint → Option (List ℤ)) (count : ℕ) (set : ℕ → Bool) 
           force None f k = false≢true k
           force (Some l) f k = let m = here c e in go l (forced_is_so count set facts c so m.1 l f m.0) k
 
-negations_so : (count : ℕ) (set : ℕ → Bool) (c : List ℤ) → is_over count c ≡ true → clause_true set c ≡ false → AllSo set (map neg_ℤ c)
+pub negations_so : (count : ℕ) (set : ℕ → Bool) (c : List ℤ) → is_over count c ≡ true → clause_true set c ≡ false → AllSo set (map neg_ℤ c)
 negations_so count set [] over h = record { so = λ l k. absurd (false≢true k) }
 negations_so count set (x ∷ c) over h =
     let o = and_parts (names_package count x) (is_over count c) over in
@@ -94,19 +95,14 @@ negations_so count set (x ∷ c) over h =
     or_right_false true b g = absurd (false≢true (sym g))
     or_right_false false b g = g
 
-slice_all : (p : List ℤ → Bool) (xs : List (List ℤ)) (k : ℕ) (c : List ℤ) → list_all p xs ≡ true → slice_get xs k ≡ Some c → p c ≡ true
-slice_all p [] k c h e = cc
-slice_all p (x ∷ xs) zero c h e = let f : x ≡ c = cc in ap p (sym f) ∙ (and_parts (p x) (list_all p xs) h).0
-slice_all p (x ∷ xs) (suc k) c h e = slice_all p xs k c (and_parts (p x) (list_all p xs) h).1 e
-
 module _ (count : ℕ) (set : ℕ → Bool) (book : List (List ℤ)) (books : are_over count book ≡ true) where
   hints_met : (earlier : List (List ℤ)) → list_all (clause_true set) earlier ≡ true → are_over count earlier ≡ true → (hints : List Hint) → list_all (rule_true book set) (rules_of hints) ≡ true → Met (hint_clause book earlier) count set hints
   hints_met earlier m o [] h = none
   hints_met earlier m o (hint.Book r ∷ hints) h =
       let both = and_parts (rule_true book set r) (list_all (rule_true book set) (rules_of hints)) h in
-      more (λ c e. (sym (ap (λ v. elim v as (λ _. Bool) [ None ↦ true | Some d ↦ clause_true set d ]) e) ∙ both.0, slice_all (is_over count) book r c books e)) (hints_met earlier m o hints both.1)
+      more (λ c e. (sym (ap (λ v. elim v as (λ _. Bool) [ None ↦ true | Some d ↦ clause_true set d ]) e) ∙ both.0, clause_at (is_over count) book r c books e)) (hints_met earlier m o hints both.1)
   hints_met earlier m o (hint.Step k ∷ hints) h =
-      more (λ c e. (slice_all (clause_true set) earlier k c m e, slice_all (is_over count) earlier k c o e)) (hints_met earlier m o hints h)
+      more (λ c e. (clause_at (clause_true set) earlier k c m e, clause_at (is_over count) earlier k c o e)) (hints_met earlier m o hints h)
 
   step_met : (earlier : List (List ℤ)) → list_all (clause_true set) earlier ≡ true → are_over count earlier ≡ true → (s : Step) → is_over count s.clause ≡ true → list_all (rule_true book set) (rules_of s.hints) ≡ true → is_good_step book earlier s ≡ true → clause_true set s.clause ≡ true
   step_met earlier m o s over h good = elim (cases_Bool (clause_true set s.clause)) [

@@ -3,10 +3,10 @@ use Rattle.std.proofs.Common.{◌≡◌, ℕ, zero, suc, ◌+◌, ◌-◌, ◌*�
 use Rattle.std.specs.Prelude.{ℤ, slice_get, slice_index}
 use Rattle.std.proofs.lemmas.Bool.{and_parts, and_from, cases_Bool, ne_eqb, cond-true, cond-false}
 use Rattle.std.proofs.lemmas.List.{drop_more, drop_all, take_more, map-append, length-map, length-take-le}
-use Rattle.solv_pack.specs.Literals.{place_of}
+use Rattle.solv_pack.specs.Inner.Literals.{place_of}
 use Rattle.solv_derive.specs.Laws.{YesIsForGoodLogs}
 use Rattle.solv_derive.specs.Logs.{is_good_step, are_good_steps, first_bad, ends_empty, is_empty, is_good_log, checked}
-use Rattle.solv_derive.specs.Marks.{Shows}
+use Rattle.solv_derive.specs.Inner.Marks.{Shows}
 use Rattle.solv_derive.specs.Range.{is_over, steps_over}
 use Rattle.solv_derive.specs.declared.logs.Step.{Step}
 use Rattle.solv_derive.specs.declared.logs.Checked.{Checked}

@@ -6,12 +6,13 @@ use Rattle.std.specs.Ordering.{int_eq}
 use Rattle.std.proofs.lemmas.Bool.{or_left, and_parts, cases_Bool, cases_eq, false≢true, ltb-true, leb-true}
 use Rattle.std.proofs.lemmas.List.{take_more, map-append, at_drop_more}
 use Rattle.std.proofs.lemmas.List.Folds.{list_any-append}
-use Rattle.solv_pack.specs.Literals.{place_of}
+use Rattle.solv_pack.specs.Inner.Literals.{place_of}
 use Rattle.solv_pool.specs.Propagation.{is_fact, is_refuted, is_open}
 use Rattle.solv_derive.specs.Forced.{is_falsified, only, forced}
-use Rattle.solv_derive.specs.Marks.{Shows, is_marked, forced_by}
+use Rattle.solv_derive.specs.Inner.Marks.{Shows, is_marked, forced_by}
 use Rattle.solv_derive.specs.Range.{is_over, names_package}
-use Rattle.solv_derive.proofs.Facts.{same, same_self, all_member, filter_same, any_same, all_same}
+use Rattle.solv_derive.proofs.Facts.{same_self, all_member, filter_same, any_same, all_same}
+use Rattle.solv_list.proofs.Numbers.{same_integer}
 
 pub names_parts : (count : ℕ) (l : ℤ) → names_package count l ≡ true → (0 < nat_abs l) × (nat_abs l ≤ count)
 names_parts count l h =
@@ -39,8 +40,8 @@ place_of-injective (negsuc n) (negsuc m) h = let e : n ≡ m = omega arith in ap
 place_of-injective (pos n) (negsuc m) h = absurd (omega arith)
 place_of-injective (negsuc n) (pos m) h = absurd (omega arith)
 
-int_ne : (m l : ℤ) → (m ≡ l → ⊥) → int_eq m l ≡ false
-int_ne m l h = elim (cases_Bool (int_eq m l)) [ inl e ↦ absurd (h (same m l e)) | inr f ↦ f ]
+pub int_ne : (m l : ℤ) → (m ≡ l → ⊥) → int_eq m l ≡ false
+int_ne m l h = elim (cases_Bool (int_eq m l)) [ inl e ↦ absurd (h (same_integer m l e)) | inr f ↦ f ]
 
 pub shows_learn : (count : ℕ) (marks : List ℕ) (now : ℕ) (facts : List ℤ) (l : ℤ) → names_package count l ≡ true → Shows count marks now facts → Shows count (set marks (place_of l) now) now (l ∷ facts)
 shows_learn count marks now facts l over shows = record {

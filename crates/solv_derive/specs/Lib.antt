@@ -3,5 +3,5 @@ pub mod Logs
 pub mod Leaves
 pub mod Range
 pub mod Laws
-pub mod Marks
 pub mod Examples
+pub mod Inner

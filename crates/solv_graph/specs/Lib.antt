@@ -1,6 +1,5 @@
 pub mod Walks
 pub mod Graphs
 pub mod Classes
-pub mod Searching
 pub mod Orders
-pub mod Placing
+pub mod Inner

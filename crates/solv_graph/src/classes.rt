@@ -1,8 +1,9 @@
 //! The classes of a graph.
 ghost use Rattle.std.specs.Prelude.{ℕ, ◌≡◌, ◌<◌, ◌==◌, ◌^◌, length, slice_index, IfOk, OnOk, ◌∷◌, ◌++◌, [], if◌then◌else◌};
-ghost use Rattle.solv_graph.specs.Graphs.{edge_to};
-ghost use Rattle.solv_graph.specs.Classes.{AreClasses, TellClasses, numbers};
-ghost use Rattle.solv_graph.specs.Searching.{AreMembers, heads, listed_by};
+ghost use Rattle.solv_graph.specs.Inner.Graphs.{edge_to};
+ghost use Rattle.solv_graph.specs.Classes.{AreClasses, numbers};
+ghost use Rattle.solv_graph.specs.Inner.Classes.{TellClasses};
+ghost use Rattle.solv_graph.specs.Inner.Searching.{AreMembers, heads, listed_by};
 
 use crate::graphs::Graph;
 use crate::numbering::numbers_of_classes;

@@ -9,7 +9,7 @@
 //! - [`Ready`]: numbers of which the lowest is taken first.
 //!
 //! `specs/Walks` says what walks and classes are, `specs/Graphs` what rows tell, `specs/Classes` what lists of classes are, and
-//! `specs/Orders` what a good order is; `specs/Searching` and `specs/Placing` serve inner contracts alone.
+//! `specs/Orders` what a good order is; `specs/Inner/Searching` and `specs/Inner/Placing` serve inner contracts alone.
 #![tactic(auto)]
 
 mod classes;

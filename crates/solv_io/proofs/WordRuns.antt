@@ -1,18 +1,12 @@
 -- A run of bytes that are no blanks is one word, and the words behind it are those of a line of their own.
 use Rattle.std.proofs.Common.{ℕ, ◌≡◌, ◌+◌, ◌<◌, List, [], ◌∷◌, Bool, true, false, take, drop, get_or, length, refl, ◌∙◌, arith, cond}
 use Rattle.std.specs.Prelude.{not}
-use Rattle.std.proofs.lemmas.Grind.{common_steps}
 use Rattle.std.specs.List.{prefix_len}
 use Rattle.solv_io.specs.Words.{is_blank, begins_word, lengthened, words_of}
+use Rattle.solv_list.proofs.Lists.{drop_one_more, take_one_more}
 
 inside : ℕ → Bool
 inside byte = not (is_blank byte)
-
-take_one_more : (n c : ℕ) (cs : List ℕ) → take (1 + n) (c ∷ cs) ≡ c ∷ take n cs
-take_one_more n c cs = grind (arith, common_steps)
-
-drop_one_more : (n c : ℕ) (cs : List ℕ) → drop (1 + n) (c ∷ cs) ≡ drop n cs
-drop_one_more n c cs = grind (arith, common_steps)
 
 words_at : (c : ℕ) (cs : List ℕ) → is_blank c ≡ false → words_of (c ∷ cs) ≡ cond (begins_word cs) (lengthened c (words_of cs)) ((c ∷ []) ∷ words_of cs)
 words_at c cs h = rw h refl

@@ -3,4 +3,4 @@ pub mod Fetches
 pub mod Writes
 pub mod Lines
 pub mod Words
-pub mod Statuses
+pub mod Inner

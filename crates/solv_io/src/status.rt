@@ -1,5 +1,5 @@
 ghost use Rattle.std.specs.Prelude.{◌≡◌};
-ghost use Rattle.solv_io.specs.Statuses.{status_number};
+ghost use Rattle.solv_io.specs.Inner.Statuses.{status_number};
 
 /// How a program ends. Want of memory is none of these: there a program ends with 6 and prints nothing.
 #[derive(Clone, Copy, PartialEq, Eq, Debug, Drop)]

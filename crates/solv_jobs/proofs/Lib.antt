@@ -1,5 +1,5 @@
-mod Ascending
-mod Choices
+pub mod Ascending
+pub mod Choices
 mod Tables
-mod Puts
+pub mod Puts
 mod Unions

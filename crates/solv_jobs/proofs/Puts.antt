@@ -1,12 +1,12 @@
 -- Rules put behind others.
-use Rattle.std.proofs.Common.{◌≡◌, ◌<◌, ◌≤◌, ◌+◌, ℕ, zero, suc, Bool, true, false, ◌&&◌, List, [], ◌∷◌, ◌++◌, map, length, Option, Some, None, refl, sym, ap, subst, ◌∙◌, arith, append_assoc, drop, get_or}
+use Rattle.std.proofs.Common.{◌≡◌, ◌<◌, ◌≤◌, ◌+◌, ℕ, zero, suc, true, false, List, [], ◌∷◌, ◌++◌, map, length, Option, Some, None, refl, sym, ap, subst, ◌∙◌, arith, append_assoc, drop}
 use Rattle.std.specs.Prelude.{nat_lt, unwrap_or, flat_map}
 use Rattle.solv_pool.specs.Catalog.{Catalog}
 use Rattle.solv_pool.specs.Selections.{selection}
 use Rattle.solv_pool.specs.declared.jobs.Job.{Job}
 use Rattle.std.specs.List.{list_all, enumerate_from}
 use Rattle.std.specs.Option.{option_map_or}
-use Rattle.std.proofs.lemmas.List.{map-append, append-nil, length-append, drop_more}
+use Rattle.std.proofs.lemmas.List.{map-append, append-nil, length-append}
 use Rattle.std.proofs.lemmas.List.Folds.{list_all-append}
 use Rattle.std.proofs.lemmas.Bool.Decides.{nat_tests}
 use Rattle.solv_pool.specs.RuleMeaning.{HardRule, rule_with, set_at}
@@ -16,19 +16,12 @@ use Rattle.solv_pool.specs.declared.hard_rules.Rule.TheVariants as rule
 use Rattle.solv_pool.specs.HardRules.{rule_of_job}
 use Rattle.solv_pool.specs.declared.jobs.Action.{Action}
 use Rattle.solv_pool.specs.declared.jobs.Action.TheVariants.{Install, Erase, Update, Lock, Verify, Multiversion, AllowUninstall, Favor, Disfavor, Noop}
-use Rattle.solv_jobs.specs.Ruling.{rule_over}
-use Rattle.solv_jobs.specs.Putting.{set_number, over_set, has_its_set, IsPut, HasPut}
-
-left : (a b : Bool) → (a && b) ≡ true → a ≡ true
-left true b h = refl
-left false b h = h
-
-right : (a b : Bool) → (a && b) ≡ true → b ≡ true
-right true b h = h
-right false b h = cc
+use Rattle.solv_jobs.specs.Inner.Ruling.{rule_over}
+use Rattle.solv_jobs.specs.Inner.Putting.{set_number, over_set, has_its_set, IsPut, HasPut}
+use Rattle.solv_list.proofs.Booleans.{first_of_both as left, second_of_both}
 
 -- the first sets are read as before
-set_before : (sets more : List (List ℕ)) (s : ℕ) → s < length sets → set_at (sets ++ more) s ≡ set_at sets s
+pub set_before : (sets more : List (List ℕ)) (s : ℕ) → s < length sets → set_at (sets ++ more) s ≡ set_at sets s
 set_before [] more s h = absurd (omega (arith, h))
 set_before (x ∷ sets) more zero h = refl
 set_before (x ∷ sets) more (suc s) h = set_before sets more s (omega (arith, h))
@@ -40,7 +33,7 @@ set_behind (y ∷ sets) x = set_behind sets x
 within : (s n : ℕ) → nat_lt s n ≡ true → s < n
 within s n h = grind (arith, nat_tests, h)
 
-rule_before : (sets more : List (List ℕ)) (r : Rule) → has_its_set (length sets) r ≡ true → rule_with (sets ++ more) r ≡ rule_with sets r
+pub rule_before : (sets more : List (List ℕ)) (r : Rule) → has_its_set (length sets) r ≡ true → rule_with (sets ++ more) r ≡ rule_with sets r
 rule_before sets more (rule.NotInstallable p) h = refl
 rule_before sets more (rule.Req p d) h = refl
 rule_before sets more (rule.Con p d q) h = refl
@@ -56,10 +49,10 @@ rule_before sets more (rule.Lock j s) h = rw (set_before sets more s (within s (
 rule_before sets more (rule.BestJob j s) h = rw (set_before sets more s (within s (length sets) h)) refl
 rule_before sets more (rule.BestUpdate j p s) h = rw (set_before sets more s (within s (length sets) h)) refl
 
-rules_before : (sets more : List (List ℕ)) (rs : List Rule) → list_all (has_its_set (length sets)) rs ≡ true → map (rule_with (sets ++ more)) rs ≡ map (rule_with sets) rs
+pub rules_before : (sets more : List (List ℕ)) (rs : List Rule) → list_all (has_its_set (length sets)) rs ≡ true → map (rule_with (sets ++ more)) rs ≡ map (rule_with sets) rs
 rules_before sets more [] h = refl
 rules_before sets more (r ∷ rs) h =
-    rw (rule_before sets more r (left (has_its_set (length sets) r) _ h), rules_before sets more rs (right (has_its_set (length sets) r) _ h)) refl
+    rw (rule_before sets more r (left (has_its_set (length sets) r) _ h), rules_before sets more rs (second_of_both (has_its_set (length sets) r) _ h)) refl
 
 -- with more sets each rule still has its own
 keeps_its_set : (n m : ℕ) (r : Rule) → n ≤ m → has_its_set n r ≡ true → has_its_set m r ≡ true
@@ -72,7 +65,7 @@ keeps_its_set n m r h own = step (set_number r) own
 keep_their_sets : (n m : ℕ) (rs : List Rule) → n ≤ m → list_all (has_its_set n) rs ≡ true → list_all (has_its_set m) rs ≡ true
 keep_their_sets n m [] h own = refl
 keep_their_sets n m (r ∷ rs) h own =
-    rw (keeps_its_set n m r h (left (has_its_set n r) _ own), keep_their_sets n m rs h (right (has_its_set n r) _ own)) refl
+    rw (keeps_its_set n m r h (left (has_its_set n r) _ own), keep_their_sets n m rs h (second_of_both (has_its_set n r) _ own)) refl
 
 -- nothing is put
 pub nothing_put : (made : List HardRule) (rules : Rules) → IsPut made made rules rules
@@ -193,7 +186,7 @@ put_refused made left old new put = record { left = left; put = put; whole = λ 
 pub put_whole : (made : List HardRule) (old new : Rules) → IsPut made [] old new → HasPut true made old new
 put_whole made old new put = record { left = []; put = put; whole = λ h. refl }
 
-none_left : (left : List HardRule) → length left ≡ 0 → left ≡ []
+pub none_left : (left : List HardRule) → length left ≡ 0 → left ≡ []
 none_left [] h = refl
 none_left (x ∷ xs) h = absurd (omega (arith, h))
 
@@ -236,12 +229,6 @@ pub job_turn : (catalog : Catalog) (jobs : List Job) (i : ℕ) (job : Job) → d
     → flat_map (λ j. rule_of_job j.0 j.1.action (selection catalog j.1.choice)) (enumerate_from i (drop i jobs))
     ≡ rule_of_job i job.action (selection catalog job.choice) ++ flat_map (λ j. rule_of_job j.0 j.1.action (selection catalog j.1.choice)) (enumerate_from (i + 1) (drop (i + 1) jobs))
 job_turn catalog jobs i job at = ap (λ js. flat_map (λ j. rule_of_job j.0 j.1.action (selection catalog j.1.choice)) (enumerate_from i js)) at
-
-pub all_turn : {X : Type 0} (f : X → Bool) (x : X) (xs ys : List X) → ys ≡ x ∷ xs → list_all f ys ≡ true → list_all f xs ≡ true
-all_turn f x xs ys at h = right (f x) (list_all f xs) (ap (λ t. list_all f t) (sym at) ∙ h)
-
-pub this_turn : {X : Type 0} (xs : List X) (i : ℕ) (x : X) → i < length xs → x ≡ get_or xs i x → drop i xs ≡ x ∷ drop (i + 1) xs
-this_turn xs i x within is = drop_more xs i x within ∙ ap (λ y. y ∷ drop (i + 1) xs) (sym is)
 
 pub unchanged_put : (made : List HardRule) (old new : Rules) → new.list ≡ old.list → new.sets ≡ old.sets → HasPut false made old new
 unchanged_put made old new list sets = put_refused made made old new (only_sets made old new [] list (sets ∙ sym (append-nil old.sets)))

@@ -1,5 +1,5 @@
 -- Tables of packages after jobs were written into them.
-use Rattle.std.proofs.Common.{◌≡◌, ◌<◌, ◌≤◌, ◌+◌, ℕ, zero, suc, ℤ, pos, Bool, true, false, cond, ◌&&◌, ◌||◌, List, [], ◌∷◌, map, length, refl, sym, ap, ◌∙◌, arith, add-one}
+use Rattle.std.proofs.Common.{◌≡◌, ◌<◌, ◌≤◌, ◌+◌, ℕ, zero, suc, ℤ, pos, Bool, true, false, ◌&&◌, ◌||◌, List, [], ◌∷◌, map, length, refl, sym, ap, ◌∙◌, arith, add-one}
 use Rattle.std.specs.Prelude.{filter, fold, replicate, slice_set, ◌==◌, nat_lt, if◌then◌else◌}
 use Rattle.std.specs.List.{list_any, list_all, range_with_len}
 use Rattle.std.specs.Option.{option_map_or}
@@ -16,16 +16,13 @@ use Rattle.solv_pool.specs.declared.jobs.Action.{Action}
 use Rattle.solv_pool.specs.declared.jobs.Action.TheVariants.{Install, Erase, Update, Lock, Verify, Multiversion, AllowUninstall, Favor, Disfavor, Noop}
 use Rattle.solv_jobs.specs.declared.marking.Mark.{Mark}
 use Rattle.solv_jobs.specs.declared.marking.Mark.TheVariants as mark
-use Rattle.solv_jobs.specs.Marking.{with_values, with_jobs, with_favours, favour_given, makes, may_bear, bears, HasMarks}
+use Rattle.solv_jobs.specs.Inner.Marking.{with_values, with_jobs, with_favours, favour_given, makes, may_bear, bears}
+use Rattle.solv_jobs.specs.Marking.{HasMarks}
 use Rattle.solv_jobs.proofs.Choices.{selection_within}
-
-left : (a b : Bool) → (a && b) ≡ true → a ≡ true
-left true b h = refl
-left false b h = h
-
-right : (a b : Bool) → (a && b) ≡ true → b ≡ true
-right true b h = h
-right false b h = cc
+use Rattle.solv_list.proofs.Booleans.{first_of_both, second_of_both}
+use Rattle.solv_list.proofs.Lists.{all_filter}
+use Rattle.solv_pool.proofs.Among.{among_filter}
+use Rattle.solv_prov.proofs.Obsoleting.{among_range}
 
 -- the same value for each number of a range
 map_within : {T : Type 0} (f g : ℕ → T) (start count : ℕ) → ((q : ℕ) → start ≤ q → q < start + count → f q ≡ g q) → map f (range_with_len start count) ≡ map g (range_with_len start count)
@@ -64,33 +61,11 @@ module _ {T : Type 0} (x : T) where
       → with_values x ps (a ∷ map f (range_with_len 1 count)) ≡ a ∷ map (λ q. if is_among ps q then x else f q) (range_with_len 1 count)
   values_in_table a f count [] h = refl
   values_in_table a f count (p ∷ ps) h =
-      let some : nat_lt 0 p ≡ true = left (nat_lt 0 p) _ (left (is_pack count p) _ h) in
+      let some : nat_lt 0 p ≡ true = first_of_both (nat_lt 0 p) _ (first_of_both (is_pack count p) _ h) in
       let above : 0 < p = grind (arith, nat_tests, some) in
       ap (λ t. with_values x ps t) (set_package a f count p above)
-      ∙ values_in_table a (λ q. if p == q then x else f q) count ps (right (is_pack count p) _ h)
+      ∙ values_in_table a (λ q. if p == q then x else f q) count ps (second_of_both (is_pack count p) _ h)
       ∙ ap (λ t. a ∷ t) (map_within (λ q. if is_among ps q then x else (if p == q then x else f q)) (λ q. if is_among (p ∷ ps) q then x else f q) 1 count (λ q from upto. choose p q ps (f q)))
-
-pub among_filter : (f : ℕ → Bool) (xs : List ℕ) (q : ℕ) → is_among (filter f xs) q ≡ (is_among xs q && f q)
-among_filter f [] q = refl
-among_filter f (x ∷ xs) q = step (f x) (x == q) refl refl (among_filter f xs q)
-  where
-    no_more : (a : Bool) → (a && false) ≡ false
-    no_more true = refl
-    no_more false = refl
-
-    step : (b c : Bool) → f x ≡ b → (x == q) ≡ c → is_among (filter f xs) q ≡ (is_among xs q && f q) → is_among (cond b (x ∷ filter f xs) (filter f xs)) q ≡ ((c || is_among xs q) && f q)
-    step true true is same h = let e : x ≡ q = grind (arith, nat_tests, same) in rw (same, ← e, is) refl
-    step true false is same h = rw same h
-    step false true is same h = let e : x ≡ q = grind (arith, nat_tests, same) in let out : f q ≡ false = rw e at is in h ∙ rw out (no_more (is_among xs q))
-    step false false is same h = h
-
-pub among_range : (start count q : ℕ) → start ≤ q → q < start + count → is_among (range_with_len start count) q ≡ true
-among_range start zero q from upto = absurd (omega (arith, from, upto))
-among_range start (suc count) q from upto = step (start == q) refl (λ later. among_range (suc start) count q later (omega (arith, upto)))
-  where
-    step : (b : Bool) → (start == q) ≡ b → (suc start ≤ q → is_among (range_with_len (suc start) count) q ≡ true) → (b || is_among (range_with_len (start + 1) count) q) ≡ true
-    step true is h = refl
-    step false is h = rw add-one (h (grind (arith, nat_tests, is, from)))
 
 -- in the range of packages, what is among a selection is what is selected
 among_selection : (catalog : Catalog) (j : Job) (q : ℕ) → 1 ≤ q → q < 1 + length catalog.universe.packages → is_among (selection catalog j.choice) q ≡ selects catalog j.choice q
@@ -100,14 +75,6 @@ among_selection catalog j q from upto =
 among_bearers : (catalog : Catalog) (m : Mark) (j : Job) (q : ℕ) → 1 ≤ q → q < 1 + length catalog.universe.packages
     → is_among (filter (may_bear catalog m) (selection catalog j.choice)) q ≡ (selects catalog j.choice q && may_bear catalog m q)
 among_bearers catalog m j q from upto = among_filter (may_bear catalog m) (selection catalog j.choice) q ∙ rw (among_selection catalog j q from upto) refl
-
-all_filter : (f g : ℕ → Bool) (xs : List ℕ) → list_all f xs ≡ true → list_all f (filter g xs) ≡ true
-all_filter f g [] h = refl
-all_filter f g (x ∷ xs) h = step (g x) (left (f x) _ h) (all_filter f g xs (right (f x) _ h))
-  where
-    step : (b : Bool) → f x ≡ true → list_all f (filter g xs) ≡ true → list_all f (cond b (x ∷ filter g xs) (filter g xs)) ≡ true
-    step true here more = rw here more
-    step false here more = more
 
 module _ (catalog : Catalog) (m : Mark) where
   -- p was marked, or may be and is by one of these jobs

@@ -4,7 +4,7 @@
 //! - [`read_marks`]: what all jobs say of each package.
 //! - [`job_rules`]: the rules of install, erase and lock jobs, put behind others.
 //!
-//! The meaning of each stands in `solv_pool`'s `Selections`, `JobMarks` and `HardRules`. `specs/Putting` says what it is
+//! The meaning of each stands in `solv_pool`'s `Selections`, `JobMarks` and `HardRules`. `specs/Inner/Putting` says what it is
 //! to put rules behind others; the layers above put theirs in the same words.
 #![tactic(auto)]
 

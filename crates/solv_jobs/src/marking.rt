@@ -6,7 +6,8 @@ ghost use Rattle.solv_pool.specs.Selections.{selection};
 ghost use Rattle.solv_pool.specs.JobMarks.{mark_each, favour_of, marks_of};
 ghost use Rattle.solv_pool.specs.TaskBelonging.{IsClosed, choice_fits, is_pack};
 ghost use Rattle.solv_prov.specs.Index.{IsIndexOf};
-ghost use Rattle.solv_jobs.specs.Marking.{with_values, with_job, with_favour, favour_given, makes, is_of_installed, may_bear, bears, HasMarks};
+ghost use Rattle.solv_jobs.specs.Inner.Marking.{with_values, with_job, with_favour, favour_given, makes, is_of_installed, may_bear, bears};
+ghost use Rattle.solv_jobs.specs.Marking.{HasMarks};
 
 use crate::selecting::selected;
 use solv_list::Items;

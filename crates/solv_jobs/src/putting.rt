@@ -1,6 +1,6 @@
 //! Rules put behind others.
 ghost use Rattle.std.specs.Prelude.{◌≡◌, ◌∷◌, [], Some, None, length, is_ok, List};
-ghost use Rattle.solv_jobs.specs.Putting.{set_number, over_set, HasPut, PutsFollow};
+ghost use Rattle.solv_jobs.specs.Inner.Putting.{set_number, over_set, HasPut, PutsFollow};
 ghost use Rattle.solv_pool.specs.RuleMeaning.{HardRule};
 
 use solv_list::Items;

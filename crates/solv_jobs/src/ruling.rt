@@ -6,8 +6,8 @@ ghost use Rattle.solv_pool.specs.HardRules.{job_rules, rule_of_job};
 ghost use Rattle.solv_pool.specs.Selections.{selection};
 ghost use Rattle.solv_pool.specs.TaskBelonging.{IsClosed, choice_fits};
 ghost use Rattle.solv_prov.specs.Index.{IsIndexOf};
-ghost use Rattle.solv_jobs.specs.Putting.{HasPut};
-ghost use Rattle.solv_jobs.specs.Ruling.{rule_over};
+ghost use Rattle.solv_jobs.specs.Inner.Putting.{HasPut};
+ghost use Rattle.solv_jobs.specs.Inner.Ruling.{rule_over};
 
 use crate::putting::put_with_set;
 use crate::selecting::selected;

@@ -2,26 +2,20 @@
 use Rattle.std.proofs.Common.{◌≡◌, ℕ, ◌<◌, ◌≤◌, Bool, true, false, not, ◌&&◌, ◌||◌, List, [], ◌∷◌, ◌++◌, length, take, map, min, ◌⊎◌, inl, inr, refl, sym, ap, ◌∙◌, arith, ◌+◌, eqb, eq-eqb}
 use Rattle.std.specs.Prelude.{ℤ, neg_ℤ, nat_lt}
 use Rattle.std.specs.Ordering.{int_eq}
-use Rattle.std.proofs.lemmas.Bool.{or_left, or_right, or_cases, or_parts, and_parts, and_from, cases_Bool, cases_lt, false≢true, lt-ltb, ltb-true}
+use Rattle.std.proofs.lemmas.Bool.{or_left, or_right, or_cases, or_parts, and_parts, and_from, cases_Bool, cases_lt, false≢true, lt-ltb, ltb-true, false_from_ne_true}
 use Rattle.std.proofs.lemmas.List.{map-append, take-take}
 use Rattle.std.proofs.lemmas.List.Folds.{list_any-append}
 use Rattle.solv_pool.specs.Propagation.{is_fact, is_refuted}
-use Rattle.solv_derive.proofs.Facts.{same, same_self, known_later, known_same, known_cases, neg-neg}
-use Rattle.solv_trail.specs.Derivation.{IsConsistent}
+use Rattle.solv_derive.proofs.Facts.{same_self, known_later, known_same, known_cases, neg-neg}
+use Rattle.solv_trail.specs.Inner.Derivation.{IsConsistent}
 use Rattle.solv_trail.proofs.Walk.{take_known}
-use Rattle.solv_learn.specs.Collecting.{IsCollected, HasMarked, HavePlaces, is_plain}
-
-not_true : (b : Bool) → (b ≡ true → ⊥) → b ≡ false
-not_true true h = absurd (h refl)
-not_true false h = refl
+use Rattle.solv_learn.specs.Inner.Collecting.{IsCollected, HasMarked, HavePlaces}
+use Rattle.solv_learn.specs.Collecting.{is_plain}
+use Rattle.solv_list.proofs.Booleans.{neither as of_neither}
+use Rattle.solv_list.proofs.Numbers.{same_integer}
 
 neither : (a b : Bool) → a ≡ false → b ≡ false → (not a && not b) ≡ true
 neither a b e f = rw (e, f) refl
-
-of_neither : (a b : Bool) → (not a && not b) ≡ true → (a ≡ false) × (b ≡ false)
-of_neither true b h = absurd (false≢true h)
-of_neither false true h = absurd (false≢true h)
-of_neither false false h = (refl, refl)
 
 in_both : (A B : List ℤ) (l : ℤ) → is_fact (A ++ B) l ≡ true → (is_fact A l ≡ true) ⊎ (is_fact B l ≡ true)
 in_both A B l h = or_cases (is_fact A l) (is_fact B l) (sym (list_any-append (int_eq l) A B) ∙ h)
@@ -51,11 +45,11 @@ plain_push (l ∷ ls) y p h k =
     let apart = of_neither (is_fact ls l) (is_refuted ls l) parts.0 in
     let there = or_parts (int_eq y l) (is_fact ls y) h in
     let turned = or_parts (int_eq (neg_ℤ y) l) (is_refuted ls y) k in
-    let same_not : is_fact (ls ++ y ∷ []) l ≡ false = not_true (is_fact (ls ++ y ∷ []) l) (λ t. elim (in_both ls (y ∷ []) l t) [
+    let same_not : is_fact (ls ++ y ∷ []) l ≡ false = false_from_ne_true (is_fact (ls ++ y ∷ []) l) (λ t. elim (in_both ls (y ∷ []) l t) [
       | inl a ↦ false≢true (sym apart.0 ∙ a)
       | inr b ↦ false≢true (sym there.0 ∙ ap (λ v. int_eq v l) (sym (one_of y l b)) ∙ same_self l)
     ]) in
-    let neg_not : is_refuted (ls ++ y ∷ []) l ≡ false = not_true (is_refuted (ls ++ y ∷ []) l) (λ t. elim (in_both ls (y ∷ []) (neg_ℤ l) t) [
+    let neg_not : is_refuted (ls ++ y ∷ []) l ≡ false = false_from_ne_true (is_refuted (ls ++ y ∷ []) l) (λ t. elim (in_both ls (y ∷ []) (neg_ℤ l) t) [
       | inl a ↦ false≢true (sym apart.1 ∙ a)
       | inr b ↦ false≢true (sym turned.0 ∙ ap (λ v. int_eq (neg_ℤ v) l) (sym (one_of y (neg_ℤ l) b)) ∙ ap (λ v. int_eq v l) (neg-neg l) ∙ same_self l)
     ]) in
@@ -88,7 +82,7 @@ module _ (T : List ℤ) (x : ℤ) (Q new : ℤ → Bool) (p : ℕ) (added : IsAd
   grows l q = added.is l ∙ or_right (int_eq l x) (Q l) q
 
   came : (l : ℤ) → new l ≡ true → (l ≡ x) ⊎ (Q l ≡ true)
-  came l n = elim (or_cases (int_eq l x) (Q l) (sym (added.is l) ∙ n)) [ inl e ↦ inl (same l x e) | inr q ↦ inr q ]
+  came l n = elim (or_cases (int_eq l x) (Q l) (sym (added.is l) ∙ n)) [ inl e ↦ inl (same_integer l x e) | inr q ↦ inr q ]
 
   here : new x ≡ true
   here = added.is x ∙ or_left (int_eq x x) (Q x) (same_self x)
@@ -100,10 +94,10 @@ module _ (T : List ℤ) (x : ℤ) (Q new : ℤ → Bool) (p : ℕ) (added : IsAd
   known_below e h = added.before e ∙ lt-ltb p e h
 
   unknown_above : (e : ℕ) → e ≤ p → is_fact (take e T) x ≡ false
-  unknown_above e h = not_true (is_fact (take e T) x) (λ t. let less : p < e = ltb-true p e (sym (added.before e) ∙ t) in omega arith)
+  unknown_above e h = false_from_ne_true (is_fact (take e T) x) (λ t. let less : p < e = ltb-true p e (sym (added.before e) ∙ t) in omega arith)
 
   fewer : (l : ℤ) (d e : ℕ) → d ≤ e → is_fact (take e T) l ≡ false → is_fact (take d T) l ≡ false
-  fewer l d e h f = not_true (is_fact (take d T) l) (λ t.
+  fewer l d e h f = false_from_ne_true (is_fact (take d T) l) (λ t.
       let same_take : take d (take e T) ≡ take d T = take-take d e T h in
       let up : is_fact (take d (take e T)) l ≡ true = ap (λ v. is_fact v l) same_take ∙ t in
       false≢true (sym f ∙ take_known (take e T) d l up))
@@ -157,8 +151,8 @@ module _ (T : List ℤ) (x : ℤ) (Q new : ℤ → Bool) (p : ℕ) (added : IsAd
                 (ap new s ∙ here, ap (is_fact (take last T)) s ∙ known_below last high, ap (is_fact (take first T)) s ∙ unknown_above first low)
           ];
           plain = plain_push L y c.plain
-              (not_true (is_fact L y) (λ t. false≢true (sym added.was ∙ (c.only x (ap (is_fact (map neg_ℤ L)) (sym turned) ∙ negated L y t)).0)))
-              (not_true (is_refuted L y) (λ t.
+              (false_from_ne_true (is_fact L y) (λ t. false≢true (sym added.was ∙ (c.only x (ap (is_fact (map neg_ℤ L)) (sym turned) ∙ negated L y t)).0)))
+              (false_from_ne_true (is_refuted L y) (λ t.
               let in_t : is_fact T y ≡ true = c.inside y (c.only y (ap (is_fact (map neg_ℤ L)) (sym (neg-neg y)) ∙ negated L (neg_ℤ y) t)).0 in
               added.apart.apart y in_t (ap (is_fact T) turned ∙ added.there)));
         }

@@ -2,17 +2,13 @@
 use Rattle.std.proofs.Common.{◌≡◌, ℕ, zero, suc, ◌+◌, ◌-◌, ◌*◌, ◌/◌, ◌%◌, ◌^◌, ◌<◌, ◌≤◌, Bool, true, false, ◌&&◌, List, length, get_or, set, eqb, inl, inr, refl, sym, ap, ◌∙◌, arith, min, max, w64, get_or-set_same, get_or-set_other}
 use Rattle.std.specs.Prelude.{bit_and, bit_or, nat_lt, None, Some}
 use Rattle.std.specs.Int.{bit_at, leading_zeros}
-use Rattle.std.proofs.lemmas.Bool.{cases_lt, false≢true, lt-ltb, ltb-true}
+use Rattle.std.proofs.lemmas.Bool.{cases_lt, false≢true, lt-ltb, ltb-true, false_from_ne_true}
 use Rattle.std.proofs.Math.Nat.{pow-suc}
 use Rattle.std.proofs.lemmas.Nat.{leading_top, one_shl, or_shifted}
 use Rattle.std.proofs.lemmas.Nat.Bits.{bit_at_and, bit_at_or, bit_at-lt, bit_at-zero, bit_at_above, bit_at_ones, bit_at_ones_above, bit_at-pow_same}
-use Rattle.solv_trail.specs.Numbers.{has}
+use Rattle.solv_trail.specs.Inner.Numbers.{has}
 use Rattle.solv_trail.proofs.Bits.{has_in, has_at, has_is, has_past}
-use Rattle.solv_learn.specs.Places.{IsLast}
-
-not_true : (b : Bool) → (b ≡ true → ⊥) → b ≡ false
-not_true true h = absurd (h refl)
-not_true false h = refl
+use Rattle.solv_learn.specs.Inner.Places.{IsLast}
 
 kept_bit : (x : ℕ) → x < 2 → eqb (min x 1) 1 ≡ (eqb x 1 && true)
 kept_bit zero h = refl
@@ -33,7 +29,7 @@ lower_bit word e i within =
     ap (λ n. eqb n 1) is ∙ elim (cases_lt i e) [
       | inl low ↦ ap (λ n. eqb (min (bit_at word i) n) 1) (bit_at_ones e i low) ∙ kept_bit (bit_at word i) (bit_at-lt word i) ∙ ap (λ b. eqb (bit_at word i) 1 && b) (sym (lt-ltb i e low))
       | inr high ↦
-          let off : nat_lt i e ≡ false = not_true (nat_lt i e) (λ t. let less = ltb-true i e t in omega arith) in
+          let off : nat_lt i e ≡ false = false_from_ne_true (nat_lt i e) (λ t. let less = ltb-true i e t in omega arith) in
           ap (λ n. eqb (min (bit_at word i) n) 1) (bit_at_ones_above e i high) ∙ lost_bit (bit_at word i) (bit_at-lt word i) ∙ ap (λ b. eqb (bit_at word i) 1 && b) (sym off)
     ]
 
@@ -46,7 +42,7 @@ below_top word as_well top i same h = ap (λ b. eqb (bit_at word i) 1 && b) (lt-
 
 pub above_top : (word top i : ℕ) → top ≤ i → (eqb (bit_at word i) 1 && nat_lt i top) ≡ false
 above_top word top i h =
-    let off : nat_lt i top ≡ false = not_true (nat_lt i top) (λ t. let less = ltb-true i top t in omega arith) in
+    let off : nat_lt i top ≡ false = false_from_ne_true (nat_lt i top) (λ t. let less = ltb-true i top t in omega arith) in
     ap (λ b. eqb (bit_at word i) 1 && b) off ∙ never (eqb (bit_at word i) 1)
   where
     never : (b : Bool) → (b && false) ≡ false

@@ -3,30 +3,28 @@ use Rattle.std.proofs.Common.{◌≡◌, ℕ, zero, suc, ◌+◌, ◌-◌, ◌<�
 use Rattle.std.specs.Prelude.{ℤ, pos, neg_ℤ, nat_lt, reverse, slice_get}
 use Rattle.std.specs.List.{list_all}
 use Rattle.std.specs.Ordering.{int_eq}
-use Rattle.std.proofs.lemmas.Bool.{and_parts, and_from, cases_Bool, cases_lt, false≢true, ltb-true, lt-ltb}
+use Rattle.std.proofs.lemmas.Bool.{and_parts, and_from, cases_Bool, cases_lt, false≢true, ltb-true, lt-ltb, false_from_ne_true}
 use Rattle.std.proofs.lemmas.List.{reverse-append, take_all, take-take}
 use Rattle.std.proofs.lemmas.List.Folds.{list_all-append}
 use Rattle.solv_pool.specs.Propagation.{is_fact, is_refuted, is_open}
 use Rattle.solv_derive.specs.Forced.{is_falsified}
 use Rattle.solv_derive.specs.Range.{names_package, is_over}
 use Rattle.solv_derive.specs.declared.logs.Hint.{Hint}
-use Rattle.solv_derive.proofs.Facts.{same, known_here, known_later, known_same, known_cases, neg-neg, all_from, all_member, open_from}
+use Rattle.solv_derive.proofs.Facts.{known_here, known_later, known_same, known_cases, neg-neg, all_from, all_member, open_from}
 use Rattle.solv_derive.proofs.Tables.{names_neg}
-use Rattle.solv_trail.specs.Derivation.{Within, IsConsistent, IsQuiet}
-use Rattle.solv_trail.specs.Held.{Held}
+use Rattle.solv_trail.specs.Inner.Derivation.{Within, IsConsistent, IsQuiet}
+use Rattle.solv_trail.specs.Inner.Held.{Held}
 use Rattle.solv_trail.specs.Walk.{asserts}
-use Rattle.solv_trail.proofs.Unit.{two_open_quiet}
-use Rattle.solv_trail.proofs.Walk.{take_known, known_at, known_next, known_last}
-use Rattle.solv_learn.specs.Collecting.{IsCollected, is_plain}
-use Rattle.solv_learn.specs.Learning.{IsRefuted, IsLearnt}
-use Rattle.solv_learn.specs.Refuting.{Refutes, Finds, hint_for, is_in_use}
+use Rattle.solv_trail.proofs.Unit.{two_open_quiet, known_next}
+use Rattle.solv_trail.proofs.Walk.{take_known, known_at, known_last}
+use Rattle.solv_learn.specs.Inner.Collecting.{IsCollected}
+use Rattle.solv_learn.specs.Collecting.{is_plain}
+use Rattle.solv_learn.specs.Inner.Learning.{IsRefuted, IsLearnt}
+use Rattle.solv_learn.specs.Inner.Refuting.{Refutes, Finds, hint_for, is_in_use}
 use Rattle.solv_learn.proofs.Collected.{negated}
 use Rattle.solv_learn.proofs.Steps.{hints_used}
 use Rattle.solv_learn.proofs.Refuting.{refutes_jump, refutes_end}
-
-not_true : (b : Bool) → (b ≡ true → ⊥) → b ≡ false
-not_true true h = absurd (h refl)
-not_true false h = refl
+use Rattle.solv_list.proofs.Numbers.{same_integer}
 
 pub all_reverse : (p : Hint → Bool) (H : List Hint) → list_all p H ≡ true → list_all p (reverse H) ≡ true
 all_reverse p [] h = h
@@ -71,7 +69,7 @@ without_shorter x (y ∷ ys) h = elim (cases_Bool (int_eq x y)) [
 without_other : (x z : ℤ) (T : List ℤ) → is_fact T z ≡ true → (z ≡ x → ⊥) → is_fact (without x T) z ≡ true
 without_other x z [] h n = h
 without_other x z (y ∷ ys) h n = elim (cases_Bool (int_eq x y)) [
-  | inl e ↦ rw e (elim (known_cases y z ys h) [ inl s ↦ absurd (n (s ∙ sym (same x y e))) | inr r ↦ r ])
+  | inl e ↦ rw e (elim (known_cases y z ys h) [ inl s ↦ absurd (n (s ∙ sym (same_integer x y e))) | inr r ↦ r ])
   | inr f ↦ rw f (elim (known_cases y z ys h) [ inl s ↦ known_same y z (without x ys) s | inr r ↦ known_later y z (without x ys) (without_other x z ys r n) ])
 ]
 
@@ -111,7 +109,7 @@ module _ (T : List ℤ) (apart : IsConsistent T) (first last low : ℕ) (order :
   there = ap (is_fact T) is ∙ known_at T low within
 
   unknown_to : (e : ℕ) → e ≤ low → is_fact (take e T) u ≡ false
-  unknown_to e h = not_true (is_fact (take e T) u) (λ t. let less : low < e = ltb-true low e (sym (before e) ∙ t) in omega arith)
+  unknown_to e h = false_from_ne_true (is_fact (take e T) u) (λ t. let less : low < e = ltb-true low e (sym (before e) ∙ t) in omega arith)
 
   abbrev learnt : List ℤ
   learnt = neg_ℤ u ∷ L
@@ -133,7 +131,7 @@ module _ (T : List ℤ) (apart : IsConsistent T) (first last low : ℕ) (order :
   ]
 
   pub loose : (k : ℕ) → k < first → is_fact (map neg_ℤ learnt) (get_or T k (pos 0)) ≡ false
-  loose k h = not_true (is_fact (map neg_ℤ learnt) (get_or T k (pos 0))) (λ t.
+  loose k h = false_from_ne_true (is_fact (map neg_ℤ learnt) (get_or T k (pos 0))) (λ t.
       let small : k < length T = let w = late in omega arith in
       let here : is_fact (take (suc k) T) (get_or T k (pos 0)) ≡ true = known_last T k small in
       let up : is_fact (take first T) (get_or T k (pos 0)) ≡ true = take_known (take first T) (suc k) (get_or T k (pos 0)) (ap (λ v. is_fact v (get_or T k (pos 0))) (take-take (suc k) first T (omega arith)) ∙ here) in
@@ -173,13 +171,13 @@ module _ (T : List ℤ) (apart : IsConsistent T) (first last low : ℕ) (order :
   rest_in m k = col.inside (neg_ℤ m) (col.only (neg_ℤ m) (negated L m k)).0
 
   not_in_rest : is_fact L (neg_ℤ u) ≡ false
-  not_in_rest = not_true (is_fact L (neg_ℤ u)) (λ t.
+  not_in_rest = false_from_ne_true (is_fact L (neg_ℤ u)) (λ t.
       let k : is_fact (map neg_ℤ L) u ≡ true = ap (is_fact (map neg_ℤ L)) (sym back) ∙ negated L (neg_ℤ u) t in
       false≢true (sym (unknown_to last late) ∙ (col.only u k).1))
 
   pub plain_is : is_plain learnt ≡ true
   plain_is =
-      let turned_not : is_refuted L (neg_ℤ u) ≡ false = not_true (is_refuted L (neg_ℤ u)) (λ t.
+      let turned_not : is_refuted L (neg_ℤ u) ≡ false = false_from_ne_true (is_refuted L (neg_ℤ u)) (λ t.
       let k : is_fact L u ≡ true = ap (is_fact L) (sym back) ∙ t in
       apart.apart u there (rest_in u k)) in
       and_from (not (is_fact L (neg_ℤ u)) && not (is_refuted L (neg_ℤ u))) (is_plain L) (both (is_fact L (neg_ℤ u)) (is_refuted L (neg_ℤ u)) not_in_rest turned_not) col.plain
@@ -199,7 +197,7 @@ module _ (T : List ℤ) (apart : IsConsistent T) (first last low : ℕ) (order :
   -- where u is not yet known it is open, and so is its negation
   open_at : (e : ℕ) → e ≤ low → is_open (take e T) (neg_ℤ u) ≡ true
   open_at e h = open_from (take e T) (neg_ℤ u)
-      (not_true (is_fact (take e T) (neg_ℤ u)) (λ t. apart.apart u there (take_known T e (neg_ℤ u) t)))
+      (false_from_ne_true (is_fact (take e T) (neg_ℤ u)) (λ t. apart.apart u there (take_known T e (neg_ℤ u) t)))
       (ap (is_fact (take e T)) back ∙ unknown_to e h)
 
   pub asserts_at : (e : ℕ) → e ≤ low → ((m : ℤ) → is_fact L m ≡ true → is_refuted (take e T) m ≡ true) → asserts (take e T) learnt ≡ true
@@ -208,7 +206,7 @@ module _ (T : List ℤ) (apart : IsConsistent T) (first last low : ℕ) (order :
   pub quiet_at : (e : ℕ) → e ≤ low → (m : ℤ) → is_fact L m ≡ true → is_refuted (take e T) m ≡ false → IsQuiet (take e T) learnt
   quiet_at e h m k f = two_open_quiet (take e T) learnt (neg_ℤ u) m (known_here (neg_ℤ u) L) (known_later (neg_ℤ u) m L k)
       (λ s. false≢true (sym not_in_rest ∙ ap (is_fact L) s ∙ k)) (open_at e h)
-      (open_from (take e T) m (not_true (is_fact (take e T) m) (λ t. apart.apart m (take_known T e m t) (rest_in m k))) f)
+      (open_from (take e T) m (false_from_ne_true (is_fact (take e T) m) (λ t. apart.apart m (take_known T e m t) (rest_in m k))) f)
 
 -- and what is learnt
 pub learnt_is : (rules : List (List ℤ)) (used : ℕ → Bool) (count base : ℕ) (held : Held) (first last low : ℕ) (Q R : ℤ → Bool) (L : List ℤ) (u : ℤ) (H G : List Hint) (level : ℕ)

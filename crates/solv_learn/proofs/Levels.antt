@@ -1,7 +1,7 @@
 -- The greatest place of what refutes the literals of a clause.
-use Rattle.std.proofs.Common.{◌≡◌, ℕ, ◌+◌, ◌<◌, ◌≤◌, Bool, true, false, List, [], ◌∷◌, ◌++◌, length, take, get_or, inl, inr, refl, sym, ap, ◌∙◌, arith, max}
+use Rattle.std.proofs.Common.{◌≡◌, ℕ, ◌+◌, ◌<◌, ◌≤◌, true, false, List, [], ◌∷◌, ◌++◌, length, take, get_or, inl, inr, refl, sym, ap, ◌∙◌, arith, max}
 use Rattle.std.specs.Prelude.{ℤ, pos, neg_ℤ, nat_lt}
-use Rattle.std.proofs.lemmas.Bool.{cases_lt, false≢true, lt-ltb, ltb-true}
+use Rattle.std.proofs.lemmas.Bool.{cases_lt, false≢true, lt-ltb, ltb-true, false_from_ne_true}
 use Rattle.std.proofs.lemmas.List.{take_more}
 use Rattle.solv_pool.specs.Propagation.{is_fact, is_refuted}
 use Rattle.solv_trail.proofs.Walk.{known_at}
@@ -19,10 +19,6 @@ pub record IsHighest (T clause : List ℤ) (i h : ℕ) : Type 0 where
 pub highest_none : (T clause : List ℤ) → IsHighest T clause 0 0
 highest_none T clause = record { upper = λ x k. absurd (false≢true k); start = λ e. refl; reached = λ h. absurd (omega arith) }
 
-not_true : (b : Bool) → (b ≡ true → ⊥) → b ≡ false
-not_true true h = absurd (h refl)
-not_true false h = refl
-
 pub highest_next : (T clause : List ℤ) (i h p : ℕ) → i < length clause → ((e : ℕ) → is_fact (take e T) (neg_ℤ (get_or clause i (pos 0))) ≡ nat_lt p e) → IsHighest T clause i h → IsHighest T clause (i + 1) (max p h)
 highest_next T clause i h p small before so_far =
     let x : ℤ = get_or clause i (pos 0) in
@@ -34,11 +30,11 @@ highest_next T clause i h p small before so_far =
       ];
       start = λ none. absurd (omega arith);
       reached = λ some. elim (cases_lt h p) [
-        | inl more ↦ (x, (known_at clause i small, λ f under. not_true (is_refuted (take f T) x) (λ t. let less : p < f = ltb-true p f (sym (before f) ∙ t) in omega arith)))
+        | inl more ↦ (x, (known_at clause i small, λ f under. false_from_ne_true (is_refuted (take f T) x) (λ t. let less : p < f = ltb-true p f (sym (before f) ∙ t) in omega arith)))
         | inr less ↦ elim (cases_lt 0 i) [
           | inl a ↦ let r = so_far.reached a in (r.0, (r.1.0, λ f under. r.1.1 f (omega arith)))
           | inr none ↦
-              (x, (known_at clause i small, λ f under. not_true (is_refuted (take f T) x) (λ t. let below : p < f = ltb-true p f (sym (before f) ∙ t) in let zero : h ≡ 0 = so_far.start (omega arith) in omega arith)))
+              (x, (known_at clause i small, λ f under. false_from_ne_true (is_refuted (take f T) x) (λ t. let below : p < f = ltb-true p f (sym (before f) ∙ t) in let zero : h ≡ 0 = so_far.start (omega arith) in omega arith)))
         ]
       ];
     }

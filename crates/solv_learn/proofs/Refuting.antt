@@ -1,29 +1,19 @@
 -- Going back over the trail from a false clause gives a good step.
-use Rattle.std.proofs.Common.{◌≡◌, ℕ, zero, suc, ◌<◌, ◌≤◌, Bool, true, false, not, ◌&&◌, ◌||◌, List, [], ◌∷◌, length, take, get_or, map, filter, Option, Some, None, ◌⊎◌, inl, inr, refl, sym, ap, ◌∙◌, arith}
+use Rattle.std.proofs.Common.{◌≡◌, ℕ, zero, suc, ◌<◌, ◌≤◌, Bool, true, false, ◌||◌, List, [], ◌∷◌, length, take, get_or, map, filter, Option, Some, None, ◌⊎◌, inl, inr, refl, sym, ap, ◌∙◌, arith}
 use Rattle.std.specs.Prelude.{ℤ, pos, neg_ℤ, nat_lt}
 use Rattle.std.specs.Ordering.{int_eq}
-use Rattle.std.proofs.lemmas.Bool.{false≢true, cases_Bool, cases_lt, lt-ltb, ltb-true}
+use Rattle.std.proofs.lemmas.Bool.{false≢true, cases_Bool, cases_lt, lt-ltb, ltb-true, false_from_ne_true}
 use Rattle.std.proofs.lemmas.List.{take_all}
 use Rattle.solv_pool.specs.Propagation.{is_fact, is_refuted, is_open}
 use Rattle.solv_derive.specs.Forced.{is_satisfied, is_falsified, forced}
 use Rattle.solv_derive.specs.Logs.{ends_in_conflict}
 use Rattle.solv_derive.specs.declared.logs.Hint.{Hint}
 use Rattle.solv_derive.proofs.Facts.{known_later, known_same, known_cases, all_from, none_from, filter_same, Forces, forces_from, forced_from, forced_member, forced_others, open_parts, open_from}
-use Rattle.solv_trail.specs.Derivation.{Within, IsConsistent}
-use Rattle.solv_trail.proofs.Walk.{take_known, known_at, known_next, known_up, known_last}
-use Rattle.solv_learn.specs.Collecting.{HavePlaces}
-use Rattle.solv_learn.specs.Refuting.{Refutes}
-
-not_true : (b : Bool) → (b ≡ true → ⊥) → b ≡ false
-not_true true h = absurd (h refl)
-not_true false h = refl
-
-closed : (B : List ℤ) (m : ℤ) → is_refuted B m ≡ true → is_open B m ≡ false
-closed B m g = not_both (is_fact B m) (is_refuted B m) g
-  where
-    not_both : (a b : Bool) → b ≡ true → (not a && not b) ≡ false
-    not_both true b h = refl
-    not_both false b h = rw h refl
+use Rattle.solv_trail.specs.Inner.Derivation.{Within, IsConsistent}
+use Rattle.solv_trail.proofs.Walk.{take_known, known_at, known_up, known_last}
+use Rattle.solv_learn.specs.Inner.Collecting.{HavePlaces}
+use Rattle.solv_learn.specs.Inner.Refuting.{Refutes}
+use Rattle.solv_trail.proofs.Unit.{known_next, not_open}
 
 -- a clause forces the same from other facts that have its other literals false and x open
 pub forced_agree : (K A r : List ℤ) (x : ℤ) → forced K r ≡ Some x → ((m : ℤ) → is_fact r m ≡ true → (m ≡ x) ⊎ ((is_refuted A m ≡ true) × (is_fact A m ≡ false))) → is_fact A x ≡ false → is_refuted A x ≡ false → forced A r ≡ Some x
@@ -37,7 +27,7 @@ forced_agree K A r x h others unknown f =
       | inl e ↦ ap (is_open A) e ∙ open_from A x unknown f ∙ sym (forced_member K r x force).1 ∙ ap (is_open K) (sym e)
       | inr g ↦ elim (others m k) [
         | inl e ↦ ap (is_open A) e ∙ open_from A x unknown f ∙ sym (forced_member K r x force).1 ∙ ap (is_open K) (sym e)
-        | inr b ↦ closed A m b.0 ∙ sym (closed K m g)
+        | inr b ↦ not_open A m b.0 ∙ sym (not_open K m g)
       ]
     ]) in
     forced_from A r x (record { none_true = no_true; the_open = same_open ∙ force.the_open })
@@ -87,17 +77,17 @@ module _ (look : Hint → Option (List ℤ)) (kept : ℤ → Bool) (T : List ℤ
         let parts : Forces (take j T) c x = forces_from (take j T) c x force in
         let there : is_fact T x ≡ true = known_at T j small in
         let opened = open_parts (take j T) x (forced_member (take j T) c x parts).1 in
-        let unknown : is_fact A x ≡ false = not_true (is_fact A x) (λ k. elim (only x k) [
+        let unknown : is_fact A x ≡ false = false_from_ne_true (is_fact A x) (λ k. elim (only x k) [
           | inl a ↦ false≢true (sym opened.0 ∙ a)
           | inr a ↦ false≢true (sym loose ∙ a)
         ]) in
-        let not_false : is_refuted A x ≡ false = not_true (is_refuted A x) (λ k. apart.apart x there (w.sub (neg_ℤ x) k)) in
+        let not_false : is_refuted A x ≡ false = false_from_ne_true (is_refuted A x) (λ k. apart.apart x there (w.sub (neg_ℤ x) k)) in
         let agree : forced A c ≡ Some x = forced_agree (take j T) A c x force
         (λ m k. elim (forced_others (take j T) c x parts m k) [
           | inl s ↦ inl s
           | inr g ↦ elim (marked m k) [
             | inl s ↦ inl s
-            | inr q ↦ inr (has (neg_ℤ m) q (inl g), not_true (is_fact A m) (λ t. apart.apart m (w.sub m t) (take_known T j (neg_ℤ m) g)))
+            | inr q ↦ inr (has (neg_ℤ m) q (inl g), false_from_ne_true (is_fact A m) (λ t. apart.apart m (w.sub m t) (take_known T j (neg_ℤ m) g)))
           ]
         ]) unknown not_false in
         let rest : ends_in_conflict look (x ∷ A) H ≡ true = r.runs (x ∷ A)
@@ -149,11 +139,11 @@ at_head x l T h (suc e) = ap (λ b. b || is_fact (take e T) l) h ∙ sym (lt-ltb
 one_more : (p e : ℕ) → nat_lt p e ≡ nat_lt (suc p) (suc e)
 one_more p e = elim (cases_lt p e) [
   | inl h ↦ lt-ltb p e h ∙ sym (lt-ltb (suc p) (suc e) (omega arith))
-  | inr h ↦ not_true (nat_lt p e) (λ t. let s = ltb-true p e t in omega arith) ∙ sym (not_true (nat_lt (suc p) (suc e)) (λ t. let s = ltb-true (suc p) (suc e) t in omega arith))
+  | inr h ↦ false_from_ne_true (nat_lt p e) (λ t. let s = ltb-true p e t in omega arith) ∙ sym (false_from_ne_true (nat_lt (suc p) (suc e)) (λ t. let s = ltb-true (suc p) (suc e) t in omega arith))
 ]
 
 behind : (x l : ℤ) (T : List ℤ) (p : ℕ) → int_eq l x ≡ false → ((e : ℕ) → is_fact (take e T) l ≡ nat_lt p e) → (e : ℕ) → is_fact (take e (x ∷ T)) l ≡ nat_lt (suc p) e
-behind x l T p f first zero = sym (not_true (nat_lt (suc p) 0) (λ t. let s = ltb-true (suc p) 0 t in omega arith))
+behind x l T p f first zero = sym (false_from_ne_true (nat_lt (suc p) 0) (λ t. let s = ltb-true (suc p) 0 t in omega arith))
 behind x l T p f first (suc e) = ap (λ b. b || is_fact (take e T) l) f ∙ first e ∙ one_more p e
 
 first_place : (T : List ℤ) (l : ℤ) → is_fact T l ≡ true → (p : ℕ) × ((e : ℕ) → is_fact (take e T) l ≡ nat_lt p e)

@@ -10,21 +10,19 @@ use Rattle.solv_derive.specs.Forced.{is_falsified, forced}
 use Rattle.solv_derive.specs.declared.logs.Hint.{Hint}
 use Rattle.solv_derive.specs.declared.logs.Hint.TheVariants as hint
 use Rattle.solv_derive.proofs.Facts.{forces_from, forced_others, all_member}
-use Rattle.solv_trail.specs.Derivation.{IsConsistent}
-use Rattle.solv_trail.specs.Held.{Held}
-use Rattle.solv_trail.specs.Propagated.{IsUsed, choice, by_rule, IsReasoned}
+use Rattle.solv_trail.specs.Inner.Derivation.{IsConsistent}
+use Rattle.solv_trail.specs.Inner.Held.{Held}
+use Rattle.solv_trail.specs.Inner.Propagated.{IsUsed, choice, by_rule, IsReasoned}
 use Rattle.solv_trail.proofs.Walk.{take_known}
-use Rattle.solv_learn.specs.Collecting.{HasMarked}
-use Rattle.solv_learn.specs.Refuting.{Refutes, Finds, hint_for, is_in_use}
+use Rattle.solv_learn.specs.Inner.Collecting.{HasMarked}
+use Rattle.solv_learn.specs.Inner.Refuting.{Refutes, Finds, hint_for, is_in_use}
 use Rattle.solv_learn.proofs.Refuting.{refutes_start, refutes_pass, refutes_resolve}
+use Rattle.solv_list.proofs.Answers.{one_clause}
 
 pub get_within : (rules : List (List ℤ)) (r : ℕ) (c : List ℤ) → slice_get rules r ≡ Some c → r < length rules
 get_within [] r c e = absurd (cc)
 get_within (d ∷ rules) zero c e = omega arith
 get_within (d ∷ rules) (suc r) c e = let k : r < length rules = get_within rules r c e in omega arith
-
-the_one : (o : Option (List ℤ)) (c d : List ℤ) → o ≡ Some c → o ≡ Some d → c ≡ d
-the_one o c d e f = cc
 
 -- the reason of a literal that was not chosen
 pub record HasReason (rules : List (List ℤ)) (used : ℕ → Bool) (held : Held) (j : ℕ) : Type 0 where
@@ -101,4 +99,4 @@ hints_used used count base all r H G h on is before =
 
 -- the clause of a rule is the one that is found
 pub same_clause : (rules : List (List ℤ)) (r : ℕ) (c d : List ℤ) → slice_get rules r ≡ Some c → slice_get rules r ≡ Some d → c ≡ d
-same_clause rules r c d e f = the_one (slice_get rules r) c d e f
+same_clause rules r c d e f = one_clause (slice_get rules r) c d e f

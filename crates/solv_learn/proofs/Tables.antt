@@ -2,14 +2,11 @@
 use Rattle.std.proofs.Common.{◌≡◌, ℕ, ◌<◌, ◌≤◌, false, ◌||◌, List, length, get_or, set, eqb, inl, inr, sym, ap, ◌∙◌, arith, get_or-set_same, get_or-set_other, eq-eqb}
 use Rattle.std.specs.Prelude.{ℤ}
 use Rattle.std.specs.Ordering.{int_eq}
-use Rattle.std.proofs.lemmas.Bool.{or_left, cases_eq, cases_Bool, ne_eqb}
-use Rattle.solv_pack.specs.Literals.{place_of}
-use Rattle.solv_derive.specs.Marks.{is_marked}
-use Rattle.solv_derive.proofs.Facts.{same, same_self}
-use Rattle.solv_derive.proofs.Tables.{place_of-injective}
-
-int_ne : (m l : ℤ) → (m ≡ l → ⊥) → int_eq m l ≡ false
-int_ne m l h = elim (cases_Bool (int_eq m l)) [ inl e ↦ absurd (h (same m l e)) | inr f ↦ f ]
+use Rattle.std.proofs.lemmas.Bool.{or_left, cases_eq, ne_eqb}
+use Rattle.solv_pack.specs.Inner.Literals.{place_of}
+use Rattle.solv_derive.specs.Inner.Marks.{is_marked}
+use Rattle.solv_derive.proofs.Facts.{same_self}
+use Rattle.solv_derive.proofs.Tables.{place_of-injective, int_ne}
 
 -- with one more literal
 pub marked_set : (marks : List ℕ) (now : ℕ) (x l : ℤ) → place_of x < length marks → is_marked (set marks (place_of x) now) now l ≡ (int_eq l x || is_marked marks now l)

@@ -1,5 +1,2 @@
-pub mod Places
-pub mod Marks
-pub mod Refuting
 pub mod Collecting
-pub mod Learning
+pub mod Inner

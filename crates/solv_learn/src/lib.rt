@@ -7,7 +7,7 @@
 //! - [`Search::learn`] and [`Search::refute`] are the two.
 //! - [`Marked`]: a set of literals and their places, gone through from the highest place on, and emptied at the cost of what was put in.
 //!
-//! `specs/Learning` says what they give; `specs/Refuting` and `specs/Collecting` what holds on the way.
+//! `specs/Inner/Learning` says what they give; `specs/Inner/Refuting` and `specs/Collecting` what holds on the way.
 #![tactic(auto)]
 
 mod marked;

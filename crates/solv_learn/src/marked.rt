@@ -2,8 +2,8 @@
 ghost use Rattle.std.specs.Prelude.{◌≡◌, ◌<◌, ◌==◌, ◌||◌, ℕ, ℤ, true, false, IfOk};
 ghost use Rattle.std.specs.Ordering.{int_eq};
 ghost use Rattle.solv_derive.specs.Range.{names_package};
-ghost use Rattle.solv_learn.specs.Marks.{has, has_place};
-ghost use Rattle.solv_learn.specs.Places.{IsLast};
+ghost use Rattle.solv_learn.specs.Inner.Marks.{has, has_place};
+ghost use Rattle.solv_learn.specs.Inner.Places.{IsLast};
 
 use crate::places::{Places, wipe};
 use solv_pack::Lit;
@@ -22,8 +22,8 @@ pub struct Marked {
 
 impl Model for Marked {
     ghost use Rattle.std.specs.Prelude.{ℕ, ◌≡◌, ◌+◌, ◌*◌, ◌<◌, ◌≤◌, length, slice_index};
-    ghost use Rattle.solv_trail.specs.Numbers.{room};
-    ghost use Rattle.solv_learn.specs.Marks.{Marks};
+    ghost use Rattle.solv_trail.specs.Inner.Numbers.{room};
+    ghost use Rattle.solv_learn.specs.Inner.Marks.{Marks};
 
     ghost Value = { Marks };
 

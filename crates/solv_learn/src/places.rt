@@ -1,8 +1,8 @@
 //! Sets of numbers that are gone through from the highest on.
 ghost use Rattle.std.specs.Prelude.{◌≡◌, ◌≤◌, ◌<◌, ◌+◌, ◌*◌, ◌/◌, ◌^◌, ◌==◌, ◌||◌, ◌&&◌, ℕ, nat_lt, length, slice_index, true, false, IfOk};
 ghost use Rattle.std.specs.Int.{bit_at};
-ghost use Rattle.solv_trail.specs.Numbers.{has, room};
-ghost use Rattle.solv_learn.specs.Places.{IsLast};
+ghost use Rattle.solv_trail.specs.Inner.Numbers.{has, room};
+ghost use Rattle.solv_learn.specs.Inner.Places.{IsLast};
 
 use std::alloc::{AllocError, Global};
 use std::marker::Model;
@@ -17,7 +17,7 @@ pub struct Places {
 
 impl Model for Places {
     ghost use Rattle.std.specs.Prelude.{ℕ, ◌≡◌, ◌*◌, ◌/◌, ◌≤◌, List, length, true};
-    ghost use Rattle.solv_trail.specs.Numbers.{has};
+    ghost use Rattle.solv_trail.specs.Inner.Numbers.{has};
 
     ghost Value = { List ℕ };
 

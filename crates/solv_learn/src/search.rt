@@ -5,11 +5,11 @@ ghost use Rattle.solv_pool.specs.Propagation.{is_fact, is_refuted};
 ghost use Rattle.solv_derive.specs.Forced.{is_falsified};
 ghost use Rattle.solv_derive.specs.Range.{names_package, is_over, are_over};
 ghost use Rattle.solv_derive.specs.declared.logs.Hint.{Hint};
-ghost use Rattle.solv_trail.specs.Propagated.{IsUsed, IsReasoned};
-ghost use Rattle.solv_learn.specs.Collecting.{IsCollected, HasMarked, HavePlaces};
-ghost use Rattle.solv_learn.specs.Learning.{IsRefuted, IsLearnt};
-ghost use Rattle.solv_learn.specs.Marks.{has, has_place};
-ghost use Rattle.solv_learn.specs.Refuting.{hint_for, Finds, is_in_use, Refutes};
+ghost use Rattle.solv_trail.specs.Inner.Propagated.{IsUsed, IsReasoned};
+ghost use Rattle.solv_learn.specs.Inner.Collecting.{IsCollected, HasMarked, HavePlaces};
+ghost use Rattle.solv_learn.specs.Inner.Learning.{IsRefuted, IsLearnt};
+ghost use Rattle.solv_learn.specs.Inner.Marks.{has, has_place};
+ghost use Rattle.solv_learn.specs.Inner.Refuting.{hint_for, Finds, is_in_use, Refutes};
 
 use crate::marked::Marked;
 use solv_derive::Hint;

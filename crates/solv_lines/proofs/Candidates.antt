@@ -7,7 +7,7 @@ use Rattle.solv_pool.specs.RuleMeaning.{set_at, rule_with}
 use Rattle.solv_pool.specs.Words.{is_among, passes}
 use Rattle.solv_pool.specs.declared.hard_rules.Rule.{Rule}
 use Rattle.solv_pool.specs.declared.hard_rules.Rule.TheVariants as rule
-use Rattle.solv_lines.specs.Features.{feature_of, features_of, is_feature, set_of}
+use Rattle.solv_lines.specs.Inner.Features.{feature_of, features_of, is_feature, set_of}
 use Rattle.solv_lines.specs.SolutionTexts.{feature_set, candidates_in, has_feature, rules_at}
 use Rattle.solv_lines.specs.declared.features.Feature.{Feature}
 

@@ -1,5 +1,5 @@
 -- Sets of lines rise, and hold the lines that were put in.
-use Rattle.std.proofs.Common.{◌≡◌, ℕ, Bool, true, false, ◌&&◌, ◌||◌, List, [], ◌∷◌, ◌++◌, refl, sym, ap, ◌∙◌, rules, Result, Ok, Err}
+use Rattle.std.proofs.Common.{◌≡◌, ℕ, Bool, true, false, ◌||◌, List, [], ◌∷◌, ◌++◌, refl, sym, ap, ◌∙◌, rules, Result}
 use Rattle.std.specs.Prelude.{IfOk}
 use Rattle.std.specs.BTreeSet.{insert_key}
 use Rattle.std.specs.Cmp.Lexicographic.{slice_cmp}
@@ -9,41 +9,34 @@ use Rattle.std.specs.declared.cmp.Ordering.{Ordering}
 use Rattle.std.specs.declared.cmp.Ordering.TheVariants.{Less, Equal, Greater}
 use Rattle.std.proofs.lemmas.Cmp.{nat_list_cmp_total}
 use Rattle.std.proofs.lemmas.Map.Text.{is_eq-slice_cmp}
-use Rattle.solv_lines.specs.LineSets.{with_lines, line_set, rises_behind, rises, is_line}
+use Rattle.solv_lines.specs.LineSets.{with_lines, line_set}
+use Rattle.solv_lines.specs.Inner.LineSets.{rises_behind, rises, is_line}
+use Rattle.solv_list.proofs.Answers.{ok_map}
+use Rattle.solv_list.proofs.Booleans.{first_of_both, or_once_more, or_second_first, or_turned, second_of_both}
+use Rattle.std.proofs.lemmas.Bool.{and_from}
 
 abbrev order : List ℕ → List ℕ → Ordering
 order = slice_cmp nat_cmp
-
-left : (a b : Bool) → (a && b) ≡ true → a ≡ true
-left true b h = refl
-left false b h = h
-
-right : (a b : Bool) → (a && b) ≡ true → b ≡ true
-right true b h = h
-right false b h = cc
-
-both : (a b : Bool) → a ≡ true → b ≡ true → (a && b) ≡ true
-both a b h k = cc
 
 turned : (k x : List ℕ) → order k x ≡ Greater → is_lt (order x k) ≡ true
 turned k x h = ap is_lt (nat_list_cmp_total.antisymm x k ∙ ap ordering_reverse h)
 
 behind : (line : List ℕ) (ks : List (List ℕ)) (k : List ℕ) → is_lt (order line k) ≡ true → rises_behind line ks ≡ true → rises_behind line (insert_key order ks k) ≡ true
-behind line [] k less h = both (is_lt (order line k)) true less refl
-behind line (x ∷ xs) k less h = by (order k x) refl (λ above. behind x xs k above (right (is_lt (order line x)) _ h))
+behind line [] k less h = and_from (is_lt (order line k)) true less refl
+behind line (x ∷ xs) k less h = by (order k x) refl (λ above. behind x xs k above (second_of_both (is_lt (order line x)) _ h))
   where
     by : (o : Ordering) → order k x ≡ o → (is_lt (order x k) ≡ true → rises_behind x (insert_key order xs k) ≡ true)
         → rises_behind line (match_ordering o (k ∷ x ∷ xs) (x ∷ xs) (x ∷ insert_key order xs k)) ≡ true
-    by Less e rest = both (is_lt (order line k)) _ less (both (is_lt (order k x)) (rises_behind x xs) (ap is_lt e) (right (is_lt (order line x)) _ h))
+    by Less e rest = and_from (is_lt (order line k)) _ less (and_from (is_lt (order k x)) (rises_behind x xs) (ap is_lt e) (second_of_both (is_lt (order line x)) _ h))
     by Equal e rest = h
-    by Greater e rest = both (is_lt (order line x)) _ (left (is_lt (order line x)) _ h) (rest (turned k x e))
+    by Greater e rest = and_from (is_lt (order line x)) _ (first_of_both (is_lt (order line x)) _ h) (rest (turned k x e))
 
 put_rises : (ks : List (List ℕ)) (k : List ℕ) → rises ks ≡ true → rises (insert_key order ks k) ≡ true
 put_rises [] k h = refl
 put_rises (x ∷ xs) k h = by (order k x) refl
   where
     by : (o : Ordering) → order k x ≡ o → rises (match_ordering o (k ∷ x ∷ xs) (x ∷ xs) (x ∷ insert_key order xs k)) ≡ true
-    by Less e = both (is_lt (order k x)) (rises_behind x xs) (ap is_lt e) h
+    by Less e = and_from (is_lt (order k x)) (rises_behind x xs) (ap is_lt e) h
     by Equal e = h
     by Greater e = behind x xs k (turned k x e) h
 
@@ -62,21 +55,6 @@ pub with_both : (set first second : List (List ℕ)) → with_lines set (first +
 with_both set [] second = refl
 with_both set (line ∷ lines) second = with_both (insert_key order set line) lines second
 
--- what is in a set
-once : (a b : Bool) → (a || b) ≡ (a || (a || b))
-once true b = refl
-once false b = refl
-
-swapped : (a b c : Bool) → (a || (b || c)) ≡ (b || (a || c))
-swapped true true c = refl
-swapped true false c = refl
-swapped false b c = refl
-
-or_assoc : (a b c : Bool) → ((a || b) || c) ≡ (b || (a || c))
-or_assoc true true c = refl
-or_assoc true false c = refl
-or_assoc false b c = refl
-
 put_is : (line : List ℕ) (ks : List (List ℕ)) (k : List ℕ) → is_line (insert_key order ks k) line ≡ (bytes_eq line k || is_line ks line)
 put_is line [] k = refl
 put_is line (x ∷ xs) k = by (order k x) refl (put_is line xs k)
@@ -86,15 +64,15 @@ put_is line (x ∷ xs) k = by (order k x) refl (put_is line xs k)
     by Less e rest = refl
     by Equal e rest =
         let same : k ≡ x = search (rules, sym (is_eq-slice_cmp k x) ∙ ap is_eq e) in
-        once (bytes_eq line x) (is_line xs line) ∙ ap (λ t. bytes_eq line t || is_line (x ∷ xs) line) (sym same)
-    by Greater e rest = ap (λ b. bytes_eq line x || b) rest ∙ swapped (bytes_eq line x) (bytes_eq line k) (is_line xs line)
+        or_once_more (bytes_eq line x) (is_line xs line) ∙ ap (λ t. bytes_eq line t || is_line (x ∷ xs) line) (sym same)
+    by Greater e rest = ap (λ b. bytes_eq line x || b) rest ∙ or_second_first (bytes_eq line x) (bytes_eq line k) (is_line xs line)
 
 all_are : (line : List ℕ) (set lines : List (List ℕ)) → is_line (with_lines set lines) line ≡ (is_line lines line || is_line set line)
 all_are line set [] = refl
 all_are line set (next ∷ lines) =
     all_are line (insert_key order set next) lines
     ∙ ap (λ b. is_line lines line || b) (put_is line set next)
-    ∙ sym (or_assoc (bytes_eq line next) (is_line lines line) (is_line set line))
+    ∙ sym (or_turned (bytes_eq line next) (is_line lines line) (is_line set line))
 
 pub line_set_is : (lines : List (List ℕ)) (line : List ℕ) → is_line (line_set lines) line ≡ is_line lines line
 line_set_is lines line = all_are line [] lines ∙ nothing (is_line lines line)
@@ -102,11 +80,6 @@ line_set_is lines line = all_are line [] lines ∙ nothing (is_line lines line)
     nothing : (b : Bool) → (b || false) ≡ b
     nothing true = refl
     nothing false = refl
-
--- of a good answer more is known
-pub ok_map : {T E : Type 0} (P Q : T → Type 0) (r : Result T E) → ((x : T) → P x → Q x) → IfOk r P → IfOk r Q
-ok_map P Q (Ok x) f h = f x h
-ok_map P Q (Err e) f h = h
 
 pub has_same : {E : Type 0} (r : Result (List (List ℕ)) E) (keys lines : List (List ℕ)) → keys ≡ line_set lines → IfOk r (λ set. set ≡ keys) → IfOk r (λ set. (line : List ℕ) → is_line set line ≡ is_line lines line)
 has_same r keys lines is h =

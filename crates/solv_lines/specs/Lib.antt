@@ -1,6 +1,6 @@
 pub mod RuleTexts
 pub mod SolutionTexts
-pub mod Features
 pub mod LineSets
 pub mod ResultLines
-pub mod Rows
+pub mod Inner
+pub mod Examples

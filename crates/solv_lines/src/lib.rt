@@ -7,7 +7,7 @@
 //! - [`line_set`] and [`LineSet`]: lines sorted by bytes, each once; [`text_of`]: their text.
 //!
 //! `specs/RuleTexts`, `specs/SolutionTexts` and `specs/ResultLines` say each text byte for byte, and `specs/LineSets` what
-//! a set of lines is. `specs/Features` serves inner contracts. Nothing is asked of the packages, relations, jobs and sets
+//! a set of lines is. `specs/Inner/Features` serves inner contracts. Nothing is asked of the packages, relations, jobs and sets
 //! that rules name, nor of the rules that an outcome lists or drops: what is not there has no text.
 #![tactic(auto)]
 

@@ -2,9 +2,10 @@
 ghost use Rattle.std.specs.Prelude.{◌≡◌, ◌∷◌, [], map, codes};
 ghost use Rattle.std.specs.List.{range_with_len};
 ghost use Rattle.solv_lines.specs.RuleTexts.{rule_text_at};
-ghost use Rattle.solv_lines.specs.LineSets.{line_set, rises};
-ghost use Rattle.solv_lines.specs.ResultLines.{transaction_lines, outcome_lines};
-ghost use Rattle.solv_lines.specs.Rows.{spoken, told, made, listing, solved_by, way, said_of, both_kinds, no_kinds};
+ghost use Rattle.solv_lines.specs.LineSets.{line_set};
+ghost use Rattle.solv_lines.specs.Inner.LineSets.{rises};
+ghost use Rattle.solv_lines.specs.Inner.ResultLines.{transaction_lines, outcome_lines};
+ghost use Rattle.solv_lines.specs.Examples.Rows.{spoken, told, made, listing, solved_by, way, said_of, both_kinds, no_kinds};
 ghost use Rattle.solv_lines.specs.declared.outcomes.Outcome.TheVariants.{Failed, Spent};
 
 /// The texts of rules of every kind, what is said of a requirement that nothing meets, and of a job that selects nothing, by

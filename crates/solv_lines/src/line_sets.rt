@@ -2,7 +2,8 @@
 ghost use Rattle.std.specs.Prelude.{◌≡◌, ◌∷◌, [], true, IfOk, OnOk};
 ghost use Rattle.std.specs.Prelude.{List, ℕ};
 ghost use Rattle.solv_io.specs.Lines.{ended_lines};
-ghost use Rattle.solv_lines.specs.LineSets.{with_lines, line_set, rises, is_line};
+ghost use Rattle.solv_lines.specs.LineSets.{with_lines, line_set};
+ghost use Rattle.solv_lines.specs.Inner.LineSets.{rises, is_line};
 
 use solv_list::Bytes;
 use std::alloc::{AllocError, Global};
@@ -17,7 +18,7 @@ pub struct LineSet {
 
 impl Model for LineSet {
     ghost use Rattle.std.specs.Prelude.{List, ℕ, ◌≡◌, true};
-    ghost use Rattle.solv_lines.specs.LineSets.{rises};
+    ghost use Rattle.solv_lines.specs.Inner.LineSets.{rises};
 
     ghost Value = { List (List ℕ) };
 

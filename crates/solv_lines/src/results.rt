@@ -5,7 +5,7 @@ ghost use Rattle.solv_pool.specs.Belonging.{IsOver};
 ghost use Rattle.solv_pool.specs.Catalog.{catalog_of};
 ghost use Rattle.solv_prov.specs.Index.{IsIndexOf};
 ghost use Rattle.solv_lines.specs.LineSets.{line_set};
-ghost use Rattle.solv_lines.specs.ResultLines.{outcome_lines};
+ghost use Rattle.solv_lines.specs.Inner.ResultLines.{outcome_lines};
 
 use crate::changing::put_changes;
 use crate::line_sets::{LineSet, in_order};

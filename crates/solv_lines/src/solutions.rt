@@ -3,7 +3,7 @@ ghost use Rattle.std.specs.Prelude.{◌≡◌, ◌++◌, map, slice_get, filter_
 ghost use Rattle.solv_pool.specs.Belonging.{IsOver};
 ghost use Rattle.solv_pool.specs.Catalog.{catalog_of};
 ghost use Rattle.solv_pool.specs.RuleMeaning.{rule_with};
-ghost use Rattle.solv_lines.specs.Features.{HasFeatures, HasSets};
+ghost use Rattle.solv_lines.specs.Inner.Features.{HasFeatures, HasSets};
 ghost use Rattle.solv_lines.specs.RuleTexts.{named};
 ghost use Rattle.solv_lines.specs.SolutionTexts.{job_text, going_text, update_text, element, solution_texts};
 

@@ -16,9 +16,10 @@ use Rattle.solv_pool.specs.declared.jobs.Job.{Job}
 use Rattle.solv_pool.specs.declared.jobs.Action.{Action}
 use Rattle.solv_pool.specs.declared.jobs.Action.TheVariants.{Install, Erase, Update, Lock, Verify, Multiversion, AllowUninstall, Favor, Disfavor, Noop}
 use Rattle.solv_pool.specs.declared.job_marks.Marks.{Marks}
-use Rattle.solv_pool.proofs.Lists.{list_all_made, list_all_filter, list_all_join, list_all_when, flat_each, among_itself, among_within}
+use Rattle.solv_pool.proofs.Lists.{list_all_made, list_all_when, among_itself, among_within}
 use Rattle.solv_rules.specs.Books.{rises, is_bookable}
 use Rattle.solv_questions.proofs.Members.{Has, of_filtered, any_at}
+use Rattle.solv_list.proofs.Lists.{list_all_filter, list_all_flat, list_all_join}
 
 -- numbers of a range that pass rise
 rise_later : (a b : ℕ) (xs : List ℕ) → a ≤ b → rises b xs ≡ true → rises a xs ≡ true
@@ -92,7 +93,7 @@ module _ (catalog : Catalog) where
     of_job j Noop test = refl
 
     job_ok : list_all bookable (job_rules catalog jobs) ≡ true
-    job_ok = flat_each bookable (λ job. rule_of_job job.0 job.1.action (selection catalog job.1.choice)) (λ job. of_job job.0 job.1.action (selects catalog job.1.choice)) (numbered_jobs jobs)
+    job_ok = list_all_flat bookable (λ job. rule_of_job job.0 job.1.action (selection catalog job.1.choice)) (λ job. of_job job.0 job.1.action (selects catalog job.1.choice)) (numbered_jobs jobs)
 
     of_best : (j : ℕ) (xs : List ℕ) → (list_all is_package xs && rises 1 xs) ≡ true → list_all bookable (best_job_rule j xs) ≡ true
     of_best j [] h = refl
@@ -100,14 +101,14 @@ module _ (catalog : Catalog) where
 
     best_job_ok : list_all bookable (best_job_rules catalog jobs) ≡ true
     best_job_ok =
-        flat_each bookable (λ job. when (is_install job.1.action && job.1.forcebest) (best_job_rule job.0 (best catalog (selection catalog job.1.choice)))) (λ job.
+        list_all_flat bookable (λ job. when (is_install job.1.action && job.1.forcebest) (best_job_rule job.0 (best catalog (selection catalog job.1.choice)))) (λ job.
         list_all_when bookable (is_install job.1.action && job.1.forcebest) (best_job_rule job.0 (best catalog (selection catalog job.1.choice)))
         (of_best job.0 (best catalog (selection catalog job.1.choice)) (over_list _)))
         (numbered_jobs jobs)
 
     best_update_ok : list_all bookable (best_update_rules catalog flags marks jobs) ≡ true
     best_update_ok =
-        flat_each bookable (λ job. when (is_update job.1.action && job.1.forcebest) (map (best_update_rule catalog flags marks job.0) (selected_installed catalog job.1.choice))) (λ job.
+        list_all_flat bookable (λ job. when (is_update job.1.action && job.1.forcebest) (map (best_update_rule catalog flags marks job.0) (selected_installed catalog job.1.choice))) (λ job.
         list_all_when bookable (is_update job.1.action && job.1.forcebest) (map (best_update_rule catalog flags marks job.0) (selected_installed catalog job.1.choice))
         (list_all_made is_package bookable (best_update_rule catalog flags marks job.0)
         (λ p k. of_package p _ k)

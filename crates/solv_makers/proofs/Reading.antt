@@ -1,49 +1,17 @@
 -- Rules put behind others are read behind them.
-use Rattle.std.proofs.Common.{◌≡◌, ◌<◌, ℕ, zero, suc, Bool, true, false, ◌&&◌, List, [], ◌∷◌, ◌++◌, map, length, refl, sym, ap, ◌∙◌, arith}
-use Rattle.std.specs.Prelude.{nat_lt, OnOk, Result}
-use Rattle.std.specs.List.{list_all}
-use Rattle.std.proofs.lemmas.Bool.{and_parts, ltb-true}
+use Rattle.std.proofs.Common.{◌≡◌, ℕ, true, List, [], ◌++◌, map, refl, sym, ap, ◌∙◌}
 use Rattle.std.proofs.lemmas.List.{map-append, append-nil, append_assoc}
-use Rattle.solv_pool.specs.RuleMeaning.{HardRule, rule_with, set_at}
+use Rattle.solv_pool.specs.RuleMeaning.{HardRule, rule_with}
 use Rattle.solv_pool.specs.declared.hard_rules.Rule.{Rule}
 use Rattle.solv_pool.specs.declared.hard_rules.Rules.{Rules}
 use Rattle.solv_pool.specs.declared.hard_rules.Rule.TheVariants as rule
-use Rattle.solv_jobs.specs.Putting.{has_its_set, HasPut}
-
-set_before : (sets more : List (List ℕ)) (s : ℕ) → s < length sets → set_at (sets ++ more) s ≡ set_at sets s
-set_before [] more s h = absurd (omega (arith, h))
-set_before (x ∷ sets) more zero h = refl
-set_before (x ∷ sets) more (suc s) h = set_before sets more s (omega (arith, h))
-
-rule_before : (sets more : List (List ℕ)) (r : Rule) → has_its_set (length sets) r ≡ true → rule_with (sets ++ more) r ≡ rule_with sets r
-rule_before sets more (rule.NotInstallable p) h = refl
-rule_before sets more (rule.Req p d) h = refl
-rule_before sets more (rule.Con p d q) h = refl
-rule_before sets more (rule.RichCon p d) h = refl
-rule_before sets more (rule.Obs p d q) h = refl
-rule_before sets more (rule.Same p q) h = refl
-rule_before sets more (rule.Infarch p) h = refl
-rule_before sets more (rule.Update p s) h = rw (set_before sets more s (ltb-true s (length sets) h)) refl
-rule_before sets more (rule.Feature p s) h = rw (set_before sets more s (ltb-true s (length sets) h)) refl
-rule_before sets more (rule.Install j s) h = rw (set_before sets more s (ltb-true s (length sets) h)) refl
-rule_before sets more (rule.Erase j s) h = rw (set_before sets more s (ltb-true s (length sets) h)) refl
-rule_before sets more (rule.Lock j s) h = rw (set_before sets more s (ltb-true s (length sets) h)) refl
-rule_before sets more (rule.BestJob j s) h = rw (set_before sets more s (ltb-true s (length sets) h)) refl
-rule_before sets more (rule.BestUpdate j p s) h = rw (set_before sets more s (ltb-true s (length sets) h)) refl
-
-rules_before : (sets more : List (List ℕ)) (rs : List Rule) → list_all (has_its_set (length sets)) rs ≡ true → map (rule_with (sets ++ more)) rs ≡ map (rule_with sets) rs
-rules_before sets more [] h = refl
-rules_before sets more (r ∷ rs) h =
-    let both = and_parts (has_its_set (length sets) r) (list_all (has_its_set (length sets)) rs) h in
-    rw (rule_before sets more r both.0, rules_before sets more rs both.1) refl
+use Rattle.solv_jobs.specs.Inner.Putting.{HasPut}
+use Rattle.solv_jobs.proofs.Puts.{rules_before}
+use Rattle.solv_list.proofs.Lists.{empty_list}
 
 -- the rules are read so, whatever sets come behind theirs
 abbrev pub Reads : Rules → List HardRule → Type 0
 Reads rules made = (more : List (List ℕ)) → map (rule_with (rules.sets ++ more)) rules.list ≡ made
-
-empty_list : {X : Type 0} (xs : List X) → length xs ≡ 0 → xs ≡ []
-empty_list [] h = refl
-empty_list (x ∷ xs) h = absurd (omega (arith, h))
 
 -- what is put is read behind what was read
 pub put_reads : (made more : List HardRule) (old new : Rules) → Reads old made → HasPut true more old new → Reads new (made ++ more)

@@ -7,7 +7,8 @@ ghost use Rattle.solv_pool.specs.TaskBelonging.{IsClosed};
 ghost use Rattle.solv_prov.specs.Index.{IsIndexOf};
 ghost use Rattle.solv_jobs.specs.Marking.{HasMarks};
 ghost use Rattle.solv_rules.specs.Making.{asks_in_form};
-ghost use Rattle.solv_rules.specs.Books.{AreBookable, read_rules};
+ghost use Rattle.solv_rules.specs.Inner.Books.{AreBookable};
+ghost use Rattle.solv_rules.specs.Books.{read_rules};
 
 use solv_best::best_rules;
 use solv_jobs::job_rules;

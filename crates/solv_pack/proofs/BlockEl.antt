@@ -18,7 +18,7 @@ use Rattle.std.proofs.ResultValues.{and_tt}
 use Rattle.std.proofs.SharedLaws.{lent_shr_laws}
 pub use Rattle.std.proofs.VecSteps.El.{El, R, args, P, Hd, handle, el_x, elτ, el_own, el_lawful, sz, Good, wider, align_fits}
 use Rattle.std.proofs.VecSteps.Gaps.{take-front}
-use Rattle.solv_pack.specs.Lending.{with_words}
+use Rattle.solv_pack.specs.Inner.Lending.{with_words}
 use Rattle.solv_pack.specs.declared.block.Block.{Block}
 use Rattle.solv_pack.specs.contracts.block.Block as B-type
 

@@ -30,7 +30,7 @@ use denote.Triple.Entry.{on_entry}
 use denote.Triple.Spec.{Meets}
 use denote.Triple.Walked.{Stays, stay_dropped, walk_of, ends_at, walked, walk_Meets}
 use Rattle.std.proofs.alloc.Calls.{token}
-use Rattle.solv_pack.specs.Lending.{with_words}
+use Rattle.solv_pack.specs.Inner.Lending.{with_words}
 use Rattle.solv_pack.proofs.BlockEl.{El, args, el_x, elτ, el_d, el_heap, el_len, el_cap, el_items, el_ok, R, Vr, sz, handle, owning, vec_val}
 use Rattle.std.proofs.ptr.Rows.{times_below}
 use Rattle.std.proofs.VecSteps.Rows.{apart, whole as whole_row}

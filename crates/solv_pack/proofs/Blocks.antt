@@ -5,9 +5,9 @@ use Rattle.std.proofs.lemmas.List.{map-set, get_or-map, length-drop, get_or_appe
 use Rattle.std.proofs.lemmas.List.Edits.{length-swap}
 use Rattle.std.proofs.Math.Seq.{map-set_same}
 use Rattle.solv_pack.specs.declared.block.Block.{Block}
-use Rattle.solv_pack.specs.Lending.{with_words}
+use Rattle.solv_pack.specs.Inner.Lending.{with_words}
 use Rattle.solv_pack.specs.declared.place.Place.{Place}
-use Rattle.solv_pack.specs.Layout.{words_of, rooms_of, block_at, rule_in}
+use Rattle.solv_pack.specs.Inner.Layout.{words_of, rooms_of, block_at, rule_in}
 use Rattle.solv_pack.proofs.BlockEl.{with_words_is}
 
 module _ {X Z : Type 0} (bs : List (Block X Z)) (k : ℕ) where

@@ -3,9 +3,9 @@ use Rattle.std.proofs.Common.{◌≡◌, ◌<◌, ◌≤◌, ◌+◌, ℕ, zero,
 use Rattle.std.specs.Prelude.{slice_range, slice_set}
 use Rattle.std.proofs.lemmas.List.{take-take, length-take-le, drop_at, take_at, get_or-set_same, get_or-set_other, length-set, get_or-take, length-take, take_all}
 use Rattle.solv_pack.specs.declared.place.Place.{Place}
-use Rattle.solv_pack.specs.Packing.{most_literals}
-use Rattle.solv_pack.specs.Layout.{block_at, rule_in, rules_in, IsInside, AreInside, AreBehind, Grows}
-use Rattle.solv_pack.specs.Moving.{EndsBefore, AllBefore, HasChanged}
+use Rattle.solv_pack.specs.Inner.Packing.{most_literals}
+use Rattle.solv_pack.specs.Inner.Layout.{block_at, rule_in, rules_in, IsInside, AreInside, AreBehind, Grows}
+use Rattle.solv_pack.specs.Inner.Moving.{EndsBefore, AllBefore, HasChanged}
 use Rattle.solv_pack.proofs.Places.{cons, rules_in-append, inside-append, behind_snoc, range_is, same_block, same_front, same_back}
 use Rattle.solv_pack.proofs.ClosedUp.{equal_or_not}
 

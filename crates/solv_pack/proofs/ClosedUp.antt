@@ -3,9 +3,9 @@ use Rattle.std.proofs.Common.{◌≡◌, ◌<◌, ◌≤◌, ◌+◌, ℕ, zero,
 use Rattle.std.specs.Prelude.{slice_set}
 use Rattle.std.proofs.lemmas.List.{append-nil, take-take, length-take-le, drop_more, drop_all, take_more_set, drop-set-lt, drop_at, take_at, length-set}
 use Rattle.solv_pack.specs.declared.place.Place.{Place}
-use Rattle.solv_pack.specs.Packing.{kept}
-use Rattle.solv_pack.specs.Layout.{block_at, rule_in, rules_in, IsInside, AreInside, AreBehind}
-use Rattle.solv_pack.specs.Moving.{IsPoint, IsTarget, HasMoved, EndsBefore, AllBefore, IsClosed}
+use Rattle.solv_pack.specs.Inner.Packing.{kept}
+use Rattle.solv_pack.specs.Inner.Layout.{block_at, rule_in, rules_in, IsInside, AreInside, AreBehind}
+use Rattle.solv_pack.specs.Inner.Moving.{IsPoint, IsTarget, HasMoved, EndsBefore, AllBefore, IsClosed}
 use Rattle.solv_pack.proofs.Places.{cons, rules_in-append, inside-append, behind_sooner, before_later, before-append, behind_snoc, range_is, same_block, same_front, same_back}
 
 -- some rules are closed up, and those that are left make the whole with them

@@ -5,8 +5,8 @@ use Rattle.std.specs.List.{copy_within}
 use Rattle.std.proofs.lemmas.List.{length-drop, length-set, get_or-set_same, get_or-set_other, drop-drop}
 use Rattle.std.proofs.lemmas.List.Edits.{length-paste, take-paste, drop-paste}
 use Rattle.solv_pack.specs.declared.place.Place.{Place}
-use Rattle.solv_pack.specs.Layout.{block_at, IsInside}
-use Rattle.solv_pack.specs.Moving.{HasMoved}
+use Rattle.solv_pack.specs.Inner.Layout.{block_at, IsInside}
+use Rattle.solv_pack.specs.Inner.Moving.{HasMoved}
 
 -- lists with the same behind a place have the same behind a later one
 pub drop_further : {X : Type 0} (xs ys : List X) (a b : ℕ) → a ≤ b → drop a xs ≡ drop a ys → drop b xs ≡ drop b ys

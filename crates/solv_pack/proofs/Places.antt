@@ -3,8 +3,8 @@ use Rattle.std.proofs.Common.{◌≡◌, ◌<◌, ◌≤◌, ◌+◌, ◌-◌, �
 use Rattle.std.specs.Prelude.{slice_get, slice_range, Some}
 use Rattle.std.proofs.lemmas.List.{take-take, drop-take}
 use Rattle.solv_pack.specs.declared.place.Place.{Place}
-use Rattle.solv_pack.specs.Layout.{block_at, rule_in, rules_in, IsInside, AreInside, AreBehind}
-use Rattle.solv_pack.specs.Moving.{AllBefore}
+use Rattle.solv_pack.specs.Inner.Layout.{block_at, rule_in, rules_in, IsInside, AreInside, AreBehind}
+use Rattle.solv_pack.specs.Inner.Moving.{AllBefore}
 use Rattle.solv_pack.proofs.Moves.{drop_further}
 
 pub cons : {X : Type 0} (x y : X) (xs ys : List X) → x ≡ y → xs ≡ ys → x ∷ xs ≡ y ∷ ys

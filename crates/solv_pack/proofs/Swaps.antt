@@ -7,9 +7,9 @@ use Rattle.std.proofs.lemmas.Slice.{take-put_mid_below, between-put_mid, drop-pu
 use borrow.Rule.Slice.PartMut.{put_mid}
 use Rattle.solv_pack.specs.declared.block.Block.{Block}
 use Rattle.solv_pack.specs.declared.place.Place.{Place}
-use Rattle.solv_pack.specs.Lending.{with_words}
-use Rattle.solv_pack.specs.Layout.{words_of, block_at, rule_in, IsInside}
-use Rattle.solv_pack.specs.Moving.{HasChanged}
+use Rattle.solv_pack.specs.Inner.Lending.{with_words}
+use Rattle.solv_pack.specs.Inner.Layout.{words_of, block_at, rule_in, IsInside}
+use Rattle.solv_pack.specs.Inner.Moving.{HasChanged}
 use Rattle.solv_pack.proofs.Blocks.{words_changed, block_is}
 use Rattle.solv_pack.proofs.Views.{length_rule}
 

@@ -22,13 +22,16 @@ use Rattle.solv_questions.proofs.Members.{Has, has_filtered, of_filtered, all_by
 use Rattle.solv_questions.proofs.Asking.{in_range}
 use Rattle.solv_plan.specs.Inside.{row_at}
 use Rattle.solv_plan.specs.Trees.{is_leaf, holds_within, node_due, due_within, tree_holds, tree_due, IsRow, AreTrees}
-use Rattle.solv_plan.specs.Choosing.{unkept, standing_at}
-use Rattle.solv_plan.specs.PlanLaw.{IsStanding}
+use Rattle.solv_plan.specs.Choosing.{unkept}
+use Rattle.solv_plan.specs.Inner.Choosing.{standing_at}
+use Rattle.solv_plan.specs.Inner.PlanLaw.{IsStanding}
 use Rattle.solv_plan.specs.PlanOf.{is_by_row, is_by_tree, operands_at, row_of, rows_of, has_trees, is_ranked, standing_of, standings_of}
 use Rattle.solv_plan.specs.declared.standings.Standing.{Standing}
 use Rattle.solv_plan.proofs.Leaning.{among_has, has_among, comes, holds_is, due_is}
 use Rattle.solv_plan.proofs.Serving.{serves}
-use Rattle.solv_plan.proofs.Tables.{row_there, row_past, place_there, place_past, has_range}
+use Rattle.solv_plan.proofs.Tables.{row_there, row_past, place_past, has_range}
+use Rattle.solv_list.proofs.Booleans.{true_of_not}
+use Rattle.solv_list.proofs.Lists.{place_there}
 
 -- what a dependency that is read by its row is met by
 wise_candidate : (catalog : Catalog) (known : ℤ → Bool) (d : Dep ℕ) → package_wise d ≡ true → (p : ℕ) → is_candidate catalog known d p ≡ package_meets catalog d p
@@ -86,10 +89,6 @@ none_missing catalog (x ∷ xs) = none_missing catalog xs
 
 zero_add : (d : ℕ) → 0 + d ≡ d
 zero_add d = omega arith
-
-not_true : (b : Bool) → not b ≡ false → b ≡ true
-not_true true h = refl
-not_true false h = sym h
 
 among_filtered : (f : ℕ → Bool) (xs : List ℕ) (q : ℕ) → is_among xs q ≡ true → is_among (filter f xs) q ≡ f q
 among_filtered f xs q h = step (f q) refl
@@ -218,7 +217,7 @@ module _ (r : Request) where
               let lt = operand_low d c.operand node e c.among in
               elim (cases_Bool (is_by_tree r.catalog c.operand)) [
                 | inl y ↦ ih c.operand lt y c.unmet c.due
-                | inr n ↦ ranked_by d c.operand p node e t c.among (in_row depth c.operand (below c.operand lt) (not_true (is_by_row (dep c.operand)) n) c.unmet p c.due)
+                | inr n ↦ ranked_by d c.operand p node e t c.among (in_row depth c.operand (below c.operand lt) (true_of_not (is_by_row (dep c.operand)) n) c.unmet p c.due)
               ]
 
     -- what decides of a package is kept

@@ -14,11 +14,13 @@ use Rattle.solv_trail.specs.declared.questions.Ask.{Ask}
 use Rattle.solv_questions.specs.Questions.{Query, first_ask, first_possible, is_candidate, dependency_query}
 use Rattle.solv_questions.proofs.Members.{has_filtered, of_filtered, all_by}
 use Rattle.solv_plan.specs.Trees.{is_possible, tree_holds, tree_due, AreTrees}
-use Rattle.solv_plan.specs.Choosing.{standing_at, better_of, first_by, chosen, choosing_cmp, tree_query}
-use Rattle.solv_plan.specs.PlanLaw.{TreesSayTheDependencies, ChoicesFollowThePolicy, TreesAskTheQuestions, IsStanding}
+use Rattle.solv_plan.specs.Inner.Choosing.{standing_at, better_of, first_by, chosen, choosing_cmp, tree_query}
+use Rattle.solv_plan.specs.PlanLaw.{TreesSayTheDependencies}
+use Rattle.solv_plan.specs.Inner.PlanLaw.{ChoicesFollowThePolicy, TreesAskTheQuestions, IsStanding}
 use Rattle.solv_plan.specs.declared.standings.Standing.{Standing}
 use Rattle.solv_plan.proofs.Joining.{met_asks, first_ask-cons, named}
 use Rattle.solv_plan.proofs.Leaning.{among_has, has_among}
+use Rattle.solv_list.proofs.Booleans.{same_truth}
 
 -- what is chosen passes
 module _ (cmp : ℕ → ℕ → Ordering) (test : ℕ → Bool) where
@@ -50,11 +52,6 @@ module _ (cmp : ℕ → ℕ → Ordering) (test : ℕ → Bool) where
 pub chosen_possible : (standings : List Standing) (known : ℤ → Bool) (due : List ℕ) → chosen standings (is_possible known) due ≡ first_possible known (option_to_list (chosen standings (is_possible known) due))
 chosen_possible standings known due = sym (found_itself (choosing_cmp standings due) (is_possible known) (chosen standings (is_possible known) due) (first_passes (choosing_cmp standings due) (is_possible known) None due tt))
 
-both_ways : (a b : Bool) → (a ≡ true → b ≡ true) → (b ≡ true → a ≡ true) → a ≡ b
-both_ways true b h k = sym (h refl)
-both_ways false true h k = k refl
-both_ways false false h k = refl
-
 module _ (say : TreesSayTheDependencies) (follow : ChoicesFollowThePolicy) (catalog : Catalog) (marks : Marks) (nodes : List DepNode) (rows : List (List ℕ)) (standings : List Standing) (known : ℤ → Bool)
     (are : AreTrees catalog nodes rows) (question : Question) (d : ℕ)
     (stand : tree_holds nodes rows known d ≡ false → (p : ℕ) → is_among (tree_due nodes rows known d) p ≡ true → IsStanding catalog marks p (standing_at standings p)) where
@@ -79,7 +76,7 @@ module _ (say : TreesSayTheDependencies) (follow : ChoicesFollowThePolicy) (cata
       found_itself (choosing_cmp standings due) (is_possible known) (chosen standings (is_possible known) due) (first_passes (choosing_cmp standings due) (is_possible known) None due tt)
       ∙ sym (follow catalog marks standings list due (is_possible known)
       (stand e)
-      (λ p. both_ways (is_among list p) (is_among due p)
+      (λ p. same_truth (is_among list p) (is_among due p)
       (λ h. let f = of_filtered (is_candidate catalog known (dependency catalog d)) (packages catalog) p (among_has list p h) in s.due_all e p (has_among (packages catalog) p f.0) f.1)
       (λ h. let b = and_parts (is_among (packages catalog) p) (is_candidate catalog known (dependency catalog d) p) (s.due_only e p h) in
       has_among list p (has_filtered (is_candidate catalog known (dependency catalog d)) (packages catalog) p (among_has (packages catalog) p b.0) b.1)))

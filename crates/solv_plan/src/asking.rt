@@ -5,7 +5,7 @@ ghost use Rattle.solv_pool.specs.Words.{when};
 ghost use Rattle.solv_trail.specs.Asked.{is_enabled};
 ghost use Rattle.solv_trail.specs.declared.questions.Question.TheVariants.{Requires, Recommends};
 ghost use Rattle.solv_questions.specs.Questions.{first_ask, first_possible};
-ghost use Rattle.solv_plan.specs.Plans.{some_enabled, demand_queries, keep_query, keep_queries, question_of, wanted_holds, row_query, wanted_query, want_queries, is_supplementing, named_query, plan_asks};
+ghost use Rattle.solv_plan.specs.Inner.Plans.{some_enabled, demand_queries, keep_query, keep_queries, question_of, wanted_holds, row_query, wanted_query, want_queries, is_supplementing, named_query, plan_asks};
 ghost use Rattle.solv_plan.specs.Inside.{some_inside};
 
 use crate::choosing::ask_tree;

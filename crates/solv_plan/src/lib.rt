@@ -1,6 +1,6 @@
 //! The plan of a task: its questions, each with its candidates in their order, so that what is asked for next is found without memory.
 //!
-//! `specs/Plans` says which questions a plan has, `specs/PlanOf` which plan a task has, and `specs/PlanLaw` that it asks
+//! `specs/Inner/Plans` says which questions a plan has, `specs/PlanOf` which plan a task has, and `specs/PlanLaw` that it asks
 //! what the questions of the task ask.
 #![tactic(auto)]
 

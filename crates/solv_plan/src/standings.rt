@@ -1,6 +1,7 @@
 //! What is kept of packages for the order of candidates.
 ghost use Rattle.std.specs.Prelude.{◌≡◌, ◌++◌, ◌∷◌, [], OnOk};
-ghost use Rattle.solv_plan.specs.Choosing.{unkept, kept_at, standing_at};
+ghost use Rattle.solv_plan.specs.Choosing.{unkept};
+ghost use Rattle.solv_plan.specs.Inner.Choosing.{kept_at, standing_at};
 
 use solv_base::NameId;
 use solv_list::{Bytes, Items};
@@ -73,7 +74,8 @@ impl Drop for Standings {
 impl Model for Standings {
     ghost use Rattle.std.specs.Prelude.{◌≡◌, true, List, map, length, nat_le};
     ghost use Rattle.std.specs.List.{list_all};
-    ghost use Rattle.solv_plan.specs.Choosing.{unkept, kept_at};
+    ghost use Rattle.solv_plan.specs.Choosing.{unkept};
+    ghost use Rattle.solv_plan.specs.Inner.Choosing.{kept_at};
     ghost use Rattle.solv_plan.specs.declared.standings.Standing.{Standing};
 
     ghost Value = { List Standing };

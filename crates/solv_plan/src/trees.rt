@@ -5,7 +5,7 @@ ghost use Rattle.solv_pool.specs.Propagation.{is_fact};
 ghost use Rattle.solv_pool.specs.Words.{is_among};
 ghost use Rattle.solv_plan.specs.Inside.{row_at, some_inside};
 ghost use Rattle.solv_plan.specs.Trees.{is_possible, form_holds, node_holds, holds_within, due_within, tree_holds, tree_due};
-ghost use Rattle.solv_plan.specs.Turns.{turn_due};
+ghost use Rattle.solv_plan.specs.Inner.Turns.{turn_due};
 
 use crate::asking::is_some_in;
 use crate::forms::{Form, form_of};

@@ -1,8 +1,7 @@
 -- What rules add to the rows of jobs and of packages.
-use Rattle.std.proofs.Common.{◌≡◌, ◌+◌, ◌≤◌, ℕ, zero, suc, Bool, true, false, cond, List, [], ◌∷◌, ◌++◌, map, length, refl, sym, ap, ◌∙◌, arith, add-one, append_assoc, append-nil, eq-eqb}
+use Rattle.std.proofs.Common.{◌≡◌, ◌+◌, ℕ, suc, Bool, true, false, cond, List, [], ◌∷◌, ◌++◌, map, length, refl, sym, ap, ◌∙◌, arith, add-one, append_assoc, append-nil, eq-eqb}
 use Rattle.std.specs.Prelude.{filter, flat_map, ◌==◌, nat_le}
-use Rattle.std.specs.List.{list_all, enumerate_from, range_with_len}
-use Rattle.std.proofs.lemmas.Bool.Decides.{nat_tests}
+use Rattle.std.specs.List.{list_all, enumerate_from}
 use Rattle.solv_pool.specs.Words.{when}
 use Rattle.solv_pool.specs.Catalog.{packages, members}
 use Rattle.solv_pool.specs.RuleMeaning.{HardRule, rule_with, install, best_job, best_update, update, feature}
@@ -15,10 +14,12 @@ use Rattle.solv_plan.specs.PlanOf.{demand_of, best_job_demand, job_demand, best_
 use Rattle.solv_plan.specs.declared.plans.Demand.{Demand}
 use Rattle.solv_planning.specs.declared.demands.JobDemands.{JobDemands}
 use Rattle.solv_planning.specs.declared.keeps.PackRules.{PackRules}
-use Rattle.solv_planning.specs.Filling.{with_each, filled, entered}
-use Rattle.solv_planning.specs.Rows.{no_demands, no_rules, add_to_job, add_to_pack, keep_with, is_marked, is_other}
-use Rattle.solv_planning.proofs.Lists.{left, right, both}
+use Rattle.solv_planning.specs.Inner.Filling.{with_each, filled, entered}
+use Rattle.solv_planning.specs.Inner.Rows.{no_demands, no_rules, add_to_job, add_to_pack, keep_with, is_marked, is_other}
 use Rattle.solv_planning.proofs.Tables.{filled_made, entered_apart}
+use Rattle.solv_list.proofs.Booleans.{first_of_both, second_of_both}
+use Rattle.solv_list.proofs.Lists.{range_within}
+use Rattle.std.proofs.lemmas.Bool.{and_from}
 
 -- jobs
 module _ (r : Request) where
@@ -206,13 +207,6 @@ none_on_packs r i sets (rule.Lock j s) updates features best rows = sym (entered
 none_on_packs r i sets (rule.BestJob j s) updates features best rows = sym (entered_apart _ _ 0 rows (λ m row from upto. none_on_pack r i m (rule_with sets (rule.BestJob j s)) row refl refl refl))
 none_on_packs r i sets (rule.BestUpdate j p s) updates features best rows = absurd (best j p s refl)
 
-le_true : (m n : ℕ) → m ≤ n → nat_le m n ≡ true
-le_true m n h = grind (arith, nat_tests)
-
-range_within : (start count most : ℕ) → start + count ≤ suc most → list_all (λ q. nat_le q most) (range_with_len start count) ≡ true
-range_within start zero most h = refl
-range_within start (suc count) most h = rw (le_true start most (omega (arith, h)), add-one) (range_within (suc start) count most (omega (arith, h)))
-
 -- every row is that of the system or of a package
 pub rows_within : (r : Request) (xs : List (ℕ × HardRule)) → list_all (λ row. nat_le row.pack (length r.catalog.universe.packages)) (pack_rows r xs) ≡ true
 rows_within r xs = within (members r.catalog) (range_within 0 (suc (length r.catalog.universe.packages)) (length r.catalog.universe.packages) (omega arith))
@@ -221,6 +215,6 @@ rows_within r xs = within (members r.catalog) (range_within 0 (suc (length r.cat
         → list_all (λ row. nat_le row.pack (length r.catalog.universe.packages)) (map (λ p. with_each (add_to_pack r) p xs (no_rules p)) ps) ≡ true
     within [] h = refl
     within (p ∷ ps) h =
-        both (nat_le (with_each (add_to_pack r) p xs (no_rules p)).pack (length r.catalog.universe.packages)) _
-        (ap (λ n. nat_le n (length r.catalog.universe.packages)) (pack_of_row r p xs (no_rules p)) ∙ left (nat_le p (length r.catalog.universe.packages)) _ h)
-        (within ps (right (nat_le p (length r.catalog.universe.packages)) _ h))
+        and_from (nat_le (with_each (add_to_pack r) p xs (no_rules p)).pack (length r.catalog.universe.packages)) _
+        (ap (λ n. nat_le n (length r.catalog.universe.packages)) (pack_of_row r p xs (no_rules p)) ∙ first_of_both (nat_le p (length r.catalog.universe.packages)) _ h)
+        (within ps (second_of_both (nat_le p (length r.catalog.universe.packages)) _ h))

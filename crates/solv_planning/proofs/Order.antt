@@ -13,8 +13,9 @@ use Rattle.solv_pool.specs.declared.packages.Package.{Package}
 use Rattle.solv_pool.specs.declared.packages.Need.{Need}
 use Rattle.solv_questions.specs.Questions.{Request}
 use Rattle.solv_plan.specs.PlanOf.{want_of, required_by, recommended_by}
-use Rattle.solv_plan.specs.Wanting.{is_rising}
+use Rattle.solv_plan.specs.Inner.Wanting.{is_rising}
 use Rattle.solv_plan.specs.declared.plans.Want.{Want}
+use Rattle.solv_list.proofs.Lists.{all_pass}
 
 abbrev of_one : ℕ → List Want → Bool
 of_one p ws = list_all (λ w. eqb w.pack p) ws
@@ -63,10 +64,6 @@ module _ (f : ℕ → List Want) (own : (p : ℕ) → of_one p (f p) ≡ true) (
       go : (b : Bool) → over s (flat_map f (filter test (range_with_len (s + 1) n))) ≡ true → is_rising (flat_map f (filter test (range_with_len (s + 1) n))) ≡ true → is_rising (flat_map f (cond b (s ∷ filter test (range_with_len (s + 1) n)) (filter test (range_with_len (s + 1) n)))) ≡ true
       go true far later = rising_behind s (f s) (flat_map f (filter test (range_with_len (s + 1) n))) (own s) far later
       go false far later = later
-
-all_pass : (xs : List ℕ) → filter (λ p. true) xs ≡ xs
-all_pass [] = refl
-all_pass (x ∷ xs) = ap (λ l. x ∷ l) (all_pass xs)
 
 module _ (r : Request) where
   needs_own : (p : ℕ) (needs : List Need) → of_one p (map (λ need. want_of r.catalog p need.dep) needs) ≡ true

@@ -1,68 +1,34 @@
 -- Numbers of packages.
-use Rattle.std.proofs.Common.{◌≡◌, ◌<◌, ◌≤◌, ◌+◌, ℕ, zero, suc, Bool, true, false, cond, ◌||◌, List, [], ◌∷◌, length, Some, refl, sym, ap, ◌∙◌, arith, add-one}
+use Rattle.std.proofs.Common.{◌≡◌, ◌<◌, ◌+◌, ℕ, Bool, true, false, ◌||◌, List, [], ◌∷◌, length, Some, refl, sym, ap, ◌∙◌, arith}
 use Rattle.std.specs.Prelude.{filter, nat_lt, nat_le, ◌==◌, if◌then◌else◌, slice_get}
-use Rattle.std.specs.List.{list_all, range_with_len}
-use Rattle.std.specs.Option.{option_map_or}
+use Rattle.std.specs.List.{list_all}
 use Rattle.std.proofs.lemmas.Bool.Decides.{nat_tests}
 use Rattle.solv_pool.specs.Catalog.{Catalog, packages, dependency}
 use Rattle.solv_pool.specs.Holding.{package_meets}
 use Rattle.solv_pool.specs.TaskBelonging.{is_pack}
 use Rattle.solv_pool.specs.Words.{is_among}
-use Rattle.solv_pool.specs.Belonging.{fits, names_of}
-use Rattle.solv_pool.specs.declared.packages.Package.{Package}
-use Rattle.solv_pool.specs.declared.tasks.Task.{Task}
 use Rattle.solv_policy.specs.Policy.{by_policy}
 use Rattle.solv_policy.specs.declared.policy.Asked.TheVariants.{Other}
 use Rattle.solv_prov.specs.Index.{Index, providers_of, IsIndexOf}
 use Rattle.solv_rules.proofs.Meeting.{members_within}
-use Rattle.solv_updates.specs.Places.{IsPlace}
 use Rattle.solv_questions.specs.Questions.{Request}
 use Rattle.solv_plan.specs.PlanOf.{row_of}
 use Rattle.solv_plan.proofs.Tables.{row_there}
-use Rattle.solv_planning.proofs.Lists.{left, right}
-
-range_packs : (f : ℕ → Bool) (start count : ℕ) (most : ℕ) → 0 < start → start + count ≤ most + 1 → list_all (is_pack most) (filter f (range_with_len start count)) ≡ true
-range_packs f start zero most some within = refl
-range_packs f start (suc count) most some within = step (f start) (range_packs f (suc start) count most (omega arith) (omega (arith, within)))
-  where
-    here : is_pack most start ≡ true
-    here = let above : nat_lt 0 start ≡ true = grind (arith, nat_tests, some) in let below : nat_le start most ≡ true = grind (arith, nat_tests, within) in rw (above, below) refl
-
-    step : (b : Bool) → list_all (is_pack most) (filter f (range_with_len (suc start) count)) ≡ true
-        → list_all (is_pack most) (cond b (start ∷ filter f (range_with_len (start + 1) count)) (filter f (range_with_len (start + 1) count))) ≡ true
-    step true h = rw (add-one, here) h
-    step false h = rw add-one h
+use Rattle.solv_jobs.proofs.Choices.{range_packs}
+use Rattle.solv_list.proofs.Booleans.{first_of_both, second_of_both}
 
 -- packages that pass a test are packages
 pub packs_of : (catalog : Catalog) (f : ℕ → Bool) → list_all (is_pack (length catalog.universe.packages)) (filter f (packages catalog)) ≡ true
 packs_of catalog f = range_packs f 1 (length catalog.universe.packages) (length catalog.universe.packages) (omega arith) (omega arith)
 
-pub place_of : (task : Task) (q : ℕ) → is_pack (length task.universe.packages) q ≡ true → IsPlace task q
-place_of task q h =
-    let above : nat_lt 0 q ≡ true = left (nat_lt 0 q) _ h in
-    let within : nat_le q (length task.universe.packages) ≡ true = right (nat_lt 0 q) _ h in
-    record { above = grind (arith, nat_tests, above); within = grind (arith, nat_tests, within) }
-
-pub all_at : {X : Type 0} (f : X → Bool) (xs : List X) (k : ℕ) (x : X) → list_all f xs ≡ true → slice_get xs k ≡ Some x → f x ≡ true
-all_at f [] k x h at = absurd (cc)
-all_at f (y ∷ ys) zero x h at = let same : Some y ≡ Some x = at in let e : y ≡ x = ap (λ o. option_map_or (λ z. z) o y) same in ap f (sym e) ∙ left (f y) _ h
-all_at f (y ∷ ys) (suc k) x h at = all_at f ys k x (right (f y) _ h) at
-
--- the name of a package is there
-pub name_below : (names nodes repos : ℕ) (a : Package) → fits names nodes repos a ≡ true → a.name < names
-name_below names nodes repos a h =
-    let all : list_all (λ n. nat_lt n names) (names_of a) ≡ true = left (list_all (λ n. nat_lt n names) (names_of a)) _ h in
-    let first : nat_lt a.name names ≡ true = left (nat_lt a.name names) _ all in
-    grind (arith, nat_tests, first)
-
 -- members among which the system is not are packages
 pub no_system : (most : ℕ) (xs : List ℕ) → is_among xs 0 ≡ false → list_all (λ p. nat_le p most) xs ≡ true → list_all (is_pack most) xs ≡ true
 no_system most [] none within = refl
 no_system most (x ∷ xs) none within =
-    let below : nat_le x most ≡ true = left (nat_le x most) _ within in
+    let below : nat_le x most ≡ true = first_of_both (nat_le x most) _ within in
     let apart : (x == 0) ≡ false = neither (x == 0) (is_among xs 0) none in
     let above : nat_lt 0 x ≡ true = grind (arith, nat_tests, apart) in
-    rw (above, below) (no_system most xs (nor (x == 0) (is_among xs 0) none) (right (nat_le x most) _ within))
+    rw (above, below) (no_system most xs (nor (x == 0) (is_among xs 0) none) (second_of_both (nat_le x most) _ within))
   where
     neither : (a b : Bool) → (a || b) ≡ false → a ≡ false
     neither true b h = h

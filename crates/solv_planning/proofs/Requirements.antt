@@ -22,8 +22,8 @@ use Rattle.solv_questions.proofs.Members.{all_by}
 use Rattle.solv_questions.proofs.Origins.{IsFrom, is_from}
 use Rattle.solv_plan.specs.PlanOf.{want_of, required_by}
 use Rattle.solv_plan.proofs.Tables.{flat_flat, flat_alike, append_none}
-use Rattle.solv_planning.specs.Readiness.{asks_for_packages}
-use Rattle.solv_planning.specs.Rows.{wants_of}
+use Rattle.solv_planning.specs.Inner.Readiness.{asks_for_packages}
+use Rattle.solv_planning.specs.Inner.Rows.{wants_of}
 use Rattle.solv_planning.proofs.Packs.{packs_of}
 
 module _ (r : Request) where

@@ -7,9 +7,9 @@ ghost use Rattle.solv_pool.specs.TaskBelonging.{is_pack};
 ghost use Rattle.solv_rules.specs.Books.{read_rules};
 ghost use Rattle.solv_questions.specs.Questions.{request_of};
 ghost use Rattle.solv_plan.specs.PlanOf.{numbered, demand_of, demands_of_job};
-ghost use Rattle.solv_planning.specs.Filling.{filled, entered};
-ghost use Rattle.solv_planning.specs.Readiness.{IsReady, asks_for_packages};
-ghost use Rattle.solv_planning.specs.Rows.{no_demands, add_to_job};
+ghost use Rattle.solv_planning.specs.Inner.Filling.{filled, entered};
+ghost use Rattle.solv_planning.specs.Inner.Readiness.{IsReady, asks_for_packages};
+ghost use Rattle.solv_planning.specs.Inner.Rows.{no_demands, add_to_job};
 
 use crate::appending::append;
 use crate::ordering::in_order;

@@ -13,10 +13,10 @@ ghost use Rattle.solv_rules.specs.Books.{read_rules};
 ghost use Rattle.solv_questions.specs.Questions.{Request, request_of, without_those, close_candidates, far_candidates};
 ghost use Rattle.solv_plan.specs.PlanOf.{numbered, keeps_of};
 ghost use Rattle.solv_jobs.specs.Marking.{HasMarks};
-ghost use Rattle.solv_updates.specs.Places.{IsPlace};
-ghost use Rattle.solv_planning.specs.Filling.{filled, entered};
-ghost use Rattle.solv_planning.specs.Readiness.{IsReady, asks_for_packages};
-ghost use Rattle.solv_planning.specs.Rows.{no_rules, add_to_pack, keep_with, is_marked, is_other};
+ghost use Rattle.solv_updates.specs.Inner.Places.{IsPlace};
+ghost use Rattle.solv_planning.specs.Inner.Filling.{filled, entered};
+ghost use Rattle.solv_planning.specs.Inner.Readiness.{IsReady, asks_for_packages};
+ghost use Rattle.solv_planning.specs.Inner.Rows.{no_rules, add_to_pack, keep_with, is_marked, is_other};
 
 use crate::appending::append;
 use crate::demands::{demand, set_at};

@@ -10,10 +10,10 @@ ghost use Rattle.solv_pool.specs.declared.job_marks.Marks.{Marks};
 ghost use Rattle.solv_prov.specs.Index.{IsIndexOf};
 ghost use Rattle.solv_questions.specs.Questions.{request_of, is_first_of_name};
 ghost use Rattle.solv_plan.specs.PlanOf.{named_by, supplement_of};
-ghost use Rattle.solv_updates.specs.Places.{IsPlace};
-ghost use Rattle.solv_planning.specs.Readiness.{IsReady};
-ghost use Rattle.solv_planning.specs.Reading.{trees_of};
-ghost use Rattle.solv_planning.specs.Names.{has_supplement, is_first_of};
+ghost use Rattle.solv_updates.specs.Inner.Places.{IsPlace};
+ghost use Rattle.solv_planning.specs.Inner.Readiness.{IsReady};
+ghost use Rattle.solv_planning.specs.Inner.Reading.{trees_of};
+ghost use Rattle.solv_planning.specs.Inner.Names.{has_supplement, is_first_of};
 
 use crate::ordering::in_order;
 use crate::reading::all_wanted;

@@ -8,9 +8,9 @@ ghost use Rattle.solv_pool.specs.declared.job_marks.Marks.{Marks};
 ghost use Rattle.solv_rules.specs.Books.{read_rules};
 ghost use Rattle.solv_questions.specs.Questions.{request_of};
 ghost use Rattle.solv_plan.specs.PlanOf.{want_of, recommended_by};
-ghost use Rattle.solv_updates.specs.Places.{IsPlace};
-ghost use Rattle.solv_planning.specs.Reading.{trees_of};
-ghost use Rattle.solv_planning.specs.Rows.{wants_of};
+ghost use Rattle.solv_updates.specs.Inner.Places.{IsPlace};
+ghost use Rattle.solv_planning.specs.Inner.Reading.{trees_of};
+ghost use Rattle.solv_planning.specs.Inner.Rows.{wants_of};
 
 use crate::reading::wanted;
 use solv_base::DepId;

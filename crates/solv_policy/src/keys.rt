@@ -9,9 +9,9 @@ ghost use Rattle.solv_pool.specs.Catalog.{catalog_of};
 ghost use Rattle.solv_pool.specs.TaskBelonging.{is_pack};
 ghost use Rattle.solv_prov.specs.Index.{IsIndexOf};
 ghost use Rattle.solv_jobs.specs.Marking.{HasMarks};
-ghost use Rattle.solv_policy.specs.Candidates.{IsPlace, IsAsked, is_asked, lowest_of_name};
-ghost use Rattle.solv_policy.specs.Differences.{key_of};
-ghost use Rattle.solv_policy.specs.Gathering.{IsGathered};
+ghost use Rattle.solv_policy.specs.Inner.Candidates.{IsPlace, IsAsked, is_asked, lowest_of_name};
+ghost use Rattle.solv_policy.specs.Inner.Differences.{key_of};
+ghost use Rattle.solv_policy.specs.Inner.Gathering.{IsGathered};
 ghost use Rattle.solv_policy.specs.Policy.{lowest_namesake, name_rank, stays, favour_at};
 
 use crate::comparing::Key;

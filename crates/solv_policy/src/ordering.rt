@@ -6,8 +6,8 @@ ghost use Rattle.solv_pool.specs.Catalog.{catalog_of};
 ghost use Rattle.solv_pool.specs.TaskBelonging.{is_pack};
 ghost use Rattle.solv_prov.specs.Index.{IsIndexOf};
 ghost use Rattle.solv_jobs.specs.Marking.{HasMarks};
-ghost use Rattle.solv_policy.specs.Candidates.{IsAsked};
-ghost use Rattle.solv_policy.specs.Differences.{key_of, packs_of_keys};
+ghost use Rattle.solv_policy.specs.Inner.Candidates.{IsAsked};
+ghost use Rattle.solv_policy.specs.Inner.Differences.{key_of, packs_of_keys};
 ghost use Rattle.solv_policy.specs.Policy.{by_policy};
 
 use crate::comparing::{Key, sort_keys};

@@ -5,7 +5,7 @@ ghost use Rattle.solv_pool.specs.Belonging.{IsOver};
 ghost use Rattle.solv_pool.specs.Best.{priority_of, greater_of, top_priority};
 ghost use Rattle.solv_pool.specs.Catalog.{catalog_of, package_at, is_installed, same_name};
 ghost use Rattle.solv_pool.specs.TaskBelonging.{is_pack};
-ghost use Rattle.solv_policy.specs.Candidates.{IsPlace, priority_under};
+ghost use Rattle.solv_policy.specs.Inner.Candidates.{IsPlace, priority_under};
 
 use solv_pool::{PackNo, Package, Task};
 

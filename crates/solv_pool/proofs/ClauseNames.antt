@@ -8,9 +8,12 @@ use Rattle.solv_pool.specs.Holding.{package_meets, leaving_out}
 use Rattle.solv_pool.specs.RuleMeaning.{HardRule, not_installable, req, con, rich_con, obs, same, infarch, update, feature, install, erase, lock, best_job, best_update}
 use Rattle.solv_pool.specs.Clauses.{Literal, is_in, is_out, Clause, times, all_meeting, clauses_package_wise, clauses_of, raw_clauses, same_literal, negation, contains_literal, is_always_true, firsts, shortened, kept, number_of, in_numbers, rule_clauses}
 use Rattle.solv_pool.specs.Laws.{names_packages, names_package}
-use Rattle.solv_pool.proofs.Tests.{and_left, and_right, and_true, both, cond_both}
-use Rattle.solv_pool.proofs.Lists.{list_all_made, list_all_filter, list_all_join, list_all_flat}
+use Rattle.solv_pool.proofs.Tests.{cond_both}
+use Rattle.solv_pool.proofs.Lists.{list_all_made, list_all_flat}
 use Rattle.solv_pool.proofs.HardRules.{is_package, is_member, package-member, all_members}
+use Rattle.solv_list.proofs.Booleans.{and_true, first_of_both, second_of_both}
+use Rattle.solv_list.proofs.Lists.{list_all_filter, list_all_join}
+use Rattle.std.proofs.lemmas.Bool.{and_from}
 
 -- a test of each literal of each clause
 module _ (test : Literal → Bool) where
@@ -24,8 +27,8 @@ module _ (test : Literal → Bool) where
   firsts-each : (before c : Clause) → list_all test c ≡ true → list_all test (firsts before c) ≡ true
   firsts-each before [] h = refl
   firsts-each before (l ∷ ls) h = cond_both (list_all test) (contains_literal before l) (firsts before ls) (l ∷ firsts (l ∷ before) ls) true
-      (λ _. firsts-each before ls (and_right (test l) (list_all test ls) h))
-      (λ _. both (test l) (list_all test (firsts (l ∷ before) ls)) (and_left (test l) (list_all test ls) h) (firsts-each (l ∷ before) ls (and_right (test l) (list_all test ls) h)))
+      (λ _. firsts-each before ls (second_of_both (test l) (list_all test ls) h))
+      (λ _. and_from (test l) (list_all test (firsts (l ∷ before) ls)) (first_of_both (test l) (list_all test ls) h) (firsts-each (l ∷ before) ls (second_of_both (test l) (list_all test ls) h)))
 
 no_middle : (a b : Bool) → (a && (false && b)) ≡ true → ⊥
 no_middle true b h = cc
@@ -101,7 +104,7 @@ module _ (catalog : Catalog) where
   out-member p h = and_true _ ∙ (and_true _ ∙ package-member catalog p h)
 
   pair-members : (p q : ℕ) → is_package catalog p ≡ true → is_member catalog q ≡ true → of_members ((is_out p ∷ is_out q ∷ []) ∷ []) ≡ true
-  pair-members p q h k = and_true _ ∙ both (is_member catalog p) (is_member catalog q && true) (package-member catalog p h) (and_true _ ∙ k)
+  pair-members p q h k = and_true _ ∙ and_from (is_member catalog p) (is_member catalog q && true) (package-member catalog p h) (and_true _ ∙ k)
 
   ins-members : (xs : List ℕ) → list_all (is_package catalog) xs ≡ true → of_members (map is_in xs ∷ []) ≡ true
   ins-members xs h = and_true _ ∙ list_all_made (is_package catalog) of_member is_in (package-member catalog) xs h
@@ -111,14 +114,14 @@ module _ (catalog : Catalog) where
   raw-members (infarch p) n = out-member p n
   raw-members (req p d) n = times-each of_member ((is_out p ∷ []) ∷ []) (made None true (dependency catalog d)) (out-member p n) (clauses-members None true (dependency catalog d))
   raw-members (rich_con p d) n = times-each of_member ((is_out p ∷ []) ∷ []) (made (Some p) false (dependency catalog d)) (out-member p n) (clauses-members (Some p) false (dependency catalog d))
-  raw-members (con p d q) n = pair-members p q (and_left _ _ n) (and_right _ _ n)
-  raw-members (obs p d q) n = pair-members p q (and_left _ _ n) (package-member catalog q (and_right _ _ n))
-  raw-members (same p q) n = pair-members p q (and_left _ _ n) (package-member catalog q (and_right _ _ n))
-  raw-members (update p xs) n = ins-members xs (and_right _ _ n)
-  raw-members (feature p xs) n = ins-members xs (and_right _ _ n)
+  raw-members (con p d q) n = pair-members p q (first_of_both _ _ n) (second_of_both _ _ n)
+  raw-members (obs p d q) n = pair-members p q (first_of_both _ _ n) (package-member catalog q (second_of_both _ _ n))
+  raw-members (same p q) n = pair-members p q (first_of_both _ _ n) (package-member catalog q (second_of_both _ _ n))
+  raw-members (update p xs) n = ins-members xs (second_of_both _ _ n)
+  raw-members (feature p xs) n = ins-members xs (second_of_both _ _ n)
   raw-members (install j xs) n = ins-members xs n
   raw-members (best_job j xs) n = ins-members xs n
-  raw-members (best_update j p xs) n = ins-members xs (and_right _ _ n)
+  raw-members (best_update j p xs) n = ins-members xs (second_of_both _ _ n)
   raw-members (erase j xs) n = list_all_made (is_package catalog) (list_all of_member) (λ q. is_out q ∷ []) (λ q h. and_true _ ∙ package-member catalog q h) xs n
   raw-members (lock j xs) n = list_all_made (is_package catalog) (list_all of_member) (λ q. cond (is_installed catalog q) (is_in q) (is_out q) ∷ []) each_way xs n
     where
@@ -131,14 +134,14 @@ module _ (catalog : Catalog) where
 
   three : (c : Clause) → list_all of_member c ≡ true → list_all (is_other (is_in 0)) c ≡ true → list_all (is_other (is_out 0)) c ≡ true → list_all of_package c ≡ true
   three [] a b d = refl
-  three (l ∷ ls) a b d = both (of_package l) (list_all of_package ls)
-      (both (of_member l) (is_other (is_in 0) l && is_other (is_out 0) l) (and_left _ _ a) (both (is_other (is_in 0) l) (is_other (is_out 0) l) (and_left _ _ b) (and_left _ _ d)))
-      (three ls (and_right (of_member l) _ a) (and_right (is_other (is_in 0) l) _ b) (and_right (is_other (is_out 0) l) _ d))
+  three (l ∷ ls) a b d = and_from (of_package l) (list_all of_package ls)
+      (and_from (of_member l) (is_other (is_in 0) l && is_other (is_out 0) l) (first_of_both _ _ a) (and_from (is_other (is_in 0) l) (is_other (is_out 0) l) (first_of_both _ _ b) (first_of_both _ _ d)))
+      (three ls (second_of_both (of_member l) _ a) (second_of_both (is_other (is_in 0) l) _ b) (second_of_both (is_other (is_out 0) l) _ d))
 
   filter-other : (c : Clause) → list_all (is_other (is_out 0)) (filter (is_other (is_out 0)) c) ≡ true
   filter-other [] = refl
   filter-other (l ∷ ls) = cond_both (list_all (is_other (is_out 0))) (is_other (is_out 0) l) (l ∷ filter (is_other (is_out 0)) ls) (filter (is_other (is_out 0)) ls) true
-      (λ h. both (is_other (is_out 0) l) (list_all (is_other (is_out 0)) (filter (is_other (is_out 0)) ls)) h (filter-other ls))
+      (λ h. and_from (is_other (is_out 0) l) (list_all (is_other (is_out 0)) (filter (is_other (is_out 0)) ls)) h (filter-other ls))
       (λ _. filter-other ls)
 
   shortened-packages : (c : Clause) → list_all of_member c ≡ true → is_always_true c ≡ false → list_all of_package (shortened c) ≡ true
@@ -150,13 +153,13 @@ module _ (catalog : Catalog) where
 
   pub kept-packages : (cs : List Clause) → of_members cs ≡ true → list_all (list_all of_package) (kept cs) ≡ true
   kept-packages [] h = refl
-  kept-packages (c ∷ cs) h = step c (is_always_true c) refl (and_left (list_all of_member c) (of_members cs) h) (kept-packages cs (and_right (list_all of_member c) (of_members cs) h))
+  kept-packages (c ∷ cs) h = step c (is_always_true c) refl (first_of_both (list_all of_member c) (of_members cs) h) (kept-packages cs (second_of_both (list_all of_member c) (of_members cs) h))
     where
       step : (c : Clause) (b : Bool) → is_always_true c ≡ b → list_all of_member c ≡ true
           → list_all (list_all of_package) (map shortened (filter (λ d. not (is_always_true d)) cs)) ≡ true
           → list_all (list_all of_package) (map shortened (cond (not b) (c ∷ filter (λ d. not (is_always_true d)) cs) (filter (λ d. not (is_always_true d)) cs))) ≡ true
       step c true e m rest = rest
-      step c false e m rest = both (list_all of_package (shortened c)) _ (shortened-packages c m e) rest
+      step c false e m rest = and_from (list_all of_package (shortened c)) _ (shortened-packages c m e) rest
 
   -- a member that is not the system is a package
   member-package : (k : ℕ) → is_member catalog (suc k) ≡ true → is_package catalog (suc k) ≡ true
@@ -171,9 +174,9 @@ module _ (catalog : Catalog) where
 
   number-package : (l : Literal) → of_package l ≡ true → names_package catalog (number_of l) ≡ true
   number-package (is_in zero) h = absurd (no_middle (of_member (is_in 0)) (is_other (is_out 0) (is_in 0)) h)
-  number-package (is_in (suc k)) h = member-package k (and_left (of_member (is_in (suc k))) _ h)
+  number-package (is_in (suc k)) h = member-package k (first_of_both (of_member (is_in (suc k))) _ h)
   number-package (is_out zero) h = absurd (no_last (of_member (is_out 0)) (is_other (is_in 0) (is_out 0)) h)
-  number-package (is_out (suc k)) h = member-package k (and_left (of_member (is_out (suc k))) _ h)
+  number-package (is_out (suc k)) h = member-package k (first_of_both (of_member (is_out (suc k))) _ h)
 
   in_numbers-packages : (cs : List Clause) → list_all (list_all of_package) cs ≡ true → list_all (list_all (names_package catalog)) (in_numbers cs) ≡ true
   in_numbers-packages cs h = list_all_made (list_all of_package) (list_all (names_package catalog)) (λ c. map number_of c)

@@ -21,8 +21,12 @@ use Rattle.solv_pool.specs.RuleMeaning.{HardRule, not_installable, req, con, ric
 use Rattle.solv_pool.specs.Best.{best}
 use Rattle.solv_pool.specs.HardRules.{not_installable_rules, counted_requirements, requirement_rules, package_wise_conflicts, is_conflicting, conflicting, conflict_rules, counted_rich_conflicts, rich_conflict_rules, obsoleted, obsoletion_rules, later_namesakes, same_name_rules, rules_asked_by, rules_of_package, package_rules, inferior_packages, infarch_rules, is_kept, kept_packages, has_update_rule, update_rules, feature_rules, update_candidates, feature_candidates, numbered_jobs, rule_of_job, job_rules, best_job_rule, best_job_rules, selected_installed, best_update_rule, best_update_rules, hard_rules_by, hard_rules}
 use Rattle.solv_pool.specs.Laws.{names_packages, system_alone, AgreeOn}
-use Rattle.solv_pool.proofs.Tests.{and_left, and_right, and_true, both, or_right, ap2}
-use Rattle.solv_pool.proofs.Lists.{list_all_made, map_each, flat_each, join_six, list_all_filter, list_all_join, list_all_flat, list_all_when, list_all_option, among_itself, passes_in, list_any_agree, list_all_agree, zero_not_among, suc_not_zero}
+use Rattle.solv_pool.proofs.Tests.{ap2}
+use Rattle.solv_pool.proofs.Lists.{list_all_made, join_six, list_all_flat, list_all_when, list_all_option, among_itself, passes_in, list_any_agree, list_all_agree, zero_not_among}
+use Rattle.solv_list.proofs.Booleans.{and_true, first_of_both, second_of_both}
+use Rattle.solv_list.proofs.Lists.{list_all_filter, list_all_flat as flat_each, list_all_join, list_all_map}
+use Rattle.solv_list.proofs.Numbers.{successor_not_zero}
+use Rattle.std.proofs.lemmas.Bool.{and_from, or_right}
 
 module _ (catalog : Catalog) where
   abbrev pub is_package : ℕ → Bool
@@ -48,25 +52,25 @@ module _ (catalog : Catalog) where
 
   module _ (marks : Marks) where
     requirements-named : (p : ℕ) (a : Package) → is_package p ≡ true → list_all named (requirement_rules catalog marks p a) ≡ true
-    requirements-named p a h = map_each named (λ need. req p need.dep) (λ _. h) (counted_requirements catalog marks p a)
+    requirements-named p a h = list_all_map named (λ need. req p need.dep) (λ _. h) (counted_requirements catalog marks p a)
 
     conflicts-named : (p : ℕ) (a : Package) → is_package p ≡ true → list_all named (conflict_rules catalog marks p a) ≡ true
     conflicts-named p a h =
         flat_each named (λ d. map (con p d) (conflicting catalog marks p d)) (λ d.
-        list_all_made is_member named (con p d) (λ q k. both (is_package p) (is_member q) h k) (conflicting catalog marks p d) (list_all_filter is_member (is_conflicting catalog marks p d) (members catalog) all_members))
+        list_all_made is_member named (con p d) (λ q k. and_from (is_package p) (is_member q) h k) (conflicting catalog marks p d) (list_all_filter is_member (is_conflicting catalog marks p d) (members catalog) all_members))
         (package_wise_conflicts catalog a)
 
     rich_conflicts-named : (p : ℕ) (a : Package) → is_package p ≡ true → list_all named (rich_conflict_rules catalog marks p a) ≡ true
-    rich_conflicts-named p a h = map_each named (rich_con p) (λ _. h) (counted_rich_conflicts catalog marks p a)
+    rich_conflicts-named p a h = list_all_map named (rich_con p) (λ _. h) (counted_rich_conflicts catalog marks p a)
 
     obsoletions-named : (p : ℕ) (a : Package) → is_package p ≡ true → list_all named (obsoletion_rules catalog marks p a) ≡ true
     obsoletions-named p a h =
         flat_each named (λ d. map (obs p d) (obsoleted catalog marks p d)) (λ d.
-        list_all_made is_package named (obs p d) (λ q k. both (is_package p) (is_package q) h k) (obsoleted catalog marks p d) (filtered _))
+        list_all_made is_package named (obs p d) (λ q k. and_from (is_package p) (is_package q) h k) (obsoleted catalog marks p d) (filtered _))
         a.obsoletes
 
     same_name-named : (p : ℕ) → is_package p ≡ true → list_all named (same_name_rules catalog marks p) ≡ true
-    same_name-named p h = list_all_made is_package named (same p) (λ q k. both (is_package p) (is_package q) h k) (later_namesakes catalog marks p) (filtered _)
+    same_name-named p h = list_all_made is_package named (same p) (λ q k. and_from (is_package p) (is_package q) h k) (later_namesakes catalog marks p) (filtered _)
 
     asked-named : (p : ℕ) (a : Package) → is_package p ≡ true → list_all named (rules_asked_by catalog marks p a) ≡ true
     asked-named p a h =
@@ -88,13 +92,13 @@ module _ (catalog : Catalog) where
 
       update-named : list_all named (update_rules catalog flags marks jobs) ≡ true
       update-named =
-          list_all_made is_package named (λ p. update p (update_candidates catalog flags marks p)) (λ p k. both (is_package p) (list_all is_package (update_candidates catalog flags marks p)) k (filtered _))
+          list_all_made is_package named (λ p. update p (update_candidates catalog flags marks p)) (λ p k. and_from (is_package p) (list_all is_package (update_candidates catalog flags marks p)) k (filtered _))
           (filter (has_update_rule catalog jobs marks) (kept_packages catalog flags marks))
           (list_all_filter is_package (has_update_rule catalog jobs marks) (kept_packages catalog flags marks) kept-named)
 
       feature-named : list_all named (feature_rules catalog flags marks) ≡ true
       feature-named =
-          list_all_made is_package named (λ p. feature p (feature_candidates catalog flags marks p)) (λ p k. both (is_package p) (list_all is_package (feature_candidates catalog flags marks p)) k (filtered _))
+          list_all_made is_package named (λ p. feature p (feature_candidates catalog flags marks p)) (λ p k. and_from (is_package p) (list_all is_package (feature_candidates catalog flags marks p)) k (filtered _))
           (kept_packages catalog flags marks) kept-named
 
       of_job-named : (j : ℕ) (action : Action) (xs : List ℕ) → list_all is_package xs ≡ true → list_all named (rule_of_job j action xs) ≡ true
@@ -128,7 +132,7 @@ module _ (catalog : Catalog) where
           flat_each named (λ job. when (is_update job.1.action && job.1.forcebest) (map (best_update_rule catalog flags marks job.0) (selected_installed catalog job.1.choice))) (λ job.
           list_all_when named (is_update job.1.action && job.1.forcebest) (map (best_update_rule catalog flags marks job.0) (selected_installed catalog job.1.choice))
           (list_all_made is_package named (best_update_rule catalog flags marks job.0)
-          (λ p k. both (is_package p) (list_all is_package (best catalog (update_candidates catalog flags marks p))) k (filtered _))
+          (λ p k. and_from (is_package p) (list_all is_package (best catalog (update_candidates catalog flags marks p))) k (filtered _))
           (selected_installed catalog job.1.choice) (filtered _)))
           (numbered_jobs jobs)
 
@@ -151,7 +155,7 @@ not_alone catalog zero h = absurd (clash (zero_not_among 1 (length catalog.unive
   where
     clash : {b : Bool} → b ≡ false → b ≡ true → ⊥
     clash f t = cc
-not_alone catalog (suc k) h = suc_not_zero k
+not_alone catalog (suc k) h = successor_not_zero k
 
 -- the system alone meets a fixed rule that names packages
 pub alone-meets : (catalog : Catalog) (r : HardRule) → names_packages catalog r ≡ true → is_fixed r ≡ true → meets_rule catalog r system_alone ≡ true
@@ -164,15 +168,15 @@ alone-meets catalog (rich_con p d) n f = out _ _ (not_alone catalog p n)
   where
     out : (a b : Bool) → a ≡ false → (not a || b) ≡ true
     out a b h = rw h
-alone-meets catalog (con p d q) n f = pair _ _ (not_alone catalog p (and_left _ _ n))
+alone-meets catalog (con p d q) n f = pair _ _ (not_alone catalog p (first_of_both _ _ n))
   where
     pair : (a b : Bool) → a ≡ false → not (a && b) ≡ true
     pair a b h = rw h
-alone-meets catalog (obs p d q) n f = pair _ _ (not_alone catalog p (and_left _ _ n))
+alone-meets catalog (obs p d q) n f = pair _ _ (not_alone catalog p (first_of_both _ _ n))
   where
     pair : (a b : Bool) → a ≡ false → not (a && b) ≡ true
     pair a b h = rw h
-alone-meets catalog (same p q) n f = pair _ _ (not_alone catalog p (and_left _ _ n))
+alone-meets catalog (same p q) n f = pair _ _ (not_alone catalog p (first_of_both _ _ n))
   where
     pair : (a b : Bool) → a ≡ false → not (a && b) ≡ true
     pair a b h = rw h
@@ -214,13 +218,13 @@ module _ (catalog : Catalog) where
   meets-agree s t (req p d) h n = ap2 (λ m k. not m || k) (h p (package-member catalog p n)) (holds-agree s t h (dependency catalog d))
   meets-agree s t (rich_con p d) h n = ap2 (λ m k. not m || not k) (h p (package-member catalog p n))
       (holds-agree (leaving_out (Some p) s) (leaving_out (Some p) t) (λ q k. ap (λ b. not (q == p) && b) (h q k)) (dependency catalog d))
-  meets-agree s t (con p d q) h n = ap2 (λ m k. not (m && k)) (h p (package-member catalog p (and_left _ _ n))) (h q (and_right _ _ n))
-  meets-agree s t (obs p d q) h n = ap2 (λ m k. not (m && k)) (h p (package-member catalog p (and_left _ _ n))) (h q (package-member catalog q (and_right _ _ n)))
-  meets-agree s t (same p q) h n = ap2 (λ m k. not (m && k)) (h p (package-member catalog p (and_left _ _ n))) (h q (package-member catalog q (and_right _ _ n)))
-  meets-agree s t (update p xs) h n = list_any_agree (is_package catalog) s t (λ q k. h q (package-member catalog q k)) xs (and_right _ _ n)
-  meets-agree s t (feature p xs) h n = list_any_agree (is_package catalog) s t (λ q k. h q (package-member catalog q k)) xs (and_right _ _ n)
+  meets-agree s t (con p d q) h n = ap2 (λ m k. not (m && k)) (h p (package-member catalog p (first_of_both _ _ n))) (h q (second_of_both _ _ n))
+  meets-agree s t (obs p d q) h n = ap2 (λ m k. not (m && k)) (h p (package-member catalog p (first_of_both _ _ n))) (h q (package-member catalog q (second_of_both _ _ n)))
+  meets-agree s t (same p q) h n = ap2 (λ m k. not (m && k)) (h p (package-member catalog p (first_of_both _ _ n))) (h q (package-member catalog q (second_of_both _ _ n)))
+  meets-agree s t (update p xs) h n = list_any_agree (is_package catalog) s t (λ q k. h q (package-member catalog q k)) xs (second_of_both _ _ n)
+  meets-agree s t (feature p xs) h n = list_any_agree (is_package catalog) s t (λ q k. h q (package-member catalog q k)) xs (second_of_both _ _ n)
   meets-agree s t (install j xs) h n = list_any_agree (is_package catalog) s t (λ q k. h q (package-member catalog q k)) xs n
   meets-agree s t (erase j xs) h n = ap not (list_any_agree (is_package catalog) s t (λ q k. h q (package-member catalog q k)) xs n)
   meets-agree s t (lock j xs) h n = list_all_agree (is_package catalog) _ _ (λ q k. ap (λ b. beq b (is_installed catalog q)) (h q (package-member catalog q k))) xs n
   meets-agree s t (best_job j xs) h n = list_any_agree (is_package catalog) s t (λ q k. h q (package-member catalog q k)) xs n
-  meets-agree s t (best_update j p xs) h n = list_any_agree (is_package catalog) s t (λ q k. h q (package-member catalog q k)) xs (and_right _ _ n)
+  meets-agree s t (best_update j p xs) h n = list_any_agree (is_package catalog) s t (λ q k. h q (package-member catalog q k)) xs (second_of_both _ _ n)

@@ -3,7 +3,7 @@ use Rattle.std.proofs.Common.{◌≡◌, ℕ, Bool, true, false, not, cond, ◌&
 use Rattle.std.specs.Prelude.{filter}
 use Rattle.std.specs.Bool.{beq}
 use Rattle.std.specs.List.{list_any, list_all}
-use Rattle.std.proofs.lemmas.Bool.{eqb-true}
+use Rattle.std.proofs.lemmas.Bool.{eqb-true, and_from, or_left, or_right}
 use Rattle.std.proofs.lemmas.List.Folds.{list_all-map}
 use Rattle.solv_pool.specs.Catalog.{Catalog, dependency, is_installed}
 use Rattle.solv_pool.specs.RuleMeaning.{HardRule, not_installable, req, con, rich_con, obs, same, infarch, update, feature, install, erase, lock, best_job, best_update, meets_rule}
@@ -12,8 +12,9 @@ use Rattle.solv_base.specs.Places.{fits_place}
 use Rattle.solv_pool.specs.Holding.{holds, leaving_out}
 use Rattle.solv_pool.specs.Clauses.{Literal, is_in, is_out, Clause, clauses_of, raw_clauses, same_literal, negation, contains_literal, is_always_true, firsts, shortened, kept, number_of, in_numbers, dependency_clauses, rule_clauses, literal_true, clause_true, all_true}
 use Rattle.solv_pool.specs.Laws.{IsWellPlaced, said}
-use Rattle.solv_pool.proofs.Tests.{absorbs, or_turn, and_left, and_right, both, or_cases, or_left, or_right, or_false, and_true, not_or, true_or_false, ap2, cond_both, list_all_ext}
+use Rattle.solv_pool.proofs.Tests.{absorbs, or_turn, not_or, ap2, cond_both, list_all_ext}
 use Rattle.solv_pool.proofs.Clauses.{literal_so, clause_so, all_so, times-true, clauses-true}
+use Rattle.solv_list.proofs.Booleans.{and_true, first_of_both, or_cases, or_false, second_of_both, true_or_false}
 
 module _ (set : ℕ → Bool) (system : set 0 ≡ true) where
   same_literal-true : (l m : Literal) → same_literal l m ≡ true → literal_so set l ≡ literal_so set m
@@ -158,13 +159,13 @@ speaks l = not (same_literal (is_out 0) l)
 firsts-speak : (before c : Clause) → list_all speaks c ≡ true → list_all speaks (firsts before c) ≡ true
 firsts-speak before [] h = refl
 firsts-speak before (l ∷ ls) h = cond_both (list_all speaks) (contains_literal before l) (firsts before ls) (l ∷ firsts (l ∷ before) ls) true
-    (λ _. firsts-speak before ls (and_right (speaks l) (list_all speaks ls) h))
-    (λ _. both (speaks l) (list_all speaks (firsts (l ∷ before) ls)) (and_left (speaks l) (list_all speaks ls) h) (firsts-speak (l ∷ before) ls (and_right (speaks l) (list_all speaks ls) h)))
+    (λ _. firsts-speak before ls (second_of_both (speaks l) (list_all speaks ls) h))
+    (λ _. and_from (speaks l) (list_all speaks (firsts (l ∷ before) ls)) (first_of_both (speaks l) (list_all speaks ls) h) (firsts-speak (l ∷ before) ls (second_of_both (speaks l) (list_all speaks ls) h)))
 
 filter-speaks : (c : Clause) → list_all speaks (filter speaks c) ≡ true
 filter-speaks [] = refl
 filter-speaks (l ∷ ls) = cond_both (list_all speaks) (speaks l) (l ∷ filter speaks ls) (filter speaks ls) true
-    (λ h. both (speaks l) (list_all speaks (filter speaks ls)) h (filter-speaks ls))
+    (λ h. and_from (speaks l) (list_all speaks (filter speaks ls)) h (filter-speaks ls))
     (λ _. filter-speaks ls)
 
 module _ (set : ℕ → Bool) where
@@ -175,18 +176,18 @@ module _ (set : ℕ → Bool) where
 
   numbers-true : (c : Clause) → list_all speaks c ≡ true → clause_true set (map number_of c) ≡ clause_so set c
   numbers-true [] h = refl
-  numbers-true (l ∷ ls) h = ap2 (λ m n. m || n) (number-true l (and_left (speaks l) (list_all speaks ls) h)) (numbers-true ls (and_right (speaks l) (list_all speaks ls) h))
+  numbers-true (l ∷ ls) h = ap2 (λ m n. m || n) (number-true l (first_of_both (speaks l) (list_all speaks ls) h)) (numbers-true ls (second_of_both (speaks l) (list_all speaks ls) h))
 
   in_numbers-true : (cs : List Clause) → list_all (list_all speaks) cs ≡ true → all_true set (in_numbers cs) ≡ all_so set cs
   in_numbers-true [] h = refl
-  in_numbers-true (c ∷ cs) h = ap2 (λ m n. m && n) (numbers-true c (and_left (list_all speaks c) (list_all (list_all speaks) cs) h)) (in_numbers-true cs (and_right (list_all speaks c) (list_all (list_all speaks) cs) h))
+  in_numbers-true (c ∷ cs) h = ap2 (λ m n. m && n) (numbers-true c (first_of_both (list_all speaks c) (list_all (list_all speaks) cs) h)) (in_numbers-true cs (second_of_both (list_all speaks c) (list_all (list_all speaks) cs) h))
 
 kept-speak : (cs : List Clause) → list_all (list_all speaks) (kept cs) ≡ true
 kept-speak cs = list_all-map (list_all speaks) shortened (filter (λ c. not (is_always_true c)) cs) ∙ each (filter (λ c. not (is_always_true c)) cs)
   where
     each : (ds : List Clause) → list_all (λ d. list_all speaks (shortened d)) ds ≡ true
     each [] = refl
-    each (d ∷ ds) = both (list_all speaks (shortened d)) (list_all (λ e. list_all speaks (shortened e)) ds) (firsts-speak [] (filter speaks d) (filter-speaks d)) (each ds)
+    each (d ∷ ds) = and_from (list_all speaks (shortened d)) (list_all (λ e. list_all speaks (shortened e)) ds) (firsts-speak [] (filter speaks d) (filter-speaks d)) (each ds)
 
 -- what a set that holds the system makes of clauses is the same before and after leaving out
 pub in_numbers-kept : (set : ℕ → Bool) → set 0 ≡ true → (cs : List Clause) → all_true set (in_numbers (kept cs)) ≡ all_so set cs

@@ -25,10 +25,10 @@ use Rattle.solv_pool.specs.Clauses.{rule_clauses, all_true}
 use Rattle.solv_pool.specs.HardRules.{not_installable_rules, counted_requirements, requirement_rules, package_wise_conflicts, conflicting, conflict_rules, counted_rich_conflicts, rich_conflict_rules, obsoleted, obsoletion_rules, later_namesakes, same_name_rules, rules_asked_by, rules_of_package, package_rules, inferior_packages, infarch_rules, kept_packages, has_update_rule, update_rules, feature_rules, update_candidates, feature_candidates, numbered_jobs, rule_of_job, job_rules, best_job_rule, best_job_rules, selected_installed, best_update_rule, best_update_rules, hard_rules_by, hard_rules}
 use Rattle.solv_pool.specs.Laws.{IsWellPlaced}
 use Rattle.solv_pool.specs.TaskForms.{HasForms, has_form, is_plain_form, is_formed}
-use Rattle.solv_pool.proofs.Belongings.{all_at}
-use Rattle.solv_pool.proofs.Lists.{list_all_made, map_each, flat_each, join_six, list_all_filter, list_all_join, list_all_when, passes_in}
+use Rattle.solv_pool.proofs.Lists.{list_all_made, join_six, list_all_when, passes_in}
 use Rattle.solv_pool.proofs.RuleClauses.{rule_clauses-true}
-use Rattle.solv_pool.proofs.Tests.{and_left, and_right}
+use Rattle.solv_list.proofs.Booleans.{first_of_both, second_of_both}
+use Rattle.solv_list.proofs.Lists.{all_at, list_all_filter, list_all_flat, list_all_join, list_all_map}
 
 module _ (catalog : Catalog) where
   -- the same test as a Boolean
@@ -68,33 +68,33 @@ module _ (catalog : Catalog) where
     requirements-placed : (p : ℕ) (a : Package) → is_formed catalog a ≡ true → list_all placed (requirement_rules catalog marks p a) ≡ true
     requirements-placed p a h =
         list_all_made (λ need. has_form catalog true need.dep) placed (λ need. req p need.dep)
-        (λ need k. and_left (fits_place true (dependency catalog need.dep)) (nat_le (operators (dependency catalog need.dep)) 64) k)
+        (λ need k. first_of_both (fits_place true (dependency catalog need.dep)) (nat_le (operators (dependency catalog need.dep)) 64) k)
         (counted_requirements catalog marks p a)
-        (list_all_filter (λ need. has_form catalog true need.dep) (λ need. requirement_counts catalog marks p need.dep) a.requires_ (and_left _ _ h))
+        (list_all_filter (λ need. has_form catalog true need.dep) (λ need. requirement_counts catalog marks p need.dep) a.requires_ (first_of_both _ _ h))
 
     rich_conflicts-placed : (p : ℕ) (a : Package) → is_formed catalog a ≡ true → list_all placed (rich_conflict_rules catalog marks p a) ≡ true
     rich_conflicts-placed p a h =
         list_all_made (has_form catalog false) placed (rich_con p)
-        (λ d k. and_left (fits_place false (dependency catalog d)) (nat_le (operators (dependency catalog d)) 64) k)
+        (λ d k. first_of_both (fits_place false (dependency catalog d)) (nat_le (operators (dependency catalog d)) 64) k)
         (counted_rich_conflicts catalog marks p a)
         (list_all_filter (has_form catalog false) (λ d. not (package_wise (dependency catalog d)) && rich_conflict_counts catalog marks p d) a.conflicts
-        (and_left _ _ (and_right (list_all (λ need. has_form catalog true need.dep) a.requires_) _ h)))
+        (first_of_both _ _ (second_of_both (list_all (λ need. has_form catalog true need.dep) a.requires_) _ h)))
 
     conflicts-placed : (p : ℕ) (a : Package) → list_all placed (conflict_rules catalog marks p a) ≡ true
     conflicts-placed p a =
-        flat_each placed (λ d. map (con p d) (conflicting catalog marks p d)) (λ d. map_each placed (con p d) (λ q. refl) (conflicting catalog marks p d))
+        list_all_flat placed (λ d. map (con p d) (conflicting catalog marks p d)) (λ d. list_all_map placed (con p d) (λ q. refl) (conflicting catalog marks p d))
         (package_wise_conflicts catalog a)
 
     obsoletions-placed : (p : ℕ) (a : Package) → list_all placed (obsoletion_rules catalog marks p a) ≡ true
     obsoletions-placed p a =
-        flat_each placed (λ d. map (obs p d) (obsoleted catalog marks p d)) (λ d. map_each placed (obs p d) (λ q. refl) (obsoleted catalog marks p d)) a.obsoletes
+        list_all_flat placed (λ d. map (obs p d) (obsoleted catalog marks p d)) (λ d. list_all_map placed (obs p d) (λ q. refl) (obsoleted catalog marks p d)) a.obsoletes
 
     asked-placed : (p : ℕ) (a : Package) → is_formed catalog a ≡ true → list_all placed (rules_asked_by catalog marks p a) ≡ true
     asked-placed p a h =
         join_six placed (not_installable_rules catalog p) (requirement_rules catalog marks p a) (conflict_rules catalog marks p a) (rich_conflict_rules catalog marks p a) (obsoletion_rules catalog marks p a) (same_name_rules catalog marks p)
         (list_all_when placed (not (is_installable catalog p)) (not_installable p ∷ []) refl)
         (requirements-placed p a h) (conflicts-placed p a) (rich_conflicts-placed p a h) (obsoletions-placed p a)
-        (map_each placed (same p) (λ q. refl) (later_namesakes catalog marks p))
+        (list_all_map placed (same p) (λ q. refl) (later_namesakes catalog marks p))
 
     module _ (formed : list_all (is_formed catalog) catalog.universe.packages ≡ true) where
       at_place : (p : ℕ) (a : Package) → package_at catalog p ≡ Some a → is_formed catalog a ≡ true
@@ -109,17 +109,17 @@ module _ (catalog : Catalog) where
           each (Some a) e = asked-placed p a (at_place p a e)
 
       package_rules-placed : list_all placed (package_rules catalog marks) ≡ true
-      package_rules-placed = flat_each placed (rules_of_package catalog marks) of_package-placed (packages catalog)
+      package_rules-placed = list_all_flat placed (rules_of_package catalog marks) of_package-placed (packages catalog)
 
   module _ (flags : Flags) (marks : Marks) (jobs : List Job) where
     infarch-placed : list_all placed (infarch_rules catalog flags) ≡ true
-    infarch-placed = list_all_when placed (not flags.no_infarch_check) (map infarch (inferior_packages catalog flags)) (map_each placed infarch (λ p. refl) (inferior_packages catalog flags))
+    infarch-placed = list_all_when placed (not flags.no_infarch_check) (map infarch (inferior_packages catalog flags)) (list_all_map placed infarch (λ p. refl) (inferior_packages catalog flags))
 
     update-placed : list_all placed (update_rules catalog flags marks jobs) ≡ true
-    update-placed = map_each placed (λ p. update p (update_candidates catalog flags marks p)) (λ p. refl) (filter (has_update_rule catalog jobs marks) (kept_packages catalog flags marks))
+    update-placed = list_all_map placed (λ p. update p (update_candidates catalog flags marks p)) (λ p. refl) (filter (has_update_rule catalog jobs marks) (kept_packages catalog flags marks))
 
     feature-placed : list_all placed (feature_rules catalog flags marks) ≡ true
-    feature-placed = map_each placed (λ p. feature p (feature_candidates catalog flags marks p)) (λ p. refl) (kept_packages catalog flags marks)
+    feature-placed = list_all_map placed (λ p. feature p (feature_candidates catalog flags marks p)) (λ p. refl) (kept_packages catalog flags marks)
 
     of_job-placed : (j : ℕ) (action : Action) (xs : List ℕ) → list_all placed (rule_of_job j action xs) ≡ true
     of_job-placed j Install xs = refl
@@ -134,7 +134,7 @@ module _ (catalog : Catalog) where
     of_job-placed j Noop xs = refl
 
     job-placed : list_all placed (job_rules catalog jobs) ≡ true
-    job-placed = flat_each placed (λ job. rule_of_job job.0 job.1.action (selection catalog job.1.choice)) (λ job. of_job-placed job.0 job.1.action (selection catalog job.1.choice)) (numbered_jobs jobs)
+    job-placed = list_all_flat placed (λ job. rule_of_job job.0 job.1.action (selection catalog job.1.choice)) (λ job. of_job-placed job.0 job.1.action (selection catalog job.1.choice)) (numbered_jobs jobs)
 
     of_best-placed : (j : ℕ) (xs : List ℕ) → list_all placed (best_job_rule j xs) ≡ true
     of_best-placed j [] = refl
@@ -142,16 +142,16 @@ module _ (catalog : Catalog) where
 
     best_job-placed : list_all placed (best_job_rules catalog jobs) ≡ true
     best_job-placed =
-        flat_each placed (λ job. when (is_install job.1.action && job.1.forcebest) (best_job_rule job.0 (best catalog (selection catalog job.1.choice)))) (λ job.
+        list_all_flat placed (λ job. when (is_install job.1.action && job.1.forcebest) (best_job_rule job.0 (best catalog (selection catalog job.1.choice)))) (λ job.
         list_all_when placed (is_install job.1.action && job.1.forcebest) (best_job_rule job.0 (best catalog (selection catalog job.1.choice)))
         (of_best-placed job.0 (best catalog (selection catalog job.1.choice))))
         (numbered_jobs jobs)
 
     best_update-placed : list_all placed (best_update_rules catalog flags marks jobs) ≡ true
     best_update-placed =
-        flat_each placed (λ job. when (is_update job.1.action && job.1.forcebest) (map (best_update_rule catalog flags marks job.0) (selected_installed catalog job.1.choice))) (λ job.
+        list_all_flat placed (λ job. when (is_update job.1.action && job.1.forcebest) (map (best_update_rule catalog flags marks job.0) (selected_installed catalog job.1.choice))) (λ job.
         list_all_when placed (is_update job.1.action && job.1.forcebest) (map (best_update_rule catalog flags marks job.0) (selected_installed catalog job.1.choice))
-        (map_each placed (best_update_rule catalog flags marks job.0) (λ p. refl) (selected_installed catalog job.1.choice)))
+        (list_all_map placed (best_update_rule catalog flags marks job.0) (λ p. refl) (selected_installed catalog job.1.choice)))
         (numbered_jobs jobs)
 
     hard_rules-placed : list_all (is_formed catalog) catalog.universe.packages ≡ true → list_all placed (hard_rules_by catalog flags jobs marks) ≡ true

@@ -1,14 +1,12 @@
 -- How the definitions fit each other.
-use Rattle.std.specs.Prelude.{◌≡◌, ◌≢◌, ◌<◌, ℕ, suc, ℤ, pos, negsuc, Bool, true, false, not, ◌&&◌, ◌==◌, List, [], length, Option, Some, None, Contains}
+use Rattle.std.specs.Prelude.{◌≡◌, ◌<◌, ℕ, suc, ℤ, pos, negsuc, Bool, true, false, not, ◌&&◌, ◌==◌, List, length, Option, Some, None, Contains}
 use Rattle.std.specs.List.{list_all}
 use Rattle.solv_base.specs.Dependency.{Dep}
 use Rattle.solv_base.specs.Places.{fits_place}
 use Rattle.solv_pool.specs.Words.{is_among}
 use Rattle.solv_pool.specs.Catalog.{Catalog, catalog_of, packages, members, dependency}
 use Rattle.solv_pool.specs.Holding.{holds, leaving_out}
-use Rattle.solv_pool.specs.Installable.{is_installable}
 use Rattle.solv_pool.specs.RuleMeaning.{HardRule, not_installable, req, con, rich_con, obs, same, infarch, update, feature, install, erase, lock, best_job, best_update, meets_rule, is_fixed}
-use Rattle.solv_pool.specs.Best.{best}
 use Rattle.solv_pool.specs.HardRules.{hard_rules}
 use Rattle.solv_pool.specs.TaskForms.{HasForms}
 use Rattle.solv_pool.specs.Clauses.{clauses_of, clause_count, dependency_clauses, rule_clauses, guarded, all_true}
@@ -109,8 +107,3 @@ abbrev pub RulesSpeakOfPackages : Type 0
 RulesSpeakOfPackages = (task : Task) (s t : ℕ → Bool) (r : HardRule)
     → AgreeOn (members (catalog_of task)) s t → Contains (hard_rules task) r
     → meets_rule (catalog_of task) r s ≡ meets_rule (catalog_of task) r t
-
--- where a list has an installable package, something is best
-abbrev pub BestIsThere : Type 0
-BestIsThere = (catalog : Catalog) (list : List ℕ) (p : ℕ)
-    → is_among list p ≡ true → is_installable catalog p ≡ true → best catalog list ≢ []

@@ -6,7 +6,9 @@ use Rattle.std.proofs.lemmas.Bool.Decides.{nat_tests}
 use Rattle.solv_pool.specs.Words.{when}
 use Rattle.solv_prov.specs.declared.merging.Joint.{Joint}
 use Rattle.solv_prov.specs.declared.merging.Joint.TheVariants.{Either, Both, FirstAlone}
-use Rattle.solv_prov.specs.Merging.{is_kept, merged_beside, merged, MergingJoinsTests}
+use Rattle.solv_prov.specs.Inner.Merging.{is_kept, merged_beside, merged, MergingJoinsTests}
+use Rattle.solv_list.proofs.Lists.{below_true}
+use Rattle.solv_list.proofs.Numbers.{equal_to_itself, not_below_itself}
 
 -- each is above a number
 abbrev AreAbove : ℕ → List ℕ → Type 0
@@ -21,20 +23,11 @@ filter_above f s start (suc count) h = step (f start) (filter_above f s (start +
     step true k = (h, k)
     step false k = k
 
-lower : (s y : ℕ) → s < y → nat_lt s y ≡ true
-lower s y h = grind (arith, nat_tests, h)
-
 not_lower : (s x : ℕ) → s < x → nat_lt x s ≡ false
 not_lower s x h = grind (arith, nat_tests, h)
 
 not_same : (s x : ℕ) → s < x → (x == s) ≡ false
 not_same s x h = grind (arith, nat_tests, h)
-
-same_lower : (s : ℕ) → nat_lt s s ≡ false
-same_lower s = grind (arith, nat_tests)
-
-same_same : (s : ℕ) → (s == s) ≡ true
-same_same s = grind (arith, nat_tests)
 
 when_join : (b : Bool) (s : ℕ) (ys : List ℕ) → when b (s ∷ ys) ≡ when b (s ∷ []) ++ when b ys
 when_join true s ys = refl
@@ -43,12 +36,12 @@ when_join false s ys = refl
 module _ (joint : Joint) where
   -- a number that stands in both, in the first alone, in the second alone
   in_both : (s : ℕ) (xs ys : List ℕ) → merged joint (s ∷ xs) (s ∷ ys) ≡ when (is_kept joint true true) (s ∷ []) ++ merged joint xs ys
-  in_both s xs ys = ap (λ b. if b then when (is_kept joint true false) (s ∷ []) ++ merged joint xs (s ∷ ys) else (if s == s then when (is_kept joint true true) (s ∷ []) ++ merged joint xs ys else when (is_kept joint false true) (s ∷ []) ++ merged_beside joint s (merged joint xs) ys)) (same_lower s)
-      ∙ ap (λ b. if b then when (is_kept joint true true) (s ∷ []) ++ merged joint xs ys else when (is_kept joint false true) (s ∷ []) ++ merged_beside joint s (merged joint xs) ys) (same_same s)
+  in_both s xs ys = ap (λ b. if b then when (is_kept joint true false) (s ∷ []) ++ merged joint xs (s ∷ ys) else (if s == s then when (is_kept joint true true) (s ∷ []) ++ merged joint xs ys else when (is_kept joint false true) (s ∷ []) ++ merged_beside joint s (merged joint xs) ys)) (not_below_itself s)
+      ∙ ap (λ b. if b then when (is_kept joint true true) (s ∷ []) ++ merged joint xs ys else when (is_kept joint false true) (s ∷ []) ++ merged_beside joint s (merged joint xs) ys) (equal_to_itself s)
 
   in_first : (s : ℕ) (xs ys : List ℕ) → AreAbove s ys → merged joint (s ∷ xs) ys ≡ when (is_kept joint true false) (s ∷ []) ++ merged joint xs ys
   in_first s xs [] h = refl
-  in_first s xs (y ∷ ys) h = ap (λ b. if b then when (is_kept joint true false) (s ∷ []) ++ merged joint xs (y ∷ ys) else (if s == y then when (is_kept joint true true) (s ∷ []) ++ merged joint xs ys else when (is_kept joint false true) (y ∷ []) ++ merged_beside joint s (merged joint xs) ys)) (lower s y h.0)
+  in_first s xs (y ∷ ys) h = ap (λ b. if b then when (is_kept joint true false) (s ∷ []) ++ merged joint xs (y ∷ ys) else (if s == y then when (is_kept joint true true) (s ∷ []) ++ merged joint xs ys else when (is_kept joint false true) (y ∷ []) ++ merged_beside joint s (merged joint xs) ys)) (below_true s y h.0)
 
   in_second : (s : ℕ) (xs ys : List ℕ) → AreAbove s xs → merged joint xs (s ∷ ys) ≡ when (is_kept joint false true) (s ∷ []) ++ merged joint xs ys
   in_second s [] ys h = when_join (is_kept joint false true) s ys

@@ -7,9 +7,9 @@ use Rattle.std.proofs.lemmas.Option.{slice_get-map}
 use Rattle.std.specs.List.{range_with_len}
 use Rattle.solv_prov.specs.declared.merging.Joint.{Joint}
 use Rattle.solv_prov.specs.declared.merging.Joint.TheVariants.{Either, Both, FirstAlone}
-use Rattle.solv_prov.specs.Merging.{is_kept, merged}
+use Rattle.solv_prov.specs.Inner.Merging.{is_kept, merged}
 use Rattle.solv_prov.proofs.Merged.{merging}
-use Rattle.solv_base.specs.Pool.{uses_below}
+use Rattle.solv_base.specs.Inner.Pool.{uses_below}
 use Rattle.solv_base.specs.Dependency.{Capability, Dep, one, namespace, or, with, without, tree, tree_of_node, capability_of_node}
 use Rattle.std.proofs.lemmas.List.{length-map}
 use Rattle.solv_base.specs.declared.comparison.Cmp.{Cmp}
@@ -20,11 +20,13 @@ use Rattle.solv_pool.specs.Catalog.{Catalog, packages, members, dependency, capa
 use Rattle.solv_pool.specs.Providing.{name_of, has, has_namespace, is_named}
 use Rattle.solv_pool.specs.Holding.{package_meets}
 use Rattle.solv_prov.specs.declared.capability.Provide.{Provide}
-use Rattle.solv_prov.specs.Capabilities.{version_of}
-use Rattle.solv_prov.specs.Groups.{group_at}
-use Rattle.solv_prov.specs.Gathering.{meeting_after, named_among, AreProvides}
+use Rattle.solv_prov.specs.Inner.Capabilities.{version_of}
+use Rattle.solv_prov.specs.Inner.Groups.{group_at}
+use Rattle.solv_prov.specs.Inner.Gathering.{meeting_after, named_among, AreProvides}
 use Rattle.solv_prov.specs.Index.{relations, names, providers_of, named_by, obsoleters_of, packages_named, index_of, Index, IsIndexOf}
-use Rattle.solv_prov.proofs.Booleans.{both_left, filter_none, range_length, at_range, made_at}
+use Rattle.solv_prov.proofs.Booleans.{filter_none, at_range, made_at}
+use Rattle.solv_list.proofs.Booleans.{first_of_both}
+use Rattle.std.proofs.lemmas.List.FromFn.{length-range_with_len}
 
 -- what a relation of a dependency has
 abbrev providers_by : Catalog → Dep ℕ → List ℕ
@@ -104,10 +106,10 @@ module _ (catalog : Catalog) (id : ℕ) (node : DepNode) (held : slice_get catal
 pub IsIndexOf-made : (catalog : Catalog) (index : Index) → index ≡ index_of catalog → IsIndexOf index catalog
 IsIndexOf-made catalog index e = record {
   exact = e;
-  providers_each = ap (λ (i : Index). length i.providers) e ∙ length-map (relations catalog) (providers_of catalog) ∙ range_length 0 (length catalog.pool.nodes);
-  named_each = ap (λ (i : Index). length i.named) e ∙ length-map (relations catalog) (named_by catalog) ∙ range_length 0 (length catalog.pool.nodes);
-  by_name_each = ap (λ (i : Index). length i.by_name) e ∙ length-map (names catalog) (packages_named catalog) ∙ range_length 0 (length catalog.pool.names);
-  obsoleters_each = ap (λ (i : Index). length i.obsoleters) e ∙ length-map (members catalog) (obsoleters_of catalog) ∙ range_length 0 (suc (length catalog.universe.packages)) ∙ sym (add-one (length catalog.universe.packages));
+  providers_each = ap (λ (i : Index). length i.providers) e ∙ length-map (relations catalog) (providers_of catalog) ∙ length-range_with_len 0 (length catalog.pool.nodes);
+  named_each = ap (λ (i : Index). length i.named) e ∙ length-map (relations catalog) (named_by catalog) ∙ length-range_with_len 0 (length catalog.pool.nodes);
+  by_name_each = ap (λ (i : Index). length i.by_name) e ∙ length-map (names catalog) (packages_named catalog) ∙ length-range_with_len 0 (length catalog.pool.names);
+  obsoleters_each = ap (λ (i : Index). length i.obsoleters) e ∙ length-map (members catalog) (obsoleters_of catalog) ∙ length-range_with_len 0 (suc (length catalog.universe.packages)) ∙ sym (add-one (length catalog.universe.packages));
 }
 
 module _ (catalog : Catalog) (index : Index) (h : IsIndexOf index catalog) (k : ℕ) (list : List ℕ) where
@@ -143,7 +145,7 @@ module _ (catalog : Catalog) (id a b : ℕ) (closed : List (List ℕ)) (before :
   second_list low = list_of b low
 
   pub closed_many : length closed ≡ id
-  closed_many = ap length before ∙ length-map (range_with_len 0 id) (providers_of catalog) ∙ range_length 0 id
+  closed_many = ap length before ∙ length-map (range_with_len 0 id) (providers_of catalog) ∙ length-range_with_len 0 id
 
 module _ (catalog : Catalog) (id a b : ℕ) where
   joined : (joint : Joint) → merged joint (providers_of catalog a) (providers_of catalog b) ≡ filter (λ p. is_kept joint (package_meets catalog (dependency catalog a) p) (package_meets catalog (dependency catalog b) p)) (members catalog)
@@ -160,10 +162,10 @@ module _ (catalog : Catalog) (id a b : ℕ) where
 
 -- operands are below
 pub first_below : (names id a b : ℕ) → (nat_lt a id && (nat_lt b id && true)) ≡ true → a < id
-first_below _ id a b h = ltb-true a id (both_left (nat_lt a id) (nat_lt b id && true) h)
+first_below _ id a b h = ltb-true a id (first_of_both (nat_lt a id) (nat_lt b id && true) h)
 
 pub second_below : (names id a b : ℕ) → (nat_lt a id && (nat_lt b id && true)) ≡ true → b < id
-second_below _ id a b h = ltb-true b id (both_left (nat_lt b id) true (after (nat_lt a id) (nat_lt b id && true) h))
+second_below _ id a b h = ltb-true b id (first_of_both (nat_lt b id) true (after (nat_lt a id) (nat_lt b id && true) h))
   where
     after : (x y : Bool) → (x && y) ≡ true → y ≡ true
     after true y e = e
@@ -181,13 +183,13 @@ module _ (catalog : Catalog) (id : ℕ) (c : Capability ℕ) (groups : List (Lis
 
 -- the names of a node are held
 pub simple_within : (names nodes n : ℕ) → uses_below names nodes (Simple n) ≡ true → n < names
-simple_within names nodes n h = ltb-true n names (both_left (nat_lt n names) true (both_left (nat_lt n names && true) true h))
+simple_within names nodes n h = ltb-true n names (first_of_both (nat_lt n names) true (first_of_both (nat_lt n names && true) true h))
 
 pub versioned_within : (names nodes n : ℕ) (c : Cmp) (e : ℕ) → uses_below names nodes (Versioned n c e) ≡ true → n < names
-versioned_within names nodes n c e h = ltb-true n names (both_left (nat_lt n names) (nat_lt e names && true) (both_left (nat_lt n names && (nat_lt e names && true)) true h))
+versioned_within names nodes n c e h = ltb-true n names (first_of_both (nat_lt n names) (nat_lt e names && true) (first_of_both (nat_lt n names && (nat_lt e names && true)) true h))
 
 pub namespace_within : (names nodes n : ℕ) → uses_below names nodes (Namespace n) ≡ true → n < names
-namespace_within names nodes n h = ltb-true n names (both_left (nat_lt n names) true (both_left (nat_lt n names && true) true h))
+namespace_within names nodes n h = ltb-true n names (first_of_both (nat_lt n names) true (first_of_both (nat_lt n names && true) true h))
 
 -- the list of one more relation
 range_more : (a n : ℕ) → range_with_len a n ++ (a + n) ∷ [] ≡ range_with_len a (n + 1)

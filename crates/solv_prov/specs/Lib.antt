@@ -1,9 +1,3 @@
 pub mod Index
-pub mod Rows
-pub mod Capabilities
-pub mod Lists
-pub mod Groups
-pub mod Gathering
-pub mod Relating
-pub mod Merging
-pub mod PartsBy
+pub mod Inner
+pub mod Examples

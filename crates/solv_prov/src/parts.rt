@@ -1,6 +1,6 @@
 //! What a dependency is made of, as far as packages serve it.
 ghost use Rattle.std.specs.Prelude.{◌<◌, length};
-ghost use Rattle.solv_prov.specs.PartsBy.{AreParts};
+ghost use Rattle.solv_prov.specs.Inner.PartsBy.{AreParts};
 
 use solv_base::{DepId, DepNode, Pool};
 

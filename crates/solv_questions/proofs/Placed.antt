@@ -1,8 +1,8 @@
 -- Where what packages ask for has forms for its places, so has each rule.
-use Rattle.std.proofs.Common.{◌≡◌, ℕ, zero, suc, ◌+◌, Bool, true, false, not, ◌&&◌, List, [], ◌∷◌, Option, Some, None, inl, inr, refl, sym, ◌∙◌, ap, subst, arith}
+use Rattle.std.proofs.Common.{◌≡◌, ℕ, zero, suc, ◌+◌, Bool, true, false, not, ◌&&◌, List, [], ◌∷◌, Some, inl, inr, refl, sym, ◌∙◌, ap, subst, arith}
 use Rattle.std.specs.Prelude.{◌==◌, slice_get, unwrap_or}
 use Rattle.std.specs.List.{list_all}
-use Rattle.std.proofs.lemmas.Bool.{and_parts, false≢true, true≢false}
+use Rattle.std.proofs.lemmas.Bool.{and_parts, false≢true}
 use Rattle.solv_base.specs.Dependency.{Dep, one, namespace, and, or, with, without, if_then, if_else, unless, unless_else, missing, package_wise, operators}
 use Rattle.solv_base.specs.Places.{fits_place, unconditional}
 use Rattle.solv_pool.specs.Catalog.{package_at, dependency}
@@ -14,12 +14,8 @@ use Rattle.solv_rules.specs.Making.{asks_in_form}
 use Rattle.solv_questions.specs.Law.{AsksInForm}
 use Rattle.solv_questions.specs.Questions.{Request}
 use Rattle.solv_questions.proofs.Members.{Has, of_filtered, all_at}
-use Rattle.solv_questions.proofs.Asking.{not_so}
 use Rattle.solv_questions.proofs.Unmet.{unconditional_fits}
 use Rattle.solv_questions.proofs.Origins.{IsFrom, IsRequired, IsRichConflict}
-
-not_suc : (k : ℕ) → (suc k == 0) ≡ false
-not_suc k = grind arith
 
 more_operators : (a b : ℕ) → (a + b + 1 == 0) ≡ false
 more_operators a b = grind arith

@@ -16,7 +16,7 @@ use Rattle.solv_questions.specs.Questions.{Request, rules_of}
 use Rattle.solv_questions.proofs.Members.{Has, any_has}
 use Rattle.solv_questions.proofs.Asking.{in_range}
 use Rattle.solv_remedy.specs.Remedies.{is_fixed_at}
-use Rattle.solv_remedy.specs.Trying.{fixed_and, MeetsOn, IsLogOf, IsSetUp}
+use Rattle.solv_remedy.specs.Inner.Trying.{fixed_and, MeetsOn, IsLogOf, IsSetUp}
 
 -- a package is not the system
 not_system : (catalog : Catalog) (p : ℕ) → is_among (packages catalog) p ≡ true → (p == 0) ≡ false

@@ -6,7 +6,6 @@ use Rattle.std.specs.List.{AllZip, range_with_len}
 use Rattle.std.specs.Ordering.{int_eq}
 use Rattle.std.proofs.lemmas.Bool.{and_parts, and_from, or_cases, or_left, or_right, cases_Bool, false≢true, eqb-true, leb-true}
 use Rattle.std.proofs.lemmas.Bool.Decides.{Decides-int_eq}
-use Rattle.std.proofs.lemmas.List.Folds.{list_any-append}
 use Rattle.std.proofs.lemmas.Option.{slice_get_within}
 use Rattle.std.proofs.lemmas.Slice.Zip.{AllZip-long}
 use Rattle.solv_pool.specs.RuleMeaning.{HardRule, is_fixed, meets_rule}
@@ -27,24 +26,29 @@ use Rattle.solv_questions.specs.Questions.{Request, rules_of}
 use Rattle.solv_questions.proofs.Members.{Has, has_filtered, of_filtered, all_by, all_at}
 use Rattle.solv_decide.specs.Deciding.{Asker, IsRefuted}
 use Rattle.solv_decide.specs.Sets.{IsSetOf}
-use Rattle.solv_remedy.specs.Problems.{rested_on, meets_listed, GoodLogsRefuteTheirRules}
+use Rattle.solv_remedy.specs.Problems.{rested_on, meets_listed}
+use Rattle.solv_remedy.specs.Inner.Problems.{GoodLogsRefuteTheirRules}
 use Rattle.solv_remedy.specs.Remedies.{others, without, firsts, is_once, may_drop, is_fixed_at, listed, all_listed, rest, MeetsWithout, IsGoodProblem, IsGoodSolution, IsGoodList}
-use Rattle.solv_remedy.specs.Trying.{fixed_and, IsSetUp}
-use Rattle.solv_remedy.specs.Dropping.{is_on, IsFoundOn}
-use Rattle.solv_remedy.specs.GivingBack.{IsRefutedOn}
-use Rattle.solv_remedy.specs.Conflicts.{listed_of, AreApart, IsSettled, AreSettled}
-use Rattle.solv_remedy.specs.WaysOut.{is_unlisted, IsWayOut, IsProblemOf}
+use Rattle.solv_remedy.specs.Inner.Trying.{fixed_and, IsSetUp}
+use Rattle.solv_remedy.specs.Inner.Dropping.{is_on, IsFoundOn}
+use Rattle.solv_remedy.specs.Inner.GivingBack.{IsRefutedOn}
+use Rattle.solv_remedy.specs.Inner.Conflicts.{listed_of, AreApart, IsSettled, AreSettled}
+use Rattle.solv_remedy.specs.Inner.WaysOut.{is_unlisted, IsWayOut, IsProblemOf}
 use Rattle.solv_remedy.specs.declared.problems.Problem.{Problem}
 use Rattle.solv_remedy.specs.declared.problems.Solution.{Solution}
 use Rattle.solv_remedy.specs.declared.smallest.Conflict.{Conflict}
 use Rattle.solv_remedy.proofs.Beside.{once_parts}
-use Rattle.solv_remedy.proofs.Numbered.{both_ways, among_has, has_among, enabled_met}
+use Rattle.solv_remedy.proofs.Numbered.{enabled_met}
 use Rattle.solv_remedy.proofs.Rising.{low_out}
 use Rattle.solv_remedy.proofs.Said.{found_said, refuted_said}
 use Rattle.solv_remedy.proofs.Tried.{droppable_is, size_is, owners_within}
+use Rattle.solv_decide.proofs.SetOf.{filter_alike}
+use Rattle.solv_list.proofs.Booleans.{same_truth}
+use Rattle.solv_plan.proofs.Leaning.{among_has, has_among}
+use Rattle.solv_remedy.proofs.Back.{among_more}
 
 -- the set of a trail as a list, and as a test
-fact_over : (count : ℕ) (l : ℤ) (facts : List ℤ) → is_over count facts ≡ true → is_fact facts l ≡ true → names_package count l ≡ true
+pub fact_over : (count : ℕ) (l : ℤ) (facts : List ℤ) → is_over count facts ≡ true → is_fact facts l ≡ true → names_package count l ≡ true
 fact_over count l [] o h = absurd (false≢true h)
 fact_over count l (f ∷ fs) o h =
     let both = and_parts (names_package count f) (is_over count fs) o in
@@ -78,7 +82,7 @@ module _ (count : ℕ) (facts : List ℤ) (over : is_over count facts ≡ true) 
       inr (ranged 1 count (suc k) (omega arith) (omega (arith, low)))
 
   set_is : (p : ℕ) → is_among (filter test numbers) p ≡ test p
-  set_is p = both_ways (is_among (filter test numbers) p) (test p)
+  set_is p = same_truth (is_among (filter test numbers) p) (test p)
       (λ h. (of_filtered test numbers p (among_has (filter test numbers) p h)).1)
       (λ h. has_among (filter test numbers) p (has_filtered test numbers p (there p h) h))
 
@@ -110,13 +114,10 @@ off_is [] k = refl
 off_is (j ∷ ks) k = ap (λ b. b || is_off ks k) (turned k j) ∙ ap (λ b. (j == k) || b) (off_is ks k)
   where
     turned : (a b : ℕ) → (a == b) ≡ (b == a)
-    turned a b = both_ways (a == b) (b == a) (λ h. eq-eqb b a (sym (eqb-true a b h))) (λ h. eq-eqb a b (sym (eqb-true b a h)))
-
-among_both : (xs ys : List ℕ) (k : ℕ) → is_among (xs ++ ys) k ≡ (is_among xs k || is_among ys k)
-among_both xs ys k = list_any-append (λ y. y == k) xs ys
+    turned a b = same_truth (a == b) (b == a) (λ h. eq-eqb b a (sym (eqb-true a b h))) (λ h. eq-eqb a b (sym (eqb-true b a h)))
 
 among_without : (d : ℕ) (xs : List ℕ) (k : ℕ) → is_among (without d xs) k ≡ (is_among xs k && not (k == d))
-among_without d xs k = both_ways (is_among (without d xs) k) (is_among xs k && not (k == d))
+among_without d xs k = same_truth (is_among (without d xs) k) (is_among xs k && not (k == d))
     (λ h. let f = of_filtered (λ j. not (j == d)) xs k (among_has (without d xs) k h) in and_from (is_among xs k) (not (k == d)) (has_among xs k f.0) f.1)
     (λ h. let p = and_parts (is_among xs k) (not (k == d)) h in has_among (without d xs) k (has_filtered (λ j. not (j == d)) xs k (among_has xs k p.0) p.1))
 
@@ -140,10 +141,6 @@ only_one n k (x ∷ xs) h g =
         let same : x ≡ k = eqb-true x k e in
         ap (λ l. x ∷ l) (filter_none k xs (low_out (suc x) k xs (omega (arith, same)) up)) ∙ ap (λ j. j ∷ []) same
     by false e m up go = go m
-
-filter_alike : (p q : ℕ → Bool) (xs : List ℕ) → ((d : ℕ) → Has xs d → p d ≡ q d) → filter p xs ≡ filter q xs
-filter_alike p q [] h = refl
-filter_alike p q (x ∷ xs) h = ap (λ b. cond b (x ∷ filter p xs) (filter p xs)) (h x (inl refl)) ∙ ap (λ l. cond (q x) (x ∷ l) l) (filter_alike p q xs (λ d g. h d (inr g)))
 
 -- what holds place by place, of those that are there
 zip_there : {A B : Type 0} (R Q : A → B → Type 0) (xs : List A) (ys : List B) → ((x : A) (y : B) → Has xs x → R x y → Q x y) → AllZip R xs ys → AllZip Q xs ys
@@ -256,24 +253,24 @@ module _ (r : Request) (asker : Asker) (core : CoreOf) (book : Written) (fixed :
       here [] i e h = absurd (cc)
       here (d ∷ cs) zero e h =
           let same : d ≡ c = ap (λ o. elim o as (λ _. Conflict) [ None ↦ d | Some x ↦ x ]) e in
-          among_both d.rules (listed_of cs) k ∙ or_left (is_among d.rules k) (is_among (listed_of cs) k) (ap (λ (x : Conflict). is_among x.rules k) same ∙ h)
-      here (d ∷ cs) (suc i) e h = among_both d.rules (listed_of cs) k ∙ or_right (is_among d.rules k) (is_among (listed_of cs) k) (here cs i e h)
+          among_more d.rules (listed_of cs) k ∙ or_left (is_among d.rules k) (is_among (listed_of cs) k) (ap (λ (x : Conflict). is_among x.rules k) same ∙ h)
+      here (d ∷ cs) (suc i) e h = among_more d.rules (listed_of cs) k ∙ or_right (is_among d.rules k) (is_among (listed_of cs) k) (here cs i e h)
 
       go : (i : ℕ) (cs : List Conflict) → is_once (listed_of cs) ≡ true → slice_get cs i ≡ Some c → is_among (listed_of (others i cs)) k ≡ (is_among (listed_of cs) k && not (is_among c.rules k))
       go i [] once e = absurd (cc)
       go zero (d ∷ cs) once e =
           let parts = once_parts d.rules (listed_of cs) once in
           let same : d ≡ c = ap (λ o. elim o as (λ _. Conflict) [ None ↦ d | Some x ↦ x ]) e in
-          put_apart (is_among d.rules k) (is_among (listed_of cs) k) (parts.1.1 k) ∙ ap (λ b. b && not (is_among d.rules k)) (sym (among_both d.rules (listed_of cs) k))
+          put_apart (is_among d.rules k) (is_among (listed_of cs) k) (parts.1.1 k) ∙ ap (λ b. b && not (is_among d.rules k)) (sym (among_more d.rules (listed_of cs) k))
           ∙ ap (λ (x : Conflict). is_among (listed_of (d ∷ cs)) k && not (is_among x.rules k)) same
       go (suc i) (d ∷ cs) once e =
           let parts = once_parts d.rules (listed_of cs) once in
-          among_both d.rules (listed_of (others i cs)) k ∙ ap (λ b. is_among d.rules k || b) (go i cs parts.1.0 e)
+          among_more d.rules (listed_of (others i cs)) k ∙ ap (λ b. is_among d.rules k || b) (go i cs parts.1.0 e)
           ∙ carry (is_among d.rules k) (is_among (listed_of cs) k) (is_among c.rules k) (λ h. elim (cases_Bool (is_among c.rules k)) [
             | inr o ↦ o
             | inl m ↦ absurd (false≢true (sym (parts.1.1 k h) ∙ here cs i e m))
           ])
-          ∙ ap (λ b. b && not (is_among c.rules k)) (sym (among_both d.rules (listed_of cs) k))
+          ∙ ap (λ b. b && not (is_among c.rules k)) (sym (among_more d.rules (listed_of cs) k))
 
   -- what is listed may be dropped
   listed_free : (k : ℕ) → is_among L k ≡ true → may_drop r k ≡ true
@@ -296,8 +293,8 @@ module _ (r : Request) (asker : Asker) (core : CoreOf) (book : Written) (fixed :
         go [] i e = absurd (cc)
         go (d ∷ cs) zero e =
             let same : d ≡ a.c = ap (λ o. elim o as (λ _. Conflict) [ None ↦ d | Some x ↦ x ]) e in
-            among_both d.rules (listed_of cs) k ∙ or_left (is_among d.rules k) (is_among (listed_of cs) k) (ap (λ (x : Conflict). is_among x.rules k) same ∙ h)
-        go (d ∷ cs) (suc i) e = among_both d.rules (listed_of cs) k ∙ or_right (is_among d.rules k) (is_among (listed_of cs) k) (go cs i e)
+            among_more d.rules (listed_of cs) k ∙ or_left (is_among d.rules k) (is_among (listed_of cs) k) (ap (λ (x : Conflict). is_among x.rules k) same ∙ h)
+        go (d ∷ cs) (suc i) e = among_more d.rules (listed_of cs) k ∙ or_right (is_among d.rules k) (is_among (listed_of cs) k) (go cs i e)
 
     O_is : (k : ℕ) → is_among O k ≡ (is_among L k && not (is_among own k))
     O_is k = ap (λ l. is_among l k) a.others_same ∙ others_is i a.c a.at k
@@ -306,7 +303,7 @@ module _ (r : Request) (asker : Asker) (core : CoreOf) (book : Written) (fixed :
     own_is = lists_same a.c p a.here a.of
 
     own_named : (k : ℕ) → may_drop r k ≡ true → is_among p.rules k ≡ is_among own k
-    own_named k h = both_ways (is_among p.rules k) (is_among own k)
+    own_named k h = same_truth (is_among p.rules k) (is_among own k)
         (λ m. ap (λ l. is_among l k) (sym own_is) ∙ has_among (listed r p) k (has_filtered (may_drop r) p.rules k (among_has p.rules k m) h))
         (λ m. has_among p.rules k (of_filtered (may_drop r) p.rules k (among_has (listed r p) k (ap (λ l. is_among l k) own_is ∙ m))).0)
 
@@ -381,17 +378,17 @@ module _ (r : Request) (asker : Asker) (core : CoreOf) (book : Written) (fixed :
               off false h = refl
 
       off_both : (xs : List ℕ) (j : ℕ) → is_off (xs ++ O) j ≡ (is_among xs j || is_among O j)
-      off_both xs j = off_is (xs ++ O) j ∙ among_both xs O j
+      off_both xs j = off_is (xs ++ O) j ∙ among_more xs O j
 
       needed : (d : ℕ) (log : Log) → Has s.dropped d → IsRefutedOn r core (is_on r own k (w.left ++ d ∷ [])) log → IsRefuted r (rest r core problems i (without d s.dropped)) core log
       needed d log h t = refuted_said r (is_on r own k (w.left ++ d ∷ [])) (without d s.dropped ++ O) same asker core book fixed up log (owners_within r asker core book fixed up (length (rules_of r)) (sym (size_is r asker core book fixed up))) t
         where
           turned : (x y : ℕ) → (x == y) ≡ (y == x)
-          turned x y = both_ways (x == y) (y == x) (λ h. eq-eqb y x (sym (eqb-true x y h))) (λ h. eq-eqb x y (sym (eqb-true y x h)))
+          turned x y = same_truth (x == y) (y == x) (λ h. eq-eqb y x (sym (eqb-true x y h))) (λ h. eq-eqb x y (sym (eqb-true y x h)))
 
           same : (j : ℕ) → j < length (rules_of r) → is_on r own k (w.left ++ d ∷ []) j ≡ not (is_off (without d s.dropped ++ O) j)
           same j less =
-              ap (λ v. (fixed_and r own j && not (j == k)) || v) (among_both w.left (d ∷ []) j ∙ ap (λ v. is_among w.left j || (v || false)) (turned d j))
+              ap (λ v. (fixed_and r own j && not (j == k)) || v) (among_more w.left (d ∷ []) j ∙ ap (λ v. is_among w.left j || (v || false)) (turned d j))
               ∙ given (fixed_and r own j && not (j == k)) (is_among w.left j) (j == d) (is_among s.dropped j) (is_among O j)
               (λ e. not_others j (ap (is_among s.dropped) (eqb-true j d e) ∙ has_among s.dropped d h)) (on_is j less)
               ∙ ap (λ v. not (v || is_among O j)) (sym (among_without d s.dropped j)) ∙ ap not (sym (off_both (without d s.dropped) j))

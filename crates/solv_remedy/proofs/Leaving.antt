@@ -13,7 +13,7 @@ use Rattle.solv_derive.specs.Logs.{is_good_log}
 use Rattle.solv_derive.specs.Range.{steps_over}
 use Rattle.solv_derive.specs.declared.logs.Log.{Log}
 use Rattle.solv_trail.specs.Asked.{set_of}
-use Rattle.solv_core.specs.Contradictions.{is_of}
+use Rattle.solv_core.specs.Inner.Contradictions.{is_of}
 use Rattle.solv_core.specs.Cores.{CoreOf}
 use Rattle.solv_core.specs.GoodTrails.{facts_of}
 use Rattle.solv_core.specs.declared.refuting.RefutedRule.{RefutedRule}
@@ -24,16 +24,18 @@ use Rattle.solv_questions.proofs.Members.{has_filtered, of_filtered, all_at, any
 use Rattle.solv_decide.specs.Deciding.{Asker}
 use Rattle.solv_decide.specs.Sets.{IsSetOf}
 use Rattle.solv_remedy.specs.Problems.{rested_on}
-use Rattle.solv_remedy.specs.Trying.{IsUnsolvable, fixed_and, IsLogOf, IsSetUp}
-use Rattle.solv_remedy.specs.Dropping.{is_on, IsFoundOver, IsRemaining}
-use Rattle.solv_remedy.specs.GivingBack.{IsRefutedOn, AreKept, IsGivenBack, kept_rules}
-use Rattle.solv_remedy.specs.WaysOut.{place_among, put_among, put_all, stands_at, is_of_some, is_unlisted, AreLookedAt, IsConflictAmong, IsWayOut}
+use Rattle.solv_remedy.specs.Inner.Trying.{IsUnsolvable, fixed_and, IsLogOf, IsSetUp}
+use Rattle.solv_remedy.specs.Inner.Dropping.{is_on, IsFoundOver, IsRemaining}
+use Rattle.solv_remedy.specs.Inner.GivingBack.{IsRefutedOn, AreKept, IsGivenBack, kept_rules}
+use Rattle.solv_remedy.specs.Inner.WaysOut.{place_among, put_among, put_all, stands_at, is_of_some, is_unlisted, AreLookedAt, IsConflictAmong, IsWayOut}
 use Rattle.solv_remedy.specs.declared.dropping.Remaining.{Remaining}
 use Rattle.solv_remedy.specs.declared.giving_back.GivenBack.{GivenBack}
 use Rattle.solv_remedy.specs.declared.problems.Solution.{Solution}
 use Rattle.solv_remedy.proofs.Back.{kept_more, kept_wider, rules_more}
-use Rattle.solv_remedy.proofs.Numbered.{both_ways, among_has, has_among, enabled_met}
+use Rattle.solv_remedy.proofs.Numbered.{enabled_met}
 use Rattle.solv_remedy.proofs.Tried.{rested_fixed_or}
+use Rattle.solv_list.proofs.Booleans.{same_truth}
+use Rattle.solv_plan.proofs.Leaning.{among_has, has_among}
 
 -- the place of one, and what stands there
 pub put_at : (one : RefutedRule) (xs : List RefutedRule) → stands_at xs (place_among one.rule xs) one.rule ≡ false → insert xs (place_among one.rule xs) one ≡ put_among one xs
@@ -223,7 +225,7 @@ looked_among owners unlisted clauses (one ∷ looked) h own k g =
     by (Some owner) a b = ap (is_among unlisted) (sym (eqb-true owner one.rule a)) ∙ b
 
 pub left_among : (p : ℕ → Bool) (all unlisted : List ℕ) → all ≡ filter p unlisted → (k : ℕ) → is_among all k ≡ (is_among unlisted k && p k)
-left_among p all unlisted e k = ap (λ l. is_among l k) e ∙ both_ways (is_among (filter p unlisted) k) (is_among unlisted k && p k)
+left_among p all unlisted e k = ap (λ l. is_among l k) e ∙ same_truth (is_among (filter p unlisted) k) (is_among unlisted k && p k)
     (λ h. let f = of_filtered p unlisted k (among_has (filter p unlisted) k h) in and_from (is_among unlisted k) (p k) (has_among unlisted k f.0) f.1)
     (λ h. let f = and_parts (is_among unlisted k) (p k) h in has_among (filter p unlisted) k (has_filtered p unlisted k (among_has unlisted k f.0) f.1))
 
@@ -279,7 +281,7 @@ module _ (r : Request) (asker : Asker) (core : CoreOf) (book : Written) (fixed :
   ]
 
   kept_is : (k : ℕ) → is_among (kept_rules kept) k ≡ (is_unlisted r listed k && not (is_among g.left k))
-  kept_is k = both_ways (is_among (kept_rules kept) k) (is_unlisted r listed k && not (is_among g.left k))
+  kept_is k = same_truth (is_among (kept_rules kept) k) (is_unlisted r listed k && not (is_among g.left k))
       (λ h. and_from (is_unlisted r listed k) (not (is_among g.left k)) (kept_unlisted k h) (ap not (kept_apart r own off core g.left g.trail kept k given.found each_kept h)))
       (λ h.
       let p = and_parts (is_unlisted r listed k) (not (is_among g.left k)) h in
@@ -312,4 +314,4 @@ module _ (r : Request) (asker : Asker) (core : CoreOf) (book : Written) (fixed :
       swap false false = refl
 
       turned : (k : ℕ) → (off == k) ≡ (k == off)
-      turned k = both_ways (off == k) (k == off) (λ h. eq-eqb k off (sym (eqb-true off k h))) (λ h. eq-eqb off k (sym (eqb-true k off h)))
+      turned k = same_truth (off == k) (k == off) (λ h. eq-eqb k off (sym (eqb-true off k h))) (λ h. eq-eqb off k (sym (eqb-true k off h)))

@@ -9,7 +9,7 @@ use Rattle.solv_core.specs.declared.ledger.Ledger.{Ledger}
 use Rattle.solv_core.specs.declared.ledger.Run.{Run}
 use Rattle.solv_questions.specs.Questions.{Request, asks}
 use Rattle.solv_decide.specs.Deciding.{Asker, IsAskedFor}
-use Rattle.solv_remedy.specs.Runs.{HasRuns, is_spent}
+use Rattle.solv_remedy.specs.Inner.Runs.{HasRuns, is_spent}
 
 module _ {A : Type 0} where
   take_twice : (n m : ℕ) (xs : List A) → n ≤ m → take n (take m xs) ≡ take n xs

@@ -1,6 +1,6 @@
 -- A set that meets the rules whose clauses a log rests on makes its leaves true.
-use Rattle.std.proofs.Common.{◌≡◌, ◌⊎◌, ◌+◌, add-one, ℕ, zero, suc, Bool, true, false, eq-eqb, List, [], ◌∷◌, ◌++◌, Option, Some, None, inl, inr, refl, sym, ap, ◌∙◌, subst}
-use Rattle.std.specs.Prelude.{ℤ, ◌==◌, nat_lt, filter, flat_map, fold, length, replicate, slice_get, option_to_list, unwrap_or}
+use Rattle.std.proofs.Common.{◌≡◌, ◌⊎◌, ◌+◌, add-one, ℕ, zero, suc, Bool, true, false, List, [], ◌∷◌, ◌++◌, Option, Some, None, inl, inr, refl, sym, ap, ◌∙◌, subst}
+use Rattle.std.specs.Prelude.{ℤ, nat_lt, filter, flat_map, fold, length, replicate, slice_get, option_to_list, unwrap_or}
 use Rattle.std.specs.BTreeSet.{insert_key}
 use Rattle.std.specs.List.{list_all, enumerate_from}
 use Rattle.std.specs.Ordering.{nat_cmp, match_ordering}
@@ -20,9 +20,11 @@ use Rattle.solv_derive.specs.Range.{steps_over}
 use Rattle.solv_derive.specs.declared.logs.Step.{Step}
 use Rattle.solv_derive.specs.Leaves.{leaves, leaves_true, rule_true}
 use Rattle.solv_rules.specs.Books.{is_bookable, has_form, owners_from}
-use Rattle.solv_questions.proofs.Members.{Has, has_filtered, has_mapped, has_flat, all_by, all_at, any_at}
+use Rattle.solv_questions.proofs.Members.{Has, has_filtered, has_mapped, has_flat, all_by, all_at}
 use Rattle.solv_decide.proofs.Whole.{clauses_over}
-use Rattle.solv_remedy.specs.Problems.{owners_of, listed_rules, rested_on, meets_listed, GoodLogsRefuteTheirRules}
+use Rattle.solv_remedy.specs.Problems.{owners_of, listed_rules, rested_on, meets_listed}
+use Rattle.solv_remedy.specs.Inner.Problems.{GoodLogsRefuteTheirRules}
+use Rattle.solv_plan.proofs.Leaning.{has_among}
 
 -- a clause of the first rule has its number, and one behind them is a clause of the others
 abbrev IsOfFirst : (k : ℕ) (cs : List (List ℤ)) (owners : List ℕ) (n : ℕ) (c : List ℤ) → Type 0
@@ -114,9 +116,6 @@ has_folded x (n ∷ ns) start (inl h) = has_folded x ns (insert_key nat_cmp star
 has_folded x (n ∷ ns) start (inr (inl e)) = has_folded x ns (insert_key nat_cmp start n) (inl (has_inserted n x start (inl e)))
 has_folded x (n ∷ ns) start (inr (inr h)) = has_folded x ns (insert_key nat_cmp start n) (inr h)
 
-among : (xs : List ℕ) (x : ℕ) → Has xs x → is_among xs x ≡ true
-among xs x h = any_at (λ y. y == x) xs x h (eq-eqb x x refl)
-
 -- each leaf has a rule that is listed, which the set meets
 module _ (refute : GoodLogsRefute) (say : ClausesSayTheRule) (names : ClausesNamePackages) (catalog : Catalog) (rules : List HardRule) (steps : List Step) (bookable : list_all (is_bookable catalog) rules ≡ true) where
   module _ (set : ℕ → Bool) (zero_in : set 0 ≡ true) (all : meets_listed catalog rules (rested_on catalog rules steps) set ≡ true) where
@@ -125,7 +124,7 @@ module _ (refute : GoodLogsRefute) (say : ClausesSayTheRule) (names : ClausesNam
     of_clause n h (Some c) e =
         let w = owned catalog 0 rules n c e in
         let numbers = rested_on catalog rules steps in
-        let number : is_among numbers w.number ≡ true = among numbers w.number (has_folded w.number (owners_of (owners_from catalog 0 rules) (leaves steps)) [] (inr (kept catalog (owners_from catalog 0 rules) (leaves steps) n w.number h w.owner))) in
+        let number : is_among numbers w.number ≡ true = has_among numbers w.number (has_folded w.number (owners_of (owners_from catalog 0 rules) (leaves steps)) [] (inr (kept catalog (owners_from catalog 0 rules) (leaves steps) n w.number h w.owner))) in
         let listed : Has (listed_rules rules numbers) w.rule =
         has_mapped (λ (x : ℕ × HardRule). x.1) (filter (λ (x : ℕ × HardRule). is_among numbers x.0) (enumerate_from 0 rules)) (w.number, w.rule)
         (has_filtered (λ (x : ℕ × HardRule). is_among numbers x.0) (enumerate_from 0 rules) (w.number, w.rule) w.there number) in

@@ -17,11 +17,12 @@ use Rattle.solv_questions.proofs.Members.{Has, all_by, all_at}
 use Rattle.solv_decide.specs.Deciding.{Asker, IsSolution, IsRefuted}
 use Rattle.solv_remedy.specs.Problems.{owners_of, rested_on}
 use Rattle.solv_remedy.specs.Remedies.{all_but}
-use Rattle.solv_remedy.specs.Trying.{IsSetUp}
-use Rattle.solv_remedy.specs.Dropping.{IsFoundOn}
-use Rattle.solv_remedy.specs.GivingBack.{IsRefutedOn}
+use Rattle.solv_remedy.specs.Inner.Trying.{IsSetUp}
+use Rattle.solv_remedy.specs.Inner.Dropping.{IsFoundOn}
+use Rattle.solv_remedy.specs.Inner.GivingBack.{IsRefutedOn}
 use Rattle.solv_remedy.proofs.Listed.{has_folded, kept}
-use Rattle.solv_remedy.proofs.Numbered.{has_among, enabled_met}
+use Rattle.solv_remedy.proofs.Numbered.{enabled_met}
+use Rattle.solv_plan.proofs.Leaning.{has_among}
 
 flags_many : (n : ℕ) (off : List ℕ) → length (flags_of n off) ≡ n
 flags_many zero off = refl

@@ -6,9 +6,9 @@ ghost use Rattle.solv_pool.specs.Words.{is_among};
 ghost use Rattle.solv_core.specs.Cores.{CoreOf};
 ghost use Rattle.solv_questions.specs.Questions.{Request};
 ghost use Rattle.solv_decide.specs.Deciding.{Asker};
-ghost use Rattle.solv_remedy.specs.Trying.{is_off_in, IsLogOf, IsSetUp, IsSmallest};
-ghost use Rattle.solv_remedy.specs.Runs.{HasRuns, is_spent};
-ghost use Rattle.solv_remedy.specs.Conflicts.{droppable_count, listed_of, put_in, is_spent_rest, AreApart, IsRuleList, IsSettledAmong, IsSettled, AreSettled, IsRest, IsClashIn, AreAll};
+ghost use Rattle.solv_remedy.specs.Inner.Trying.{is_off_in, IsLogOf, IsSetUp, IsSmallest};
+ghost use Rattle.solv_remedy.specs.Inner.Runs.{HasRuns, is_spent};
+ghost use Rattle.solv_remedy.specs.Inner.Conflicts.{droppable_count, listed_of, put_in, is_spent_rest, AreApart, IsRuleList, IsSettledAmong, IsSettled, AreSettled, IsRest, IsClashIn, AreAll};
 
 use crate::conflicts::{are_unlisted, enabled_without, put};
 use crate::laws::good_logs_refute_their_rules;

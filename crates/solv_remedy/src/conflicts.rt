@@ -3,9 +3,9 @@ ghost use Rattle.std.specs.Prelude.{◌≡◌, ◌<◌, ◌≤◌, ◌&&◌, ℕ
 ghost use Rattle.std.specs.List.{list_all, range_with_len};
 ghost use Rattle.solv_pool.specs.Words.{is_among};
 ghost use Rattle.solv_trail.specs.Asked.{is_enabled};
-ghost use Rattle.solv_remedy.specs.Trying.{is_off_in};
-ghost use Rattle.solv_remedy.specs.Conflicts.{droppable_count, listed_of, first_of as the_first, place_in, put_in};
-ghost use Rattle.solv_remedy.specs.WaysOut.{is_of_enabled, is_of_some};
+ghost use Rattle.solv_remedy.specs.Inner.Trying.{is_off_in};
+ghost use Rattle.solv_remedy.specs.Inner.Conflicts.{droppable_count, listed_of, first_of as the_first, place_in, put_in};
+ghost use Rattle.solv_remedy.specs.Inner.WaysOut.{is_of_enabled, is_of_some};
 
 use crate::smallest::{Conflict, is_listed, switch_on};
 use solv_pack::RuleNo;

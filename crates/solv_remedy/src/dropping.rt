@@ -4,10 +4,10 @@ ghost use Rattle.std.specs.Option.{IfSome};
 ghost use Rattle.solv_pool.specs.Words.{is_among};
 ghost use Rattle.solv_trail.specs.Asked.{is_enabled};
 ghost use Rattle.solv_questions.specs.Questions.{Request};
-ghost use Rattle.solv_remedy.specs.Trying.{is_off_in, IsNeeded, IsSetUp};
-ghost use Rattle.solv_remedy.specs.Runs.{HasRuns, is_spent};
-ghost use Rattle.solv_remedy.specs.Dropping.{is_spent_step};
-ghost use Rattle.solv_remedy.specs.Dropping.{IsStep, IsRemaining};
+ghost use Rattle.solv_remedy.specs.Inner.Trying.{is_off_in, IsNeeded, IsSetUp};
+ghost use Rattle.solv_remedy.specs.Inner.Runs.{HasRuns, is_spent};
+ghost use Rattle.solv_remedy.specs.Inner.Dropping.{is_spent_step};
+ghost use Rattle.solv_remedy.specs.Inner.Dropping.{IsStep, IsRemaining};
 
 use crate::laws::good_logs_refute_their_rules;
 use crate::running::run_with;

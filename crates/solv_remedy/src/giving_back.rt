@@ -2,11 +2,11 @@
 ghost use Rattle.std.specs.Prelude.{◌≡◌, ◌≤◌, ◌+◌, ◌++◌, ◌∷◌, [], ℕ, true, length, is_none, IfOk};
 ghost use Rattle.std.specs.Option.{IfSome};
 ghost use Rattle.solv_questions.specs.Questions.{Request};
-ghost use Rattle.solv_remedy.specs.Dropping.{IsFoundOver};
-ghost use Rattle.solv_remedy.specs.GivingBack.{IsTry, AreKept, IsGivenBack};
-ghost use Rattle.solv_remedy.specs.Trying.{is_off_in, IsSetUp};
-ghost use Rattle.solv_remedy.specs.Runs.{HasRuns, is_spent};
-ghost use Rattle.solv_remedy.specs.GivingBack.{is_spent_try};
+ghost use Rattle.solv_remedy.specs.Inner.Dropping.{IsFoundOver};
+ghost use Rattle.solv_remedy.specs.Inner.GivingBack.{IsTry, AreKept, IsGivenBack};
+ghost use Rattle.solv_remedy.specs.Inner.Trying.{is_off_in, IsSetUp};
+ghost use Rattle.solv_remedy.specs.Inner.Runs.{HasRuns, is_spent};
+ghost use Rattle.solv_remedy.specs.Inner.GivingBack.{is_spent_try};
 
 use crate::dropping::{Remaining, enabled_left};
 use crate::laws::good_logs_refute_their_rules;

@@ -1,5 +1,5 @@
 //! What holds of problems: each law is the contract of a function that does nothing.
-ghost use Rattle.solv_remedy.specs.Problems.{GoodLogsRefuteTheirRules};
+ghost use Rattle.solv_remedy.specs.Inner.Problems.{GoodLogsRefuteTheirRules};
 
 use solv_derive::laws::good_logs_refute;
 use solv_pool::laws::{clauses_name_packages, clauses_say_the_rule};

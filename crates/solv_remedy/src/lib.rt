@@ -5,10 +5,10 @@
 //! - [`finding::problems`]: from a first refutation all problems, each with a solution for each rule that may be dropped, within a
 //!   bounded number of runs; or that the ledger is spent.
 //!
-//! `specs/Remedies` says what good problems, good solutions and good lists are, `specs/Runs` what runs leave of a ledger,
-//! `specs/Problems` which rules a derivation rests on. The others serve inner contracts: `specs/Trying`, `specs/Dropping` and
-//! `specs/GivingBack` say by tests on the numbers of rules which have a set and which have none, `specs/Conflicts` has conflicts
-//! beside each other, `specs/WaysOut` the way out of one.
+//! `specs/Remedies` says what good problems, good solutions and good lists are, `specs/Inner/Runs` what runs leave of a ledger,
+//! `specs/Problems` which rules a derivation rests on. The others serve inner contracts: `specs/Inner/Trying`, `specs/Inner/Dropping` and
+//! `specs/Inner/GivingBack` say by tests on the numbers of rules which have a set and which have none, `specs/Inner/Conflicts` has conflicts
+//! beside each other, `specs/Inner/WaysOut` the way out of one.
 //!
 //! A conflict is a list of rules that may be dropped, with a log: they and the fixed rules have no set. `singles` finds those of one
 //! rule by what follows from the fixed rules alone, without a run; `collecting` takes the others from runs without all that is

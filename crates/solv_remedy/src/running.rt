@@ -2,10 +2,10 @@
 ghost use Rattle.std.specs.Prelude.{◌≡◌, ◌≤◌, ◌+◌, ℕ, true, length, nat_lt, IfOk};
 ghost use Rattle.std.specs.List.{list_all};
 ghost use Rattle.solv_trail.specs.Asked.{is_enabled};
-ghost use Rattle.solv_core.specs.Running.{is_spent_verdict};
+ghost use Rattle.solv_core.specs.Inner.Running.{is_spent_verdict};
 ghost use Rattle.solv_questions.specs.Questions.{Request};
 ghost use Rattle.solv_decide.specs.Deciding.{IsAskedFor, IsDecided};
-ghost use Rattle.solv_remedy.specs.Runs.{HasRuns, is_spent};
+ghost use Rattle.solv_remedy.specs.Inner.Runs.{HasRuns, is_spent};
 
 use solv_core::{Core, Ledger, Verdict};
 use solv_decide::{Phases, solve};

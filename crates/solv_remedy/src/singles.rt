@@ -1,11 +1,11 @@
 //! Conflicts of single rules that may be dropped, found without a run.
 ghost use Rattle.std.specs.Prelude.{◌≡◌, ◌≤◌, ℕ, List, true, length, Bool, IfOk, OnOk};
 ghost use Rattle.solv_core.specs.Cores.{CoreOf};
-ghost use Rattle.solv_core.specs.Contradictions.{IsRefutedRule, AreRefuted};
+ghost use Rattle.solv_core.specs.Inner.Contradictions.{IsRefutedRule, AreRefuted};
 ghost use Rattle.solv_questions.specs.Questions.{Request};
 ghost use Rattle.solv_decide.specs.Deciding.{Asker};
-ghost use Rattle.solv_remedy.specs.Trying.{IsSetUp};
-ghost use Rattle.solv_remedy.specs.Conflicts.{listed_of, AreApart, IsRuleList, IsSettled, AreSettled};
+ghost use Rattle.solv_remedy.specs.Inner.Trying.{IsSetUp};
+ghost use Rattle.solv_remedy.specs.Inner.Conflicts.{listed_of, AreApart, IsRuleList, IsSettled, AreSettled};
 
 use crate::conflicts::{are_unlisted, clauses_of, put, unlisted_rules};
 use crate::laws::good_logs_refute_their_rules;

@@ -8,8 +8,8 @@ ghost use Rattle.solv_derive.specs.Leaves.{leaves as leaves_of};
 ghost use Rattle.solv_trail.specs.Asked.{is_enabled};
 ghost use Rattle.solv_remedy.specs.Problems.{owning};
 ghost use Rattle.solv_questions.specs.Questions.{Request};
-ghost use Rattle.solv_remedy.specs.Trying.{is_off_in, IsLogOf, IsSetUp, IsSmallestAmong, IsTriedOff, AreTriedOff};
-ghost use Rattle.solv_remedy.specs.Runs.{HasRuns, is_spent};
+ghost use Rattle.solv_remedy.specs.Inner.Trying.{is_off_in, IsLogOf, IsSetUp, IsSmallestAmong, IsTriedOff, AreTriedOff};
+ghost use Rattle.solv_remedy.specs.Inner.Runs.{HasRuns, is_spent};
 
 use crate::laws::good_logs_refute_their_rules;
 use crate::listing::rules_of_log;

@@ -2,7 +2,7 @@
 ghost use Rattle.std.specs.Prelude.{◌≡◌, ◌≤◌, ◌+◌, ◌++◌, ◌∷◌, [], ℕ, Bool, List, true, false, not, length, map, filter, is_none, IfOk, OnOk};
 ghost use Rattle.std.specs.List.{list_all};
 ghost use Rattle.std.specs.Option.{IfSome};
-ghost use Rattle.solv_remedy.specs.GivingBack.{kept_rules, IsGivenBack};
+ghost use Rattle.solv_remedy.specs.Inner.GivingBack.{kept_rules, IsGivenBack};
 ghost use Rattle.solv_rules.specs.Books.{Written};
 ghost use Rattle.solv_core.specs.Cores.{CoreOf};
 ghost use Rattle.solv_decide.specs.Deciding.{Asker};
@@ -10,10 +10,10 @@ ghost use Rattle.solv_remedy.specs.declared.dropping.Remaining.{Remaining as Lef
 ghost use Rattle.solv_pool.specs.Words.{is_among};
 ghost use Rattle.solv_core.specs.declared.refuting.RefutedRule.{RefutedRule as Refuted};
 ghost use Rattle.solv_questions.specs.Questions.{Request};
-ghost use Rattle.solv_remedy.specs.Trying.{is_off_in, IsNeeded, IsSetUp};
-ghost use Rattle.solv_remedy.specs.Dropping.{IsRemaining};
-ghost use Rattle.solv_remedy.specs.Runs.{HasRuns, is_spent};
-ghost use Rattle.solv_remedy.specs.WaysOut.{place_among, put_among, put_all, stands_at, is_of_some, AreLookedAt, IsConflictAmong, IsWayOut};
+ghost use Rattle.solv_remedy.specs.Inner.Trying.{is_off_in, IsNeeded, IsSetUp};
+ghost use Rattle.solv_remedy.specs.Inner.Dropping.{IsRemaining};
+ghost use Rattle.solv_remedy.specs.Inner.Runs.{HasRuns, is_spent};
+ghost use Rattle.solv_remedy.specs.Inner.WaysOut.{place_among, put_among, put_all, stands_at, is_of_some, AreLookedAt, IsConflictAmong, IsWayOut};
 ghost use Rattle.solv_decide.specs.Sets.{IsSetOf};
 
 use crate::dropping::{Remaining, drop_until_found};

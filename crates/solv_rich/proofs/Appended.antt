@@ -1,20 +1,21 @@
 -- Clauses behind others, one after another.
-use Rattle.std.proofs.Common.{◌≡◌, ◌≤◌, ◌+◌, ℕ, zero, suc, ℤ, Bool, true, false, not, ◌||◌, List, [], ◌∷◌, ◌++◌, length, take, drop, map, Option, Some, refl, sym, ap, ◌∙◌, arith, add-one, append_assoc, length-append}
-use Rattle.std.specs.Prelude.{filter, flat_map, nat_le, slice_get, unwrap_or, ◌==◌, if◌then◌else◌}
+use Rattle.std.proofs.Common.{◌≡◌, ◌≤◌, ◌+◌, ℕ, zero, suc, ℤ, Bool, true, false, not, List, [], ◌∷◌, ◌++◌, length, take, drop, map, Option, Some, refl, sym, ap, ◌∙◌, arith, add-one, append_assoc, length-append}
+use Rattle.std.specs.Prelude.{filter, flat_map, nat_le, slice_get, unwrap_or, if◌then◌else◌}
 use Rattle.std.specs.List.{list_all}
-use Rattle.std.proofs.lemmas.Bool.{and_parts, eqb-true}
+use Rattle.std.proofs.lemmas.Bool.{and_parts}
 use Rattle.std.proofs.lemmas.List.{append-nil}
 use Rattle.solv_base.specs.Dependency.{Dep}
 use Rattle.solv_pool.specs.Words.{is_among}
 use Rattle.solv_pool.specs.Catalog.{Catalog, members}
 use Rattle.solv_pool.specs.Clauses.{Literal, Clause, is_in, is_out, is_always_true, shortened, kept, in_numbers, number_of, clauses_of}
-use Rattle.solv_pool.proofs.Lists.{list_all_imp}
 use Rattle.solv_pool.proofs.ClauseNames.{clauses-members}
 use Rattle.solv_pool.proofs.ClauseNames.{package_of as named}
-use Rattle.solv_rich.specs.Counts.{ends_behind, HasAppended}
-use Rattle.solv_rich.specs.Shortening.{has_number, each_first}
+use Rattle.solv_rich.specs.Inner.Counts.{ends_behind, HasAppended}
+use Rattle.solv_rich.specs.Inner.Shortening.{has_number, each_first}
 use Rattle.solv_rich.proofs.Shortened.{shortened_is}
 use Rattle.solv_rich.proofs.Rising.{all_numbers}
+use Rattle.solv_list.proofs.Lists.{all_weaker}
+use Rattle.solv_pool.proofs.Among.{among_passes}
 
 -- a clause that not every set makes true
 pub kept_one : (c : Clause) → is_always_true c ≡ false → in_numbers (kept (c ∷ [])) ≡ map number_of (each_first [] c) ∷ []
@@ -87,18 +88,9 @@ all_at f [] k c h at = absurd (cc)
 all_at f (d ∷ cs) zero c h at = ap f (sym (ap (λ o. unwrap_or o d) at)) ∙ (and_parts (f d) (list_all f cs) h).0
 all_at f (d ∷ cs) (suc k) c h at = all_at f cs k c (and_parts (f d) (list_all f cs) h).1 at
 
--- each literal is of a package that has a number
-among_passes : (f : ℕ → Bool) (xs : List ℕ) (q : ℕ) → list_all f xs ≡ true → is_among xs q ≡ true → f q ≡ true
-among_passes f [] q h e = cc
-among_passes f (x ∷ xs) q h e = step (x == q) refl e (among_passes f xs q (and_parts (f x) (list_all f xs) h).1)
-  where
-    step : (b : Bool) → (x == q) ≡ b → (b || is_among xs q) ≡ true → (is_among xs q ≡ true → f q ≡ true) → f q ≡ true
-    step true same e later = ap f (sym (eqb-true x q same)) ∙ (and_parts (f x) (list_all f xs) h).0
-    step false same e later = later e
-
 pub numbered : (catalog : Catalog) (x : Option ℕ) (at : Bool) (d : Dep ℕ) → length catalog.universe.packages ≤ 1048575 → list_all (list_all has_number) (clauses_of catalog x at d) ≡ true
 numbered catalog x at d few =
-    list_all_imp (list_all (λ l. is_among (members catalog) (named l))) (list_all has_number) (λ c h. list_all_imp (λ l. is_among (members catalog) (named l)) has_number one_number c h) (clauses_of catalog x at d) (clauses-members catalog x at d)
+    all_weaker (list_all (λ l. is_among (members catalog) (named l))) (list_all has_number) (λ c h. all_weaker (λ l. is_among (members catalog) (named l)) has_number one_number c h) (clauses_of catalog x at d) (clauses-members catalog x at d)
   where
     one_number : (l : Literal) → is_among (members catalog) (named l) ≡ true → has_number l ≡ true
     one_number (is_in p) h = among_passes (λ q. nat_le q 1048575) (members catalog) p (all_numbers catalog few) h

@@ -8,17 +8,10 @@ use Rattle.solv_pool.specs.Holding.{package_meets}
 use Rattle.solv_base.specs.Dependency.{Dep}
 use Rattle.solv_pool.specs.Catalog.{Catalog, members}
 use Rattle.solv_pool.specs.Clauses.{all_meeting, clauses_package_wise}
-use Rattle.solv_rich.specs.Expansions.{package_clauses}
-use Rattle.solv_rich.specs.Singles.{without, rising}
+use Rattle.solv_rich.specs.Inner.Expansions.{package_clauses}
+use Rattle.solv_rich.specs.Inner.Singles.{without, rising}
 use Rattle.solv_rich.proofs.Rising.{left_out}
-
-left : (a b : Bool) → (a && b) ≡ true → a ≡ true
-left true b h = refl
-left false b h = h
-
-right : (a b : Bool) → (a && b) ≡ true → b ≡ true
-right true b h = h
-right false b h = cc
+use Rattle.solv_list.proofs.Booleans.{first_of_both, second_of_both}
 
 kept_one : (b : Bool) (q : ℕ) (rest : List ℕ) → b ≡ true → (if b && true then q ∷ rest else rest) ≡ q ∷ rest
 kept_one b q rest e = rw e refl
@@ -30,21 +23,21 @@ left_one b q rest e = rw e refl
 above : (x n : ℕ) (qs : List ℕ) → x < n → rising n qs ≡ true → without (Some x) qs ≡ qs
 above x n [] low h = refl
 above x n (q ∷ qs) low h =
-    let le : nat_le n q ≡ true = left (nat_le n q) (rising (suc q) qs) h in
+    let le : nat_le n q ≡ true = first_of_both (nat_le n q) (rising (suc q) qs) h in
     let other : not (q == x) ≡ true = grind (arith, nat_tests, le, low) in
-    kept_one (not (q == x)) q (without (Some x) qs) other ∙ ap (λ t. q ∷ t) (above x (suc q) qs (let le : n ≤ q = grind (arith, nat_tests, le) in omega (arith, le, low)) (right (nat_le n q) (rising (suc q) qs) h))
+    kept_one (not (q == x)) q (without (Some x) qs) other ∙ ap (λ t. q ∷ t) (above x (suc q) qs (let le : n ≤ q = grind (arith, nat_tests, le) in omega (arith, le, low)) (second_of_both (nat_le n q) (rising (suc q) qs) h))
 
 -- a member is not below the bound
 at_least : (n : ℕ) (qs : List ℕ) (k x : ℕ) → rising n qs ≡ true → slice_get qs k ≡ Some x → n ≤ x
 at_least n [] k x h at = absurd (cc)
 at_least n (q ∷ qs) zero x h at =
     let own : q ≡ x = ap (λ o. unwrap_or o q) at in
-    let le : nat_le n q ≡ true = left (nat_le n q) (rising (suc q) qs) h in
+    let le : nat_le n q ≡ true = first_of_both (nat_le n q) (rising (suc q) qs) h in
     rw (sym own) (let low : n ≤ q = grind (arith, nat_tests, le) in low)
 at_least n (q ∷ qs) (suc k) x h at =
-    let le : nat_le n q ≡ true = left (nat_le n q) (rising (suc q) qs) h in
+    let le : nat_le n q ≡ true = first_of_both (nat_le n q) (rising (suc q) qs) h in
     let low : n ≤ q = grind (arith, nat_tests, le) in
-    let more : suc q ≤ x = at_least (suc q) qs k x (right (nat_le n q) (rising (suc q) qs) h) at in
+    let more : suc q ≤ x = at_least (suc q) qs k x (second_of_both (nat_le n q) (rising (suc q) qs) h) at in
     omega (arith, low, more)
 
 -- those in front of it and those behind it
@@ -53,11 +46,11 @@ place_is n [] k x h at = absurd (cc)
 place_is n (q ∷ qs) zero x h at =
     let own : q ≡ x = ap (λ o. unwrap_or o q) at in
     let same : not (q == x) ≡ false = grind (arith, nat_tests, own) in
-    sym (left_one (not (q == x)) q (without (Some x) qs) same ∙ above x (suc q) qs (omega (arith, own)) (right (nat_le n q) (rising (suc q) qs) h))
+    sym (left_one (not (q == x)) q (without (Some x) qs) same ∙ above x (suc q) qs (omega (arith, own)) (second_of_both (nat_le n q) (rising (suc q) qs) h))
 place_is n (q ∷ qs) (suc k) x h at =
-    let more : suc q ≤ x = at_least (suc q) qs k x (right (nat_le n q) (rising (suc q) qs) h) at in
+    let more : suc q ≤ x = at_least (suc q) qs k x (second_of_both (nat_le n q) (rising (suc q) qs) h) at in
     let other : not (q == x) ≡ true = grind (arith, nat_tests, more) in
-    rw add-one (ap (λ t. q ∷ t) (rw add-one at (place_is (suc q) qs k x (right (nat_le n q) (rising (suc q) qs) h) at)) ∙ sym (kept_one (not (q == x)) q (without (Some x) qs) other))
+    rw add-one (ap (λ t. q ∷ t) (rw add-one at (place_is (suc q) qs k x (second_of_both (nat_le n q) (rising (suc q) qs) h) at)) ∙ sym (kept_one (not (q == x)) q (without (Some x) qs) other))
 
 all_there : (qs : List ℕ) → take (length qs) qs ++ drop (length qs + 1) qs ≡ qs
 all_there qs = ap (λ t. t ++ drop (length qs + 1) qs) (take_all (length qs) qs (omega arith)) ∙ ap (λ t. qs ++ t) (drop_all (length qs + 1) qs (omega arith)) ∙ append-nil qs

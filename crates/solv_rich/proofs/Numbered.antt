@@ -8,7 +8,8 @@ use Rattle.std.proofs.lemmas.List.{length-map}
 use Rattle.std.proofs.Math.Nat.{mod-eq-sub-mod, div-eq_of_lt, mod-eq_of_lt, div-eq-sub-div, mul-le-mul, div-lt_iff_lt-mul, mod-lt}
 use Rattle.solv_pool.specs.Clauses.{Clause, times}
 use Rattle.solv_rich.specs.Counts.{saturated}
-use Rattle.solv_rich.specs.Expansions.{CrossesAt}
+use Rattle.solv_rich.specs.Inner.Expansions.{CrossesAt}
+use Rattle.solv_pool.proofs.Counts.{length-times}
 
 pub get_front : (xs ys : List Clause) (k : ℕ) → k < length xs → slice_get (xs ++ ys) k ≡ slice_get xs k
 get_front [] ys k h = absurd (omega (arith, h))
@@ -58,13 +59,6 @@ get_times (c ∷ xs) ys k h = step (nat_lt k (length ys)) refl (get_times xs ys 
       where
         not_below : (k n : ℕ) → nat_lt k n ≡ false → n ≤ k
         not_below k n e = grind (arith, nat_tests)
-
-one_more : (m n : ℕ) → n + m * n ≡ suc m * n
-one_more m n = grind arith
-
-pub length_times : (xs ys : List Clause) → length (times xs ys) ≡ length xs * length ys
-length_times [] ys = grind arith
-length_times (c ∷ xs) ys = length-append (map (λ d. c ++ d) ys) (times xs ys) ∙ rw (length-map ys (λ (d : Clause). c ++ d), length_times xs ys) (one_more (length xs) (length ys))
 
 below_cut : (k n : ℕ) → k < saturated n → k < n
 below_cut k n h = grind (arith, nat_tests, h)
@@ -119,7 +113,7 @@ other_within m n h = let p : 1 * n ≤ m * n = mul-le-mul h le_refl in let q : 1
 
 pub crossed : (xs ys : List Clause) (count k : ℕ) → count ≡ saturated (length ys) → length (times xs ys) ≤ 65536 → k < length (times xs ys) → AreCrossed xs ys count k
 crossed xs ys count k e few there =
-    let many : length (times xs ys) ≡ length xs * length ys = length_times xs ys in
+    let many : length (times xs ys) ≡ length xs * length ys = length-times xs ys in
     let low : k < length xs * length ys = rw many at there in
     let within : length xs * length ys ≤ 65536 = rw many at few in
     let both = some_factor (length xs) (length ys) k low in

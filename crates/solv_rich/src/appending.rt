@@ -4,9 +4,9 @@ ghost use Rattle.std.specs.List.{list_all};
 ghost use Rattle.solv_pool.specs.Catalog.{catalog_of, dependency};
 ghost use Rattle.solv_pool.specs.Clauses.{Clause, clause_count, dependency_clauses, kept, in_numbers};
 ghost use Rattle.solv_prov.specs.Index.{IsIndexOf};
-ghost use Rattle.solv_rich.specs.Counts.{HasAppended};
-ghost use Rattle.solv_rich.specs.Expansions.{are_counted, clauses_in};
-ghost use Rattle.solv_rich.specs.Shortening.{has_number};
+ghost use Rattle.solv_rich.specs.Inner.Counts.{HasAppended};
+ghost use Rattle.solv_rich.specs.Inner.Expansions.{are_counted, clauses_in};
+ghost use Rattle.solv_rich.specs.Inner.Shortening.{has_number};
 
 use crate::expanding::expand;
 use crate::expansion::{Expansion, Said, count_in, put_clause};

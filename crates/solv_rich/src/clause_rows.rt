@@ -2,7 +2,7 @@
 ghost use Rattle.std.specs.Prelude.{◌≡◌, ◌∷◌, [], pos, negsuc, None, Some, true, false};
 ghost use Rattle.solv_pool.specs.Catalog.{dependency};
 ghost use Rattle.solv_pool.specs.Clauses.{clause_count, dependency_clauses};
-ghost use Rattle.solv_prov.specs.Rows.{offers};
+ghost use Rattle.solv_prov.specs.Examples.Rows.{offers};
 
 /// A is provided by 2 and 4, and B by 3 and 4. `A & B` needs one of each; against it stands each pair, and 4 alone. Without 4
 /// there is one pair. `A <IF> B` has a clause for each package that makes the condition hold, and what says that 4 is in and out is left out.

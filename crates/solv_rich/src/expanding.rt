@@ -3,8 +3,8 @@ ghost use Rattle.std.specs.Prelude.{◌≡◌, ◌≤◌, ◌<◌, ◌+◌, ◌+
 ghost use Rattle.solv_pool.specs.Clauses.{clauses_of, clauses_package_wise};
 ghost use Rattle.solv_pool.specs.Catalog.{catalog_of, dependency};
 ghost use Rattle.solv_prov.specs.Index.{IsIndexOf};
-ghost use Rattle.solv_rich.specs.Expansions.{IsExpansion, package_clauses};
-ghost use Rattle.solv_rich.specs.Singles.{without, rising};
+ghost use Rattle.solv_rich.specs.Inner.Expansions.{IsExpansion, package_clauses};
+ghost use Rattle.solv_rich.specs.Inner.Singles.{without, rising};
 
 use crate::expansion::{Expansion, cross, join};
 use crate::operators::{Parts, parts_of};

@@ -2,7 +2,7 @@
 ghost use Rattle.std.specs.Prelude.{◌≡◌, ◌≤◌, ◌<◌, ◌++◌, ◌==◌, ◌&&◌, List, length, map, slice_get, Some, true, IfOk, OnOk};
 ghost use Rattle.solv_pool.specs.Clauses.{Clause, is_in, times};
 ghost use Rattle.solv_rich.specs.Counts.{saturated};
-ghost use Rattle.solv_rich.specs.Expansions.{literal_of, clauses_in, are_counted, IsExpansion, CrossesAt};
+ghost use Rattle.solv_rich.specs.Inner.Expansions.{literal_of, clauses_in, are_counted, IsExpansion, CrossesAt};
 
 use crate::relations::{product, sum};
 use solv_pool::PackNo;

@@ -1,8 +1,8 @@
 //! What a literal says of a package.
 ghost use Rattle.std.specs.Prelude.{◌≡◌, ◌<◌, nat_le, true};
 ghost use Rattle.solv_pool.specs.Clauses.{same_literal, negation as negation_of, number_of};
-ghost use Rattle.solv_rich.specs.Expansions.{literal_of};
-ghost use Rattle.solv_rich.specs.Shortening.{package_of};
+ghost use Rattle.solv_rich.specs.Inner.Expansions.{literal_of};
+ghost use Rattle.solv_rich.specs.Inner.Shortening.{package_of};
 
 use crate::expansion::Said;
 use solv_pack::Lit;

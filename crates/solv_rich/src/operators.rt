@@ -2,7 +2,7 @@
 ghost use Rattle.std.specs.Prelude.{◌≡◌, ◌<◌, Option, ℕ, length, true, if◌then◌else◌};
 ghost use Rattle.solv_pool.specs.Catalog.{catalog_of, dependency};
 ghost use Rattle.solv_pool.specs.Clauses.{clauses_of, clause_count};
-ghost use Rattle.solv_rich.specs.Operators.{clauses_by, count_by, are_below};
+ghost use Rattle.solv_rich.specs.Inner.Operators.{clauses_by, count_by, are_below};
 ghost use Rattle.solv_rich.specs.declared.operators.Parts.TheVariants.{Nothing};
 
 use solv_base::{DepId, DepNode};

@@ -1,5 +1,5 @@
 -- What a package asks for, over the lists that the index has.
-use Rattle.std.proofs.Common.{◌≡◌, ◌<◌, ◌+◌, ◌-◌, ℕ, zero, suc, Bool, true, false, not, ◌&&◌, ◌||◌, List, [], ◌∷◌, ◌++◌, map, length, Option, Some, None, refl, sym, ap, ◌∙◌, arith, add-one, append_assoc}
+use Rattle.std.proofs.Common.{◌≡◌, ◌<◌, ◌+◌, ◌-◌, ℕ, suc, Bool, true, false, not, ◌&&◌, ◌||◌, List, [], ◌∷◌, ◌++◌, map, length, Option, Some, None, refl, sym, ap, ◌∙◌, arith, add-one, append_assoc}
 use Rattle.std.specs.Prelude.{filter, flat_map, slice_get, nat_lt, ◌==◌, if◌then◌else◌}
 use Rattle.std.specs.List.{list_all, range_with_len}
 use Rattle.std.proofs.lemmas.Bool.{ltb-true}
@@ -21,39 +21,18 @@ use Rattle.solv_pool.specs.declared.packages.Need.{Need}
 use Rattle.solv_pool.specs.declared.job_marks.Marks.{Marks}
 use Rattle.solv_pool.specs.declared.tasks.Task.{Task}
 use Rattle.solv_prov.specs.Index.{Index}
-use Rattle.solv_rules.specs.Making.{IsReady, IsSound, asks_in_form, requirements_of, is_counted_other, against, conflict_of, conflicts_of, rich_conflicts_of, all_conflicts_of, obsoletions_of, is_barred, namesakes_of}
-
-left : (a b : Bool) → (a && b) ≡ true → a ≡ true
-left true b h = refl
-left false b h = h
-
-right : (a b : Bool) → (a && b) ≡ true → b ≡ true
-right true b h = h
-right false b h = cc
-
-all_at : {X : Type 0} (p : X → Bool) (xs : List X) (k : ℕ) (x : X) → list_all p xs ≡ true → slice_get xs k ≡ Some x → p x ≡ true
-all_at p [] k x h at = cc
-all_at p (y ∷ xs) zero x h at = let same : y ≡ x = cc in rw (← same) (left (p y) (list_all p xs) h)
-all_at p (y ∷ xs) (suc k) x h at = all_at p xs k x (right (p y) (list_all p xs) h) at
-
-all_left : {X : Type 0} (p : X → Bool) (xs ys : List X) → list_all p (xs ++ ys) ≡ true → list_all p xs ≡ true
-all_left p [] ys h = refl
-all_left p (x ∷ xs) ys h = rw (left (p x) (list_all p (xs ++ ys)) h) (all_left p xs ys (right (p x) (list_all p (xs ++ ys)) h))
-
-all_right : {X : Type 0} (p : X → Bool) (xs ys : List X) → list_all p (xs ++ ys) ≡ true → list_all p ys ≡ true
-all_right p [] ys h = h
-all_right p (x ∷ xs) ys h = all_right p xs ys (right (p x) (list_all p (xs ++ ys)) h)
-
-all_of_map : (p : ℕ → Bool) (needs : List Need) → list_all p (map (λ need. need.dep) needs) ≡ true → list_all (λ need. p need.dep) needs ≡ true
-all_of_map p [] h = refl
-all_of_map p (need ∷ needs) h = rw (left (p need.dep) (list_all p (map (λ (n : Need). n.dep) needs)) h) (all_of_map p needs (right (p need.dep) (list_all p (map (λ (n : Need). n.dep) needs)) h))
+use Rattle.solv_rules.specs.Inner.Making.{IsReady, IsSound, requirements_of, is_counted_other, against, conflict_of, conflicts_of, rich_conflicts_of, all_conflicts_of, obsoletions_of, is_barred, namesakes_of}
+use Rattle.solv_rules.specs.Making.{asks_in_form}
+use Rattle.solv_list.proofs.Booleans.{first_of_both, second_of_both}
+use Rattle.solv_list.proofs.Lists.{all_at, all_left, all_right, filter_twice_againagain}
+use Rattle.solv_pool.proofs.Placed.{all_of_map}
 
 -- what has no condition may stand at a conflict
 unconditional_fits : (d : Dep ℕ) → unconditional d ≡ true → fits_place false d ≡ true
 unconditional_fits (one c) h = refl
 unconditional_fits (namespace n) h = refl
-unconditional_fits (and a b) h = rw (unconditional_fits a (left (unconditional a) (unconditional b) h)) (unconditional_fits b (right (unconditional a) (unconditional b) h))
-unconditional_fits (or a b) h = rw (unconditional_fits a (left (unconditional a) (unconditional b) h)) (unconditional_fits b (right (unconditional a) (unconditional b) h))
+unconditional_fits (and a b) h = rw (unconditional_fits a (first_of_both (unconditional a) (unconditional b) h)) (unconditional_fits b (second_of_both (unconditional a) (unconditional b) h))
+unconditional_fits (or a b) h = rw (unconditional_fits a (first_of_both (unconditional a) (unconditional b) h)) (unconditional_fits b (second_of_both (unconditional a) (unconditional b) h))
 unconditional_fits (with a b) h = h
 unconditional_fits (without a b) h = h
 unconditional_fits (if_then a b) h = cc
@@ -65,8 +44,8 @@ unconditional_fits missing h = cc
 all_fit : (catalog : Catalog) (ds : List ℕ) → list_all (λ d. unconditional (dependency catalog d)) ds ≡ true → list_all (λ d. fits_place false (dependency catalog d)) ds ≡ true
 all_fit catalog [] h = refl
 all_fit catalog (d ∷ ds) h =
-    rw (unconditional_fits (dependency catalog d) (left (unconditional (dependency catalog d)) (list_all (λ d. unconditional (dependency catalog d)) ds) h))
-    (all_fit catalog ds (right (unconditional (dependency catalog d)) (list_all (λ d. unconditional (dependency catalog d)) ds) h))
+    rw (unconditional_fits (dependency catalog d) (first_of_both (unconditional (dependency catalog d)) (list_all (λ d. unconditional (dependency catalog d)) ds) h))
+    (all_fit catalog ds (second_of_both (unconditional (dependency catalog d)) (list_all (λ d. unconditional (dependency catalog d)) ds) h))
 
 -- a package of a task that is ready
 module _ (task : Task) (index : Index) (marks : Marks) (k : ℕ) (a : Package) (ready : IsReady task index marks) (at : slice_get task.universe.packages k ≡ Some a) where
@@ -83,26 +62,17 @@ module _ (task : Task) (index : Index) (marks : Marks) (k : ℕ) (a : Package) (
   formed = all_at (asks_in_form (catalog_of task)) task.universe.packages k a ready.formed at
 
   behind : list_all below (map (λ (n : Need). n.dep) a.requires_ ++ (a.conflicts ++ (a.obsoletes ++ (a.recommends ++ (a.suggests ++ (a.supplements ++ a.enhances)))))) ≡ true
-  behind = all_right below a.provides _ (left (list_all below (relations_of a)) _ (right (list_all named (names_of a)) _ fit))
+  behind = all_right below a.provides _ (first_of_both (list_all below (relations_of a)) _ (second_of_both (list_all named (names_of a)) _ fit))
 
   pub sound : IsSound (catalog_of task) a
   sound = record {
-    name = ltb-true a.name (length task.pool.names) (left (named a.name) _ (left (list_all named (names_of a)) _ fit));
+    name = ltb-true a.name (length task.pool.names) (first_of_both (named a.name) _ (first_of_both (list_all named (names_of a)) _ fit));
     needs = all_of_map below a.requires_ (all_left below (map (λ (n : Need). n.dep) a.requires_) _ behind);
-    formed_needs = left (list_all (λ (need : Need). fits_place true (dependency (catalog_of task) need.dep)) a.requires_) _ formed;
+    formed_needs = first_of_both (list_all (λ (need : Need). fits_place true (dependency (catalog_of task) need.dep)) a.requires_) _ formed;
     conflicts = all_left below a.conflicts _ (all_right below (map (λ (n : Need). n.dep) a.requires_) _ behind);
-    formed_conflicts = all_fit (catalog_of task) a.conflicts (right (list_all (λ (need : Need). fits_place true (dependency (catalog_of task) need.dep)) a.requires_) _ formed);
+    formed_conflicts = all_fit (catalog_of task) a.conflicts (second_of_both (list_all (λ (need : Need). fits_place true (dependency (catalog_of task) need.dep)) a.requires_) _ formed);
     obsoletes = all_left below a.obsoletes _ (all_right below a.conflicts _ (all_right below (map (λ (n : Need). n.dep) a.requires_) _ behind));
   }
-
--- a test after another one
-filter_twice : (f g h : ℕ → Bool) → ((q : ℕ) → h q ≡ (g q && f q)) → (qs : List ℕ) → filter h qs ≡ filter f (filter g qs)
-filter_twice f g h same_ [] = refl
-filter_twice f g h same_ (q ∷ qs) =
-    rw (same_ q) (elim (g q) as (λ b. (if b && f q then q ∷ filter h qs else filter h qs) ≡ filter f (if b then q ∷ filter g qs else filter g qs)) [
-      | true ↦ rw (filter_twice f g h same_ qs) refl
-      | false ↦ filter_twice f g h same_ qs
-    ])
 
 first_second : (a b c : Bool) → (a && (b && c)) ≡ (b && (a && c))
 first_second true true c = refl
@@ -133,12 +103,12 @@ module _ (catalog : Catalog) (fully : Bool) (p : ℕ) where
 module _ (catalog : Catalog) (marks : Marks) (p : ℕ) where
   conflicting_is : (d : ℕ) → conflicting catalog marks p d ≡ filter (is_counted_other catalog (is_fully_counted catalog marks p) p) (filter (package_meets catalog (dependency catalog d)) (members catalog))
   conflicting_is d =
-      filter_twice (is_counted_other catalog (is_fully_counted catalog marks p) p) (package_meets catalog (dependency catalog d)) (is_conflicting catalog marks p d)
+      filter_twice_againagain (is_counted_other catalog (is_fully_counted catalog marks p) p) (package_meets catalog (dependency catalog d)) (is_conflicting catalog marks p d)
       (λ q. first_second (not (q == p)) (package_meets catalog (dependency catalog d) q) (pair_counts catalog marks p q)) (members catalog)
 
   obsoleted_is : (d : ℕ) → obsoleted catalog marks p d ≡ filter (is_counted_other catalog (is_fully_counted catalog marks p) p) (filter (covers catalog d) (packages catalog))
   obsoleted_is d =
-      filter_twice (is_counted_other catalog (is_fully_counted catalog marks p) p) (covers catalog d) (is_obsoleted catalog marks p d)
+      filter_twice_againagain (is_counted_other catalog (is_fully_counted catalog marks p) p) (covers catalog d) (is_obsoleted catalog marks p d)
       (λ q. first_second (not (q == p)) (covers catalog d q) (pair_counts catalog marks p q)) (packages catalog)
 
   conflict_rules_are : (ds : List ℕ) → flat_map (λ d. map (con p d) (conflicting catalog marks p d)) ds ≡ flat_map (conflict_of catalog (is_fully_counted catalog marks p) p) ds
@@ -171,7 +141,7 @@ module _ (catalog : Catalog) (marks : Marks) (p : ℕ) where
     namesakes_are : same_name_rules catalog marks p ≡ namesakes_of catalog marks p (filter (is_named catalog (plain a.name)) (packages catalog))
     namesakes_are =
         ap (λ qs. map (same p) qs)
-        (filter_twice (is_barred catalog marks p) (is_named catalog (plain a.name)) (is_later_namesake catalog marks p)
+        (filter_twice_againagain (is_barred catalog marks p) (is_named catalog (plain a.name)) (is_later_namesake catalog marks p)
         (λ q.
         barred (nat_lt p q) (same_name catalog p q) (marked marks.multiversion p && marked marks.multiversion q) (is_installed catalog p && is_installed catalog q)
         ∙ ap (λ b. b && is_barred catalog marks p q) (of_its_name q)) (packages catalog))

@@ -4,7 +4,8 @@ use Rattle.std.specs.Prelude.{Result, Ok, Err, OnOk, filter, if◌then◌else◌
 use Rattle.std.proofs.lemmas.List.{append-nil, map-append}
 use Rattle.solv_pool.specs.RuleMeaning.{HardRule, rule_with}
 use Rattle.solv_pool.specs.declared.hard_rules.Rule.{Rule}
-use Rattle.solv_rules.specs.Making.{Puts}
+use Rattle.solv_rules.specs.Inner.Making.{Puts}
+use Rattle.solv_list.proofs.Answers.{where_done}
 
 -- these are left to be put behind the rules in hand, so that all stand behind the old ones
 pub record IsLeft (left : List HardRule) (new : List Rule) (all : List HardRule) (old : List Rule) : Type 0 where
@@ -25,10 +26,6 @@ left_as e h = record { more = h.more; behind = h.behind; read = λ sets. ap (λ 
 
 where_failed : {T E : Type 0} (r : Result T E) (e : E) → r ≡ Err e → (X : Type 0) → OnOk r X
 where_failed r e failed X = rw failed (search rules)
-
-where_done : {T E : Type 0} (r : Result T E) (X : Type 0) → X → OnOk r X
-where_done (Ok y) X x = x
-where_done (Err e) X x = search rules
 
 -- none is left
 pub puts_all : {T E : Type 0} (all : List HardRule) (r : Result T E) (old new : List Rule) → IsLeft [] new all old → Puts all r old new

@@ -3,10 +3,11 @@ use Rattle.std.proofs.Common.{◌≡◌, ◌+◌, ◌*◌, ◌≤◌, inl, inr, 
 use Rattle.std.specs.Prelude.{Result, Ok, Err, OnOk, IfErr, nat_lt, if◌then◌else◌}
 use Rattle.std.proofs.lemmas.List.{append-nil}
 use Rattle.std.proofs.lemmas.List.Sums.{sum_by-append, sum_by-cons}
-use Rattle.solv_pack.specs.Packing.{most_rules}
+use Rattle.solv_pack.specs.Inner.Packing.{most_rules}
 use Rattle.solv_pool.specs.Clauses.{words, words_of_all}
-use Rattle.solv_rules.specs.Books.{most_words, overrun, IsDue}
-use Rattle.solv_rules.specs.Drafting.{IsDraft, HasTaken, Takes}
+use Rattle.solv_rules.specs.Books.{most_words, overrun}
+use Rattle.solv_rules.specs.Inner.Books.{IsDue}
+use Rattle.solv_rules.specs.Inner.Drafting.{IsDraft, HasTaken, Takes}
 use Rattle.solv_rules.specs.declared.drafts.Draft.{Draft}
 use Rattle.solv_rules.specs.declared.fault.BookFault.{BookFault}
 use Rattle.solv_rules.specs.declared.fault.BookFault.TheVariants.{TooManyWords, Memory}
@@ -68,7 +69,7 @@ all_left all owner old h = record { rules = refl; owners = refl; spans = refl; d
 taken : {T : Type 0} (part : List (List ℤ)) (owner : ℕ) (q : Result T BookFault) (x : T) (mid new : Draft) → q ≡ Ok x → OnOk q (HasTaken part owner mid new) → HasTaken part owner mid new
 taken part owner q x mid new fine h = rw fine at h
 
-failed_by : {T : Type 0} (q : Result T BookFault) (fault : BookFault) (due : Option BookFault) → q ≡ Err fault → IfErr q (IsDue due) → IsDue due fault
+pub failed_by : {T : Type 0} (q : Result T BookFault) (fault : BookFault) (due : Option BookFault) → q ≡ Err fault → IfErr q (IsDue due) → IsDue due fault
 failed_by q fault due failed h = rw failed at h
 
 -- one part more

@@ -1,22 +1,14 @@
 -- The clauses of rules in one list, beside them the rule of each, and why there may be none.
-use Rattle.std.specs.Prelude.{ℕ, suc, ℤ, ◌≡◌, ◌⊎◌, ◌+◌, Bool, true, false, ◌&&◌, nat_lt, nat_le, List, [], ◌∷◌, ◌++◌, length, map, flat_map, replicate, slice_get, slice_range, Option, Some, None, if◌then◌else◌}
-use Rattle.std.specs.List.{list_all}
+use Rattle.std.specs.Prelude.{ℕ, suc, ℤ, ◌≡◌, ◌+◌, Bool, true, false, ◌&&◌, nat_lt, nat_le, List, [], ◌∷◌, ◌++◌, length, map, flat_map, replicate, Option, Some, None, if◌then◌else◌}
 use Rattle.solv_base.specs.Places.{fits_place}
-use Rattle.solv_pool.specs.Catalog.{Catalog, catalog_of, dependency}
-use Rattle.solv_pool.specs.Clauses.{clause_count, rule_clauses, words, words_of_all, all_true}
-use Rattle.solv_pool.specs.Laws.{IsWellPlaced, names_packages}
-use Rattle.solv_pool.specs.RuleMeaning.{HardRule, req, rich_con, update, feature, install, erase, lock, best_job, best_update, meets_rule, rule_with}
+use Rattle.solv_pool.specs.Catalog.{Catalog, dependency}
+use Rattle.solv_pool.specs.Clauses.{clause_count, rule_clauses, words, words_of_all}
+use Rattle.solv_pool.specs.Laws.{names_packages}
+use Rattle.solv_pool.specs.RuleMeaning.{HardRule, req, rich_con, update, feature, install, erase, lock, best_job, best_update, rule_with}
 use Rattle.solv_pool.specs.declared.hard_rules.Rules.{Rules}
-use Rattle.solv_pool.specs.HardRules.{package_rules}
-use Rattle.solv_pool.specs.declared.job_marks.Marks.{Marks}
-use Rattle.solv_pool.specs.declared.tasks.Task.{Task}
-use Rattle.solv_prov.specs.Index.{Index, IsIndexOf}
 use Rattle.solv_rich.specs.Counts.{most_clauses, saturated}
-use Rattle.solv_rich.specs.declared.fault.RichFault.{RichFault}
-use Rattle.solv_rich.specs.declared.fault.RichFault.TheVariants.{TooRich as RichTooRich, Memory as RichMemory}
-use Rattle.solv_rules.specs.Making.{IsReady}
 use Rattle.solv_rules.specs.declared.fault.BookFault.{BookFault}
-use Rattle.solv_rules.specs.declared.fault.BookFault.TheVariants.{TooRich, TooManyWords, Memory}
+use Rattle.solv_rules.specs.declared.fault.BookFault.TheVariants.{TooRich, TooManyWords}
 
 -- the most words of a book: a clause takes one for each literal, and four
 abbrev pub most_words : ℕ
@@ -29,11 +21,6 @@ read_rules rules = map (rule_with rules.sets) rules.list
 -- the fault, where a dependency of a rule of p gives too many clauses
 abbrev pub rich_by : ℕ → ℕ → ℕ → Option BookFault
 rich_by p d count = if nat_lt most_clauses count then Some (TooRich p d (saturated count)) else None
-
--- the fault of a dependency of a package
-abbrev pub fault_by : ℕ → ℕ → RichFault → BookFault
-fault_by p d (RichTooRich count) = TooRich p d count
-fault_by p d RichMemory = Memory
 
 -- the fault at the first clause behind which there are too many words, where so many stand before these clauses
 abbrev pub overrun : ℕ → List (List ℤ) → Option BookFault
@@ -84,10 +71,6 @@ pub record IsBook (catalog : Catalog) (book : Written) : Type 0 where
   pub owners : book.owners ≡ owners_from catalog 0 (read_rules book.rules)
   pub spans : book.spans ≡ spans_from catalog 0 (read_rules book.rules)
 
--- the fault is want of memory, or the one that is due
-abbrev pub IsDue : Option BookFault → BookFault → Type 0
-IsDue due fault = (fault ≡ Memory) ⊎ (due ≡ Some fault)
-
 -- each is greater than the one before it, the first being no less than this number
 abbrev pub rises : ℕ → List ℕ → Bool
 rises n [] = true
@@ -113,23 +96,3 @@ module _ (catalog : Catalog) where
 
   abbrev pub is_bookable : HardRule → Bool
   is_bookable r = names_packages catalog r && has_form r
-
--- the index is of the task, and clauses can be made of each rule
-pub record AreBookable (task : Task) (index : Index) (rules : Rules) : Type 0 where
-  pub of_task : IsIndexOf index (catalog_of task)
-  pub each : list_all (is_bookable (catalog_of task)) (read_rules rules) ≡ true
-
--- the clauses of a rule stand where its span says, and a set that holds the system makes them true exactly where it meets the rule
-pub record SaysTheRule (catalog : Catalog) (book : Written) (r : HardRule) (span : ℕ × ℕ) : Type 0 where
-  pub clauses : slice_range book.clauses span.0 (span.0 + span.1) ≡ rule_clauses catalog r
-  pub meaning : (set : ℕ → Bool) → set 0 ≡ true → IsWellPlaced catalog r → all_true set (slice_range book.clauses span.0 (span.0 + span.1)) ≡ meets_rule catalog r set
-
--- so it is with each rule of each book
-abbrev pub BookSaysTheRules : Type 0
-BookSaysTheRules = (catalog : Catalog) (book : Written) → IsBook catalog book
-    → (k : ℕ) (r : HardRule) (span : ℕ × ℕ) → slice_get (read_rules book.rules) k ≡ Some r → slice_get book.spans k ≡ Some span → SaysTheRule catalog book r span
-
--- a book can be made of what packages ask for
-abbrev pub PackageRulesAreBookable : Type 0
-PackageRulesAreBookable = (task : Task) (index : Index) (marks : Marks) → IsReady task index marks
-    → list_all (is_bookable (catalog_of task)) (package_rules (catalog_of task) marks) ≡ true

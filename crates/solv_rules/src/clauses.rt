@@ -4,10 +4,10 @@ ghost use Rattle.std.specs.List.{list_all, list_any};
 ghost use Rattle.std.specs.Ordering.{int_eq};
 ghost use Rattle.solv_pool.specs.Catalog.{catalog_of, is_installed};
 ghost use Rattle.solv_pool.specs.Clauses.{is_in, is_out, number_of, kept, in_numbers, guarded};
-ghost use Rattle.solv_pack.specs.Packing.{most_literals};
-ghost use Rattle.solv_prov.specs.Lists.{pieces, AreEnds};
+ghost use Rattle.solv_pack.specs.Inner.Packing.{most_literals};
+ghost use Rattle.solv_prov.specs.Inner.Lists.{pieces, AreEnds};
 ghost use Rattle.solv_rules.specs.Books.{rises};
-ghost use Rattle.solv_rules.specs.Drafting.{IsDraft, Takes, are_few, is_number, literal_by, literals_by};
+ghost use Rattle.solv_rules.specs.Inner.Drafting.{IsDraft, Takes, are_few, is_number, literal_by, literals_by};
 
 use crate::drafts::{Draft, add_clause};
 use crate::fault::BookFault;

@@ -1,7 +1,7 @@
 //! A book while it is written.
 ghost use Rattle.std.specs.Prelude.{◌≡◌, ◌≤◌, ◌∷◌, [], length};
-ghost use Rattle.solv_pack.specs.Packing.{most_literals};
-ghost use Rattle.solv_rules.specs.Drafting.{IsDraft, Takes};
+ghost use Rattle.solv_pack.specs.Inner.Packing.{most_literals};
+ghost use Rattle.solv_rules.specs.Inner.Drafting.{IsDraft, Takes};
 
 use crate::fault::BookFault;
 use solv_pack::{Lit, PackFault, RuleMem};

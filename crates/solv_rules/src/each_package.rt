@@ -2,7 +2,7 @@
 ghost use Rattle.std.specs.Prelude.{◌≡◌, ◌<◌, ◌≤◌, Some, length};
 ghost use Rattle.solv_pool.specs.Catalog.{catalog_of, package_at};
 ghost use Rattle.solv_pool.specs.HardRules.{package_rules, rules_asked_by, rules_of_package};
-ghost use Rattle.solv_rules.specs.Making.{IsReady, IsSound, Puts};
+ghost use Rattle.solv_rules.specs.Inner.Making.{IsReady, IsSound, Puts};
 
 use crate::counting::is_fully_counted;
 use crate::making::{

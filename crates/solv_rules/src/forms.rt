@@ -1,7 +1,7 @@
 //! What the clauses of a rule look like.
 ghost use Rattle.std.specs.Prelude.{◌≡◌};
 ghost use Rattle.solv_pool.specs.RuleMeaning.{set_at};
-ghost use Rattle.solv_rules.specs.Drafting.{form_of as form_by};
+ghost use Rattle.solv_rules.specs.Inner.Drafting.{form_of as form_by};
 
 use solv_base::DepId;
 use solv_list::Items;

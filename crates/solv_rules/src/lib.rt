@@ -6,7 +6,7 @@
 //! - [`package_rules_are_bookable`]: a book can be made of what packages ask for.
 //!
 //! The rules are those of `solv_pool`'s `HardRules`, for given marks, and the clauses those of its `Clauses`. `specs/Making` says what a
-//! task has to be for the rules, and `specs/Books` what a book and its faults are. `specs/Drafting` serves inner contracts alone.
+//! task has to be for the rules, and `specs/Books` what a book and its faults are. `specs/Inner/Drafting` serves inner contracts alone.
 #![tactic(auto)]
 
 mod books;

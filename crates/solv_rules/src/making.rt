@@ -7,7 +7,7 @@ ghost use Rattle.solv_pool.specs.HardRules.{not_installable_rules};
 ghost use Rattle.solv_pool.specs.Providing.{covers};
 ghost use Rattle.solv_pool.specs.RuleMeaning.{con, obs};
 ghost use Rattle.solv_prov.specs.Index.{IsIndexOf};
-ghost use Rattle.solv_rules.specs.Making.{HasMarks, Puts, requirements_of, against, conflicts_of, rich_conflicts_of, all_conflicts_of, obsoletions_of, namesakes_of};
+ghost use Rattle.solv_rules.specs.Inner.Making.{HasMarks, Puts, requirements_of, against, conflicts_of, rich_conflicts_of, all_conflicts_of, obsoletions_of, namesakes_of};
 
 use crate::counting::{is_barred, is_counted_other, requirement_counts, rich_conflict_counts};
 use solv_base::DepId;

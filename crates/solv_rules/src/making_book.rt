@@ -5,8 +5,9 @@ ghost use Rattle.solv_pool.specs.Catalog.{catalog_of};
 ghost use Rattle.solv_pool.specs.Clauses.{rule_clauses, words_of_all};
 ghost use Rattle.solv_pool.specs.RuleMeaning.{rule_with};
 ghost use Rattle.solv_prov.specs.Index.{IsIndexOf};
-ghost use Rattle.solv_rules.specs.Books.{rich_fault, first_fault, is_bookable, IsDue};
-ghost use Rattle.solv_rules.specs.Drafting.{AddsRule, HasRules, IsDraft, TakesRule, are_few, form_fault, form_fits, form_numbers, IsEmptyDraft};
+ghost use Rattle.solv_rules.specs.Books.{rich_fault, first_fault, is_bookable};
+ghost use Rattle.solv_rules.specs.Inner.Books.{IsDue};
+ghost use Rattle.solv_rules.specs.Inner.Drafting.{AddsRule, HasRules, IsDraft, TakesRule, are_few, form_fault, form_fits, form_numbers, IsEmptyDraft};
 
 use crate::clauses::{add_each, add_pair, add_some, is_out};
 use crate::dependencies::{Scratch, add_conflict, add_requirement};

@@ -13,10 +13,11 @@ use Rattle.solv_pool.specs.declared.tasks.Task.{Task}
 use Rattle.solv_rules.specs.Books.{read_rules}
 use Rattle.solv_remedy.specs.declared.problems.Problem.{Problem}
 use Rattle.solv_remedy.specs.declared.problems.Solution.{Solution}
-use Rattle.solv_lines.specs.ResultLines as lines
+use Rattle.solv_lines.specs.ResultLines.{solution_line}
+use Rattle.solv_lines.specs.Inner.ResultLines as lines
 use Rattle.solv_lines.specs.RuleTexts.{rule_text_at, text_of_rule}
 use Rattle.solv_lines.specs.SolutionTexts.{solution_texts}
-use Rattle.solv_run.specs.Outcomes.{way_of, found_of, founds_of}
+use Rattle.solv_run.specs.Inner.Outcomes.{way_of, found_of, founds_of}
 use Rattle.solv_run.specs.Texts.{hard_rule_text, info_line, solution_lines, problem_lines}
 
 mapped_text : {X Y : Type 0} (f : X → Y) (g : Y → List ℕ) (xs : List X) (i : ℕ) → option_map_or g (slice_get (map f xs) i) [] ≡ option_map_or (λ x. g (f x)) (slice_get xs i) []
@@ -34,7 +35,7 @@ module _ (task : Task) (rules : Rules) (is : read_rules rules ≡ hard_rules tas
   infos_alike n numbers = ap (λ (t : ℕ → List ℕ). map (λ rule. codes "problem " ++ (decimal n ++ (codes " info " ++ t rule))) numbers) text_alike
 
   way_alike : (n m : ℕ) (s : Solution) → lines.solution_lines task rules n m (way_of s) ≡ solution_lines task n m s
-  way_alike n m s = ap (λ (l : List HardRule). map (lines.solution_line n m) (solution_texts task l s.dropped s.set)) is
+  way_alike n m s = ap (λ (l : List HardRule). map (solution_line n m) (solution_texts task l s.dropped s.set)) is
 
   ways_alike : (n m : ℕ) (solutions : List Solution)
       → flat_map (λ way. lines.solution_lines task rules n way.0 way.1) (enumerate_from m (map way_of solutions)) ≡ flat_map (λ x. solution_lines task n x.0 x.1) (enumerate_from m solutions)

@@ -1,5 +1,5 @@
 -- The lines of comparisons, piece by piece.
-use Rattle.std.proofs.Common.{◌≡◌, ◌+◌, ◌<◌, ℕ, zero, suc, add-one, drop, length, get_or, arith, Bool, true, false, not, List, [], ◌∷◌, ◌++◌, map, cond, refl, sym, ap, ◌∙◌, append_assoc}
+use Rattle.std.proofs.Common.{◌≡◌, ◌+◌, ℕ, Bool, true, false, not, List, [], ◌∷◌, ◌++◌, map, cond, refl, sym, ap, ◌∙◌, append_assoc}
 use Rattle.std.specs.Prelude.{filter}
 use Rattle.solv_io.specs.Lines.{ended_lines}
 use Rattle.solv_run.specs.Checks.{is_true, check_line, false_lines}
@@ -38,9 +38,3 @@ pub more : (text : List ℕ) (check : EvrCheck) (checks : List EvrCheck) → (te
 more text check checks =
     append_assoc text (ended_lines (false_lines (check ∷ []))) (ended_lines (false_lines checks))
     ∙ ap (λ t. text ++ t) (sym (ended_join (false_lines (check ∷ [])) (false_lines checks)) ∙ ap ended_lines (sym (false_join check checks)))
-
--- what is left from a place on begins with what is there
-pub drop_at : {X : Type 0} (xs : List X) (i : ℕ) (x : X) → i < length xs → x ≡ get_or xs i x → drop i xs ≡ x ∷ drop (i + 1) xs
-drop_at [] i x h e = absurd (omega (arith, h))
-drop_at (y ∷ xs) zero x h e = ap (λ z. z ∷ xs) (sym e)
-drop_at (y ∷ xs) (suc i) x h e = rw add-one (rw add-one at (drop_at xs i x (omega (arith, h)) e))

@@ -6,7 +6,8 @@ use Rattle.std.proofs.lemmas.Bool.{ltb-true, ltb-false, lt-ltb}
 use Rattle.std.proofs.lemmas.Grind.{common_steps}
 use Rattle.std.proofs.lemmas.List.{append-nil}
 use Rattle.solv_io.specs.Counters.{Rose}
-use Rattle.solv_script.specs.FileRuns.{FilesRun, AskedBesides, AreFetched, IsFront, bytes_in, Piece, HasFetched, IsRead, IsWant, HasEnded, script_piece}
+use Rattle.solv_script.specs.FileRuns.{FilesRun, AskedBesides, AreFetched, IsFront, bytes_in, Piece, HasFetched}
+use Rattle.solv_script.specs.Inner.FileRuns.{IsRead, IsWant, HasEnded, script_piece}
 use Rattle.solv_script.specs.Grammar.{Bad, most_file, script_due, script_read}
 use Rattle.solv_script.specs.ScriptsOf.{IsScriptOf}
 use Rattle.solv_script.specs.States.{State}
@@ -15,7 +16,7 @@ use Rattle.solv_script.specs.declared.scripts.ScriptFault.{ScriptFault}
 use Rattle.solv_script.specs.declared.scripts.ScriptFault.TheVariants as fault
 use Rattle.solv_run.specs.Cases.{IsNamed, HasAskedAll, HasStopped, HasAskedFront, HasScript, IsDueRun, IsRun, IsSaidFor, asked_none, asked_script, asked_more, no_file, not_read, stopped, refused, was_read}
 use Rattle.solv_run.specs.Dues.{usage_due, read_fault_due, bad_line_due}
-use Rattle.solv_run.specs.Phases.{IsRunOfBytes, IsReportedFault, HasAskedFrontOf, read, ended}
+use Rattle.solv_run.specs.Inner.Phases.{IsRunOfBytes, IsReportedFault, HasAskedFrontOf, read, ended}
 use Rattle.solv_run.specs.Runs.{SinkRun, IsReported}
 use Rattle.solv_run.specs.declared.reports.Report.{Report}
 

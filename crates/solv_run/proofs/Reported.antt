@@ -1,14 +1,7 @@
 -- What is said on both sinks.
-use Rattle.std.proofs.Common.{ℕ, ◌≡◌, ◌≤◌, List, [], ◌++◌, Option, Some, None, refl, ap, ◌∙◌, arith, take, length}
-use Rattle.std.specs.Prelude.{Result, Ok, Err, IfOk}
+use Rattle.std.proofs.Common.{ℕ, ◌≡◌, List, [], Option, Some, None, refl, ap, ◌∙◌, arith, take, length}
 use Rattle.std.proofs.lemmas.Grind.{common_steps}
 use Rattle.solv_io.specs.Writes.{then_bytes, WritesPrefix}
-use Rattle.solv_run.specs.Runs.{SinkRun}
-
--- what holds of the value of an answer, if there is one
-pub ok_map : {T F : Type 0} (P Q : T → Type 0) (r : Result T F) → ((x : T) → P x → Q x) → IfOk r P → IfOk r Q
-ok_map P Q (Ok x) f h = f x h
-ok_map P Q (Err e) f h = tt
 
 nothing_more : (before : Option (List ℕ)) → before ≡ then_bytes before []
 nothing_more None = refl

@@ -5,14 +5,15 @@ use Rattle.solv_pool.specs.Catalog.{catalog_of}
 use Rattle.solv_pool.specs.HardRules.{hard_rules}
 use Rattle.solv_rules.specs.Books.{first_fault}
 use Rattle.solv_rules.specs.declared.fault.BookFault.{BookFault}
-use Rattle.solv_script.specs.FileRuns.{FilesRun, IsRead, HasEnded, script_piece}
+use Rattle.solv_script.specs.FileRuns.{FilesRun}
+use Rattle.solv_script.specs.Inner.FileRuns.{IsRead, HasEnded, script_piece}
 use Rattle.solv_script.specs.declared.scripts.Script.{Script}
 use Rattle.solv_script.specs.declared.scripts.ScriptFault.{ScriptFault}
 use Rattle.solv_answers.specs.Answers.{IsAnswer, IsTransactionUnlessChoicesClash}
 use Rattle.solv_answers.specs.declared.answers.Answer.{Answer}
 use Rattle.solv_run.specs.Cases.{IsSaidFor, passes, answered}
 use Rattle.solv_run.specs.Dues.{limit_due, limit_line, line_due, answer_due, budget}
-use Rattle.solv_run.specs.Phases.{HasAskedFrontOf, IsRunOfBytes, IsReportedFault, read, ended}
+use Rattle.solv_run.specs.Inner.Phases.{HasAskedFrontOf, IsRunOfBytes, IsReportedFault, read, ended}
 use Rattle.solv_run.specs.Runs.{SinkRun, IsReported}
 use Rattle.solv_run.specs.declared.reports.Report.{Report}
 

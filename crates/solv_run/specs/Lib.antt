@@ -1,9 +1,8 @@
 pub mod CommandLine
 pub mod Checks
 pub mod Texts
-pub mod Outcomes
 pub mod Dues
 pub mod Runs
 pub mod Cases
 pub mod Explained
-pub mod Phases
+pub mod Inner

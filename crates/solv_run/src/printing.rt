@@ -3,7 +3,7 @@ ghost use Rattle.std.specs.Prelude.{◌≡◌, ◌++◌, map, true, IfOk, OnOk};
 ghost use Rattle.solv_pool.specs.HardRules.{hard_rules};
 ghost use Rattle.solv_pool.specs.TaskBelonging.{IsClosed};
 ghost use Rattle.solv_answers.specs.Answers.{IsPrepared};
-ghost use Rattle.solv_run.specs.Outcomes.{way_of, found_of, founds_of};
+ghost use Rattle.solv_run.specs.Inner.Outcomes.{way_of, found_of, founds_of};
 ghost use Rattle.solv_run.specs.Texts.{problems_lines, answer_lines, printed};
 ghost use Rattle.solv_lines.specs.LineSets.{line_set};
 

@@ -1,11 +1,12 @@
 //! The top call.
 ghost use Rattle.std.specs.Prelude.{◌≡◌, ℕ, List, Option, Some, None, IfOk, IfErr, map, string_bytes};
-ghost use Rattle.solv_script.specs.FileRuns.{FilesRun, script_piece};
+ghost use Rattle.solv_script.specs.FileRuns.{FilesRun};
+ghost use Rattle.solv_script.specs.Inner.FileRuns.{script_piece};
 ghost use Rattle.solv_run.specs.CommandLine.{file_named};
 ghost use Rattle.solv_run.specs.Cases.{IsRun, HasAskedFront};
 ghost use Rattle.solv_run.specs.Explained.{IsExplained};
 ghost use Rattle.solv_run.specs.Dues.{read_fault_due};
-ghost use Rattle.solv_run.specs.Phases.{HasAskedFrontOf, IsReportedFault, IsRunOfBytes};
+ghost use Rattle.solv_run.specs.Inner.Phases.{HasAskedFrontOf, IsReportedFault, IsRunOfBytes};
 ghost use Rattle.solv_run.specs.Runs.{SinkRun, IsReported};
 
 use crate::command_line::file_named;

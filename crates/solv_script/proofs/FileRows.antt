@@ -1,6 +1,6 @@
 -- Lines, and the files that they name, as pieces of a script.
 use Rattle.std.proofs.Common.{◌≡◌, ℕ, Bool, true, false, List, [], ◌∷◌, ◌++◌, Option, Some, None, Result, Ok, Err, refl, sym, ap, subst, ◌∙◌}
-use Rattle.std.specs.Prelude.{IfSome, IsSomeAnd, IsOkAnd, IsOk, OnOk, IfErr, codes, take, length}
+use Rattle.std.specs.Prelude.{IfSome, IsSomeAnd, IsOkAnd, IsOk, OnOk, codes, take, length}
 use Rattle.std.specs.Option.{option_map, option_map_or}
 use Rattle.std.specs.Str.{bytes_eq, is_utf8, IsUtf8}
 use Rattle.std.proofs.lemmas.Str.{IsUtf8-from_is_utf8, is_utf8-from_IsUtf8}
@@ -11,9 +11,10 @@ use Rattle.solv_commands.specs.Commands.{Command, command}
 use Rattle.solv_commands.specs.declared.causes.Cause.{Cause}
 use Rattle.solv_commands.specs.declared.causes.Cause.TheVariants.{Compressed, BadFileName}
 use Rattle.solv_script.specs.FileNames.{fetched_name, is_compressed}
-use Rattle.solv_script.specs.FileRuns.{FilesRun, AskedBesides, IsFront, bytes_in, Piece, HasFetched, HasGiven, IsRead, HasEnded, IsWant, IsReadFault, row_piece, lines_piece, script_piece}
+use Rattle.solv_script.specs.FileRuns.{FilesRun, AskedBesides, IsFront, bytes_in, Piece, HasFetched, HasGiven, IsReadFault}
+use Rattle.solv_script.specs.Inner.FileRuns.{IsRead, HasEnded, IsWant, row_piece, lines_piece, script_piece}
 use Rattle.solv_script.specs.Grammar.{Bad, Purpose, Named, counted, done, asks, at_line, inline, with_lines, file_named, file_row, named_row, lines_row, command_row, said_row, row, fetched_given, script_read, script_due}
-use Rattle.solv_script.specs.Halts.{IsRefusal}
+use Rattle.solv_script.specs.Inner.Halts.{IsRefusal}
 use Rattle.solv_script.specs.Rows.{plain_row}
 use Rattle.solv_script.specs.ScriptLines.{ScriptLine, script_lines}
 use Rattle.solv_script.specs.ScriptsOf.{IsScriptOf}
@@ -24,18 +25,10 @@ use Rattle.solv_script.specs.declared.scripts.ScriptFault.TheVariants.{Refused, 
 use Rattle.solv_script.proofs.FetchedFiles.{file_given}
 use Rattle.solv_script.proofs.PieceRuns.{Contents, Asked, quiet, quiet_given, quiet_ended, quiet_want, fetched_all, fetched_ended, not_fetched, none_fetched, asked_none}
 
-pub on_ok : {T E P Q : Type 0} (r : Result T E) → (P → Q) → OnOk r P → OnOk r Q
-on_ok (Ok x) f h = f h
-on_ok (Err e) f h = tt
-
 pub ok_from : {A B T E : Type 0} (P : Type 0) (r : Result A B) (t : Result T E) → OnOk r (IsOk t) → OnOk t P → OnOk r P
 ok_from P (Ok x) (Ok y) h k = k
 ok_from P (Ok x) (Err e) h k = absurd (let no : false ≡ true = h in cc)
 ok_from P (Err e) t h k = tt
-
-pub if_err : {T E : Type 0} {P Q : E → Type 0} (r : Result T E) → ((e : E) → P e → Q e) → IfErr r P → IfErr r Q
-if_err (Ok x) f h = tt
-if_err (Err e) f h = f e h
 
 -- the names told stay where none is asked
 pub asked_same : (a : Asked) → option_map (λ names. names) a ≡ a

@@ -4,9 +4,10 @@ use Rattle.std.specs.Prelude.{IfSome}
 use Rattle.std.specs.Option.{option_map}
 use Rattle.std.proofs.lemmas.List.{append-nil, map-append}
 use Rattle.solv_io.specs.Counters.{Rose}
-use Rattle.solv_script.specs.FileRuns.{FilesRun, AskedBesides, AreFetched, bytes_in, IsFront, Piece, HasFetched, HasGiven, HasEnded, row_piece, lines_piece}
+use Rattle.solv_script.specs.FileRuns.{FilesRun, AskedBesides, AreFetched, bytes_in, IsFront, Piece, HasFetched, HasGiven}
+use Rattle.solv_script.specs.Inner.FileRuns.{HasEnded, row_piece, lines_piece}
 use Rattle.solv_script.specs.Grammar.{Bad, Row, done, asks, answered, asked_by, fetched_behind, row, lines_given, lines_due, due_behind}
-use Rattle.solv_script.specs.Halts.{IsRefusal}
+use Rattle.solv_script.specs.Inner.Halts.{IsRefusal}
 use Rattle.solv_script.specs.ScriptLines.{ScriptLine}
 use Rattle.solv_script.specs.States.{State}
 use Rattle.solv_script.specs.declared.scripts.ScriptFault.{ScriptFault}

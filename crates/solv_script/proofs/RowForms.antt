@@ -1,6 +1,6 @@
 -- The dependencies that lines give have forms that may stand at their places.
-use Rattle.std.proofs.Common.{◌≡◌, ℕ, zero, suc, Bool, true, false, List, [], ◌∷◌, Option, Some, None, Result, Ok, Err, refl, sym, ◌∙◌}
-use Rattle.std.specs.Prelude.{ℤ, is_some, IfOk, if◌then◌else◌}
+use Rattle.std.proofs.Common.{◌≡◌, ℕ, zero, suc, Bool, true, List, [], ◌∷◌, Option, Some, None, Result, Ok, Err, refl, sym, ◌∙◌}
+use Rattle.std.specs.Prelude.{ℤ, is_some, IfOk}
 use Rattle.std.specs.List.{list_all}
 use Rattle.solv_base.specs.Dependency.{Dep}
 use Rattle.solv_base.specs.Pool.{Held}
@@ -9,7 +9,6 @@ use Rattle.solv_deps.specs.Reading.{dependency}
 use Rattle.solv_deps.specs.Table.{is_capability}
 use Rattle.solv_deps.specs.declared.fault.DepFault.{DepFault}
 use Rattle.solv_deps.specs.declared.place.Place.TheVariants.{Plain}
-use Rattle.solv_deps.proofs.Both.{both_true}
 use Rattle.solv_pool.specs.Catalog.{Catalog, catalog_of}
 use Rattle.solv_pool.specs.TaskForms.{HasForms, is_formed_choice}
 use Rattle.solv_pool.specs.Written as written
@@ -22,16 +21,19 @@ use Rattle.solv_pool.specs.declared.tasks.Task.{Task}
 use Rattle.solv_commands.specs.Commands.{Asked, pkg, by_name, by_provides, one_of, all, nothing, joined}
 use Rattle.solv_commands.specs.declared.causes.Cause.{Cause}
 use Rattle.solv_commands.specs.declared.causes.Cause.TheVariants.{UnknownPackage}
-use Rattle.solv_tags.specs.EntryForms.{is_written_formed, conflicts_unconditionally}
+use Rattle.solv_tags.specs.EntryForms.{is_written_formed}
+use Rattle.solv_tags.specs.Inner.EntryForms.{conflicts_unconditionally}
 use Rattle.solv_tags.specs.Testtags.{Repository, testtags}
 use Rattle.solv_tags.specs.declared.tag_fault.TagFault.{TagFault}
 use Rattle.solv_tags.proofs.EntriesFormed.{read_placed, entries_formed}
 use Rattle.solv_tags.proofs.FormsById.{same_all, written_plain, all_formed, all_free}
-use Rattle.solv_tags.proofs.Staying.{all_both}
 use Rattle.solv_script.specs.Grammar.{repository_given}
 use Rattle.solv_script.specs.Rows.{and_then, or_cause, or_text_cause, with_repo, package_numbers, namespace_row, Chosen, no_system, one_package, by_dependency, chosen, job_row}
 use Rattle.solv_script.specs.States.{State, repo_place, package_number}
-use Rattle.solv_script.specs.WrittenForms.{is_written_choice, HasWrittenForms}
+use Rattle.solv_script.specs.Inner.WrittenForms.{is_written_choice, HasWrittenForms}
+use Rattle.solv_list.proofs.Answers.{one_or}
+use Rattle.solv_list.proofs.Lists.{list_all_join}
+use Rattle.std.proofs.lemmas.Bool.{and_from}
 
 -- what is given, if anything is, passes
 pub given_passes : {A E : Type 0} (P : A → Type 0) (given : Result A E) (x : A) → given ≡ Ok x → IfOk given P → P x
@@ -52,10 +54,6 @@ some_then P None c next h = tt
 ok_then : {A B : Type 0} (P : B → Type 0) (r : Result A Cause) (next : A → Result B Cause) → ((x : A) → r ≡ Ok x → IfOk (next x) P) → IfOk (and_then r next) P
 ok_then P (Ok x) next h = h x refl
 ok_then P (Err c) next h = tt
-
-one_or : {B E : Type 0} (P : B → Type 0) (b : Bool) (q r : Result B E) → IfOk q P → IfOk r P → IfOk (if b then q else r) P
-one_or P true q r h k = h
-one_or P false q r h k = k
 
 -- a choice of such a form
 abbrev IsChoice : Chosen → Type 0
@@ -95,11 +93,11 @@ module _ (s : State) (f : HasWrittenForms s.task) where
       let form : is_written_choice c.choice ≡ true = given_passes IsChoice (chosen s.task s.held asked) c is (chosen_form s.task s.held asked) in
       record {
         packages = f.packages;
-        jobs = all_both (λ (job : WrittenJob). is_written_choice job.choice) s.task.jobs (record { action = action; choice = c.choice; forcebest = forcebest; text = text } ∷ []) f.jobs (both_true (is_written_choice c.choice) true form refl);
+        jobs = list_all_join (λ (job : WrittenJob). is_written_choice job.choice) s.task.jobs (record { action = action; choice = c.choice; forcebest = forcebest; text = text } ∷ []) f.jobs (and_from (is_written_choice c.choice) true form refl);
       })
 
   pub repository_forms : (file : List ℕ) (given : Result Repository TagFault) → IfOk given (λ r. list_all is_written_formed r.packages ≡ true) → IfOk (repository_given s file given) AreFormed
-  repository_forms file (Ok r) h = record { packages = all_both is_written_formed s.task.packages r.packages f.packages h; jobs = f.jobs }
+  repository_forms file (Ok r) h = record { packages = list_all_join is_written_formed s.task.packages r.packages f.packages h; jobs = f.jobs }
   repository_forms file (Err fault) h = tt
 
 -- the packages of numbered lines

@@ -6,12 +6,8 @@ pub mod LineCauses
 pub mod Results
 pub mod Rows
 pub mod Grammar
-pub mod Halts
 pub mod ScriptsOf
 pub mod FileRuns
-pub mod Readings
-pub mod TextIndexes
-pub mod Finders
-pub mod ScriptExamples
-pub mod WrittenForms
 pub mod LateLines
+pub mod Inner
+pub mod Examples

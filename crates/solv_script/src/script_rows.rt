@@ -9,7 +9,7 @@ ghost use Rattle.solv_script.specs.Reads.{default_kinds, first_flags};
 ghost use Rattle.solv_script.specs.Grammar.{counted};
 ghost use Rattle.solv_script.specs.Results.{no_kinds};
 ghost use Rattle.solv_script.specs.States.{no_line};
-ghost use Rattle.solv_script.specs.ScriptExamples.{map_counted, at, bad_line, due_in_folder, file_a, file_b, file_c, given, given_in_folder, map_given, refused, with_packages};
+ghost use Rattle.solv_script.specs.Examples.ScriptExamples.{map_counted, at, bad_line, due_in_folder, file_a, file_b, file_c, given, given_in_folder, map_given, refused, with_packages};
 
 /// Comments, blank lines and inline lines that belong to no repository say nothing, and numbers go on over them. A block that
 /// is open at the end of a repository's lines is bad at the last of them.

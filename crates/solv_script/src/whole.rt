@@ -11,8 +11,8 @@ ghost use Rattle.std.specs.Prelude.{◌≡◌, true, IfOk, IfErr};
 ghost use Rattle.solv_pool.specs.Catalog.{catalog_of};
 ghost use Rattle.solv_pool.specs.TaskBelonging.{IsClosed};
 ghost use Rattle.solv_pool.specs.TaskForms.{HasForms};
-ghost use Rattle.solv_script.specs.FileRuns.{script_piece, IsRead, HasEnded};
-ghost use Rattle.solv_tags.specs.EntryForms.{conflicts_unconditionally};
+ghost use Rattle.solv_script.specs.Inner.FileRuns.{script_piece, IsRead, HasEnded};
+ghost use Rattle.solv_tags.specs.Inner.EntryForms.{conflicts_unconditionally};
 
 mod blocks;
 mod choices;

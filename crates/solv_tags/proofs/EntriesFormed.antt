@@ -23,15 +23,18 @@ use Rattle.solv_deps.specs.declared.place.Place.TheVariants.{Requires, Conflicts
 use Rattle.solv_tags.specs.Entries.{is_same, with_dependency, also_pre, with_need, with_entry, bare_package, evr_text}
 use Rattle.solv_tags.specs.EntryForms.{has_written_form, is_written_formed, EntriesHaveForms}
 use Rattle.solv_tags.specs.Headings.{entry_sign, opening_sign, closing_sign, is_heading, letters, after_heading, tag, place_of, trimmed}
-use Rattle.solv_tags.specs.Testtags.{Tagged, Repository, packages_so_far, or_cause, texts_entered, begun, package_entry, vendor_entry, path_entry, dependency_entry, entry_of, entry_of_hand, entry, entry_if_tag, opens_block, with_block, outside_block, block_entry, inside_block, line_by_block, line_read, end_read, or_bad, lines_read, no_line, testtags, testtags_file}
+use Rattle.solv_tags.specs.Testtags.{Tagged, Repository, packages_so_far, or_cause, texts_entered, begun, package_entry, vendor_entry, path_entry, dependency_entry, entry_of, entry_of_hand, entry, entry_if_tag, opens_block, with_block, outside_block, block_entry, inside_block, line_by_block, line_read, end_read, or_bad, lines_read, no_line, testtags}
+use Rattle.solv_tags.specs.Inner.Testtags.{testtags_file}
 use Rattle.solv_tags.specs.declared.tag.Tag.{Tag}
 use Rattle.solv_tags.specs.declared.tag.Tag.TheVariants.{Pkg, Prv, Req, Prq, Con, Obs, Rec, Sug, Sup, Enh, Vnd, Fls}
 use Rattle.solv_tags.specs.declared.tag_fault.TagCause.{TagCause}
 use Rattle.solv_tags.specs.declared.tag_fault.TagCause.TheVariants as cause
 use Rattle.solv_tags.specs.declared.tag_fault.TagFault.{TagFault}
-use Rattle.solv_deps.proofs.Both.{both_left, both_right, both_true}
 use Rattle.solv_deps.proofs.RoundTrip.{few_operators}
-use Rattle.solv_tags.proofs.Staying.{all_both}
+use Rattle.solv_list.proofs.Answers.{one_or}
+use Rattle.solv_list.proofs.Booleans.{first_of_both, second_of_both}
+use Rattle.solv_list.proofs.Lists.{list_all_join}
+use Rattle.std.proofs.lemmas.Bool.{and_from}
 
 -- has a form that may stand at this place
 abbrev pub is_placed : Place → Dep (List ℕ) → Bool
@@ -44,9 +47,9 @@ unconditional_fits : (d : Dep (List ℕ)) → unconditional d ≡ true → fits_
 unconditional_fits (one c) h = refl
 unconditional_fits (namespace n) h = refl
 unconditional_fits (and a b) h =
-    both_true (fits_place false a) (fits_place false b) (unconditional_fits a (both_left (unconditional a) (unconditional b) h)) (unconditional_fits b (both_right (unconditional a) (unconditional b) h))
+    and_from (fits_place false a) (fits_place false b) (unconditional_fits a (first_of_both (unconditional a) (unconditional b) h)) (unconditional_fits b (second_of_both (unconditional a) (unconditional b) h))
 unconditional_fits (or a b) h =
-    both_true (fits_place false a) (fits_place false b) (unconditional_fits a (both_left (unconditional a) (unconditional b) h)) (unconditional_fits b (both_right (unconditional a) (unconditional b) h))
+    and_from (fits_place false a) (fits_place false b) (unconditional_fits a (first_of_both (unconditional a) (unconditional b) h)) (unconditional_fits b (second_of_both (unconditional a) (unconditional b) h))
 unconditional_fits (with a b) h = h
 unconditional_fits (without a b) h = h
 unconditional_fits d h = absurd (cc)
@@ -85,10 +88,10 @@ record IsFormed (a : WrittenPackage) : Type 0 where
 formed_is : (a : WrittenPackage) → IsFormed a → is_written_formed a ≡ true
 formed_is a f =
     let later = has_written_form true in
-    let plain : list_all is_capability (a.provides ++ a.obsoletes) ≡ true = all_both is_capability a.provides a.obsoletes f.provides f.obsoletes in
-    let k2 : list_all later (a.supplements ++ a.enhances) ≡ true = all_both later a.supplements a.enhances f.supplements f.enhances in
-    let k1 : list_all later (a.suggests ++ (a.supplements ++ a.enhances)) ≡ true = all_both later a.suggests (a.supplements ++ a.enhances) f.suggests k2 in
-    let k0 : list_all later (a.recommends ++ (a.suggests ++ (a.supplements ++ a.enhances))) ≡ true = all_both later a.recommends (a.suggests ++ (a.supplements ++ a.enhances)) f.recommends k1 in
+    let plain : list_all is_capability (a.provides ++ a.obsoletes) ≡ true = list_all_join is_capability a.provides a.obsoletes f.provides f.obsoletes in
+    let k2 : list_all later (a.supplements ++ a.enhances) ≡ true = list_all_join later a.supplements a.enhances f.supplements f.enhances in
+    let k1 : list_all later (a.suggests ++ (a.supplements ++ a.enhances)) ≡ true = list_all_join later a.suggests (a.supplements ++ a.enhances) f.suggests k2 in
+    let k0 : list_all later (a.recommends ++ (a.suggests ++ (a.supplements ++ a.enhances))) ≡ true = list_all_join later a.recommends (a.suggests ++ (a.supplements ++ a.enhances)) f.recommends k1 in
     rw (f.requires_, f.conflicts, plain, k0) refl
 
 -- a list with a dependency more
@@ -96,7 +99,7 @@ dependency_more : (f : Dep (List ℕ) → Bool) (d : Dep (List ℕ)) (l : List (
 dependency_more f d l h k =
     elim (list_any (is_same d) l) as (λ b. list_all f (if b then l else l ++ d ∷ []) ≡ true) [
       | true ↦ k
-      | false ↦ all_both f l (d ∷ []) k (both_true (f d) true h refl)
+      | false ↦ list_all_join f l (d ∷ []) k (and_from (f d) true h refl)
     ]
 
 also_form : (f : Dep (List ℕ) → Bool) (d : Dep (List ℕ)) (pre : Bool) (need : WrittenNeed) → f need.dep ≡ true → f (also_pre d pre need).dep ≡ true
@@ -105,15 +108,15 @@ also_form f d pre need h = elim (is_same d need.dep) as (λ b. f (if b then reco
 also_all : (f : Dep (List ℕ) → Bool) (d : Dep (List ℕ)) (pre : Bool) (l : List WrittenNeed) → list_all (λ need. f need.dep) l ≡ true → list_all (λ need. f need.dep) (map (also_pre d pre) l) ≡ true
 also_all f d pre [] h = refl
 also_all f d pre (need ∷ l) h =
-    both_true (f (also_pre d pre need).dep) (list_all (λ n. f n.dep) (map (also_pre d pre) l))
-    (also_form f d pre need (both_left (f need.dep) (list_all (λ n. f n.dep) l) h)) (also_all f d pre l (both_right (f need.dep) (list_all (λ n. f n.dep) l) h))
+    and_from (f (also_pre d pre need).dep) (list_all (λ n. f n.dep) (map (also_pre d pre) l))
+    (also_form f d pre need (first_of_both (f need.dep) (list_all (λ n. f n.dep) l) h)) (also_all f d pre l (second_of_both (f need.dep) (list_all (λ n. f n.dep) l) h))
 
 -- a list with a requirement more
 need_more : (f : Dep (List ℕ) → Bool) (d : Dep (List ℕ)) (pre : Bool) (l : List WrittenNeed) → f d ≡ true → list_all (λ need. f need.dep) l ≡ true → list_all (λ need. f need.dep) (with_need d pre l) ≡ true
 need_more f d pre l h k =
     elim (list_any (λ (need : WrittenNeed). is_same d need.dep) l) as (λ b. list_all (λ (need : WrittenNeed). f need.dep) (if b then map (also_pre d pre) l else l ++ record { dep = d; pre = pre } ∷ []) ≡ true) [
       | true ↦ also_all f d pre l k
-      | false ↦ all_both (λ (need : WrittenNeed). f need.dep) l (record { dep = d; pre = pre } ∷ []) k (both_true (f d) true h refl)
+      | false ↦ list_all_join (λ (need : WrittenNeed). f need.dep) l (record { dep = d; pre = pre } ∷ []) k (and_from (f d) true h refl)
     ]
 
 -- a package with a dependency more
@@ -143,10 +146,10 @@ record AreFormed (s : Tagged) : Type 0 where
 
 hand_is : (hand : Option WrittenPackage) → HandFormed hand → list_all is_written_formed (option_to_list hand) ≡ true
 hand_is None h = refl
-hand_is (Some a) h = both_true (is_written_formed a) true (formed_is a h) refl
+hand_is (Some a) h = and_from (is_written_formed a) true (formed_is a h) refl
 
 so_far_formed : (s : Tagged) → AreFormed s → list_all is_written_formed (packages_so_far s) ≡ true
-so_far_formed s f = all_both is_written_formed s.done (option_to_list s.hand) f.done (hand_is s.hand f.hand)
+so_far_formed s f = list_all_join is_written_formed s.done (option_to_list s.hand) f.done (hand_is s.hand f.hand)
 
 text_then : {A B : Type 0} (P : B → Type 0) (r : Result A DepFault) (next : A → Result B TagCause) → ((x : A) → r ≡ Ok x → IfOk (next x) P) → IfOk (or_cause r next) P
 text_then P (Ok x) next h = h x refl
@@ -159,10 +162,6 @@ texts_then P (text ∷ texts) held next h = text_then P (text_entered text held)
 cause_or : {B : Type 0} (P : B → Type 0) (b : Bool) (c : TagCause) (r : Result B TagCause) → IfOk r P → IfOk (if b then Err c else r) P
 cause_or P true c r h = tt
 cause_or P false c r h = h
-
-one_or : {B E : Type 0} (P : B → Type 0) (b : Bool) (q r : Result B E) → IfOk q P → IfOk r P → IfOk (if b then q else r) P
-one_or P true q r h k = h
-one_or P false q r h k = k
 
 bare_formed : (repo : ℕ) (name evr arch : List ℕ) → IsFormed (bare_package repo name evr arch)
 bare_formed repo name evr arch = record { provides = refl; requires_ = refl; conflicts = refl; obsoletes = refl; recommends = refl; suggests = refl; supplements = refl; enhances = refl }

@@ -10,17 +10,20 @@ use Rattle.solv_base.specs.Pool.{Held, text_at, text_tree}
 use Rattle.solv_base.specs.declared.relation.DepNode.{DepNode}
 use Rattle.solv_base.specs.declared.relation.DepNode.TheVariants.{Simple, Versioned, Namespace, And, Or, With, Without, If, IfElse, Unless, UnlessElse}
 use Rattle.solv_deps.specs.Table.{is_capability}
-use Rattle.solv_pool.specs.Catalog.{Catalog, alone}
+use Rattle.solv_pool.specs.Catalog.{Catalog}
+use Rattle.solv_pool.specs.Inner.Catalog.{alone}
 use Rattle.solv_pool.specs.Contents.{Contents}
 use Rattle.solv_pool.specs.TaskForms.{most_operators, has_form, is_plain_form, is_formed}
 use Rattle.solv_pool.specs.Written.{WrittenNeed, written_package}
 use Rattle.solv_pool.specs.declared.packages.Need.{Need}
 use Rattle.solv_pool.specs.declared.packages.Package.{Package}
-use Rattle.solv_tags.specs.EntryForms.{has_written_form, is_written_formed, is_unconditional, conflicts_unconditionally}
-use Rattle.solv_tags.specs.RepositoryReading.{IsTaken}
+use Rattle.solv_tags.specs.EntryForms.{has_written_form, is_written_formed}
+use Rattle.solv_tags.specs.Inner.EntryForms.{is_unconditional, conflicts_unconditionally}
+use Rattle.solv_tags.specs.Inner.RepositoryReading.{IsTaken}
 use Rattle.solv_tags.specs.Testtags.{Repository}
 use Rattle.solv_tags.specs.declared.tag_fault.TagFault.{TagFault}
-use Rattle.solv_deps.proofs.Both.{both_left, both_right, both_true}
+use Rattle.solv_list.proofs.Booleans.{first_of_both, second_of_both}
+use Rattle.std.proofs.lemmas.Bool.{and_from}
 
 module _ (f : ℕ → List ℕ) where
   wise_mapped : (d : Dep ℕ) → package_wise (map_dep f d) ≡ package_wise d
@@ -102,14 +105,14 @@ same_all p q h same (x ∷ xs) = rw (same x, same_all p q h same xs) refl
 all_from : {X Y : Type 0} (p : X → Bool) (q : Y → Bool) (h : X → Y) → ((x : X) → q (h x) ≡ true → p x ≡ true) → (xs : List X) → list_all q (map h xs) ≡ true → list_all p xs ≡ true
 all_from p q h from [] all = refl
 all_from p q h from (x ∷ xs) all =
-    both_true (p x) (list_all p xs) (from x (both_left (q (h x)) (list_all q (map h xs)) all)) (all_from p q h from xs (both_right (q (h x)) (list_all q (map h xs)) all))
+    and_from (p x) (list_all p xs) (from x (first_of_both (q (h x)) (list_all q (map h xs)) all)) (all_from p q h from xs (second_of_both (q (h x)) (list_all q (map h xs)) all))
 
 -- four tests that all pass
 four_true : (a b c d : Bool) → (a && (b && (c && d))) ≡ true → (a ≡ true) × (b ≡ true) × (c ≡ true) × (d ≡ true)
 four_true a b c d h =
-    let later = both_right a (b && (c && d)) h in
-    let last = both_right b (c && d) later in
-    (both_left a (b && (c && d)) h, both_left b (c && d) later, both_left c d last, both_right c d last)
+    let later = second_of_both a (b && (c && d)) h in
+    let last = second_of_both b (c && d) later in
+    (first_of_both a (b && (c && d)) h, first_of_both b (c && d) later, first_of_both c d last, second_of_both c d last)
 
 module _ (catalog : Catalog) where
   -- a relation whose text has such a form has it, and at a conflict no condition
@@ -119,7 +122,7 @@ module _ (catalog : Catalog) where
       let f = text_at catalog.pool in
       let t = tree catalog.pool.nodes d in
       let own : (fits_place at (map_dep f t) && nat_le (operators (map_dep f t)) most_operators) ≡ has_form catalog at d = rw (fits_mapped f at t, operators_mapped f t) refl in
-      sym own ∙ both_left (fits_place at (map_dep f t) && nat_le (operators (map_dep f t)) most_operators) (at || unconditional (map_dep f t)) h
+      sym own ∙ first_of_both (fits_place at (map_dep f t) && nat_le (operators (map_dep f t)) most_operators) (at || unconditional (map_dep f t)) h
 
   written_unconditional : (at : Bool) (d : ℕ) → has_written_form at (text_tree catalog.pool d) ≡ true → (at || is_unconditional catalog d) ≡ true
   unfolding text_tree
@@ -127,7 +130,7 @@ module _ (catalog : Catalog) where
       let f = text_at catalog.pool in
       let t = tree catalog.pool.nodes d in
       ap (λ b. at || b) (sym (unconditional_mapped f t))
-      ∙ both_right (fits_place at (map_dep f t) && nat_le (operators (map_dep f t)) most_operators) (at || unconditional (map_dep f t)) h
+      ∙ second_of_both (fits_place at (map_dep f t) && nat_le (operators (map_dep f t)) most_operators) (at || unconditional (map_dep f t)) h
 
   pub written_plain : (d : ℕ) → is_capability (text_tree catalog.pool d) ≡ is_plain_form catalog d
   unfolding text_tree

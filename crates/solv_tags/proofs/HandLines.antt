@@ -1,25 +1,26 @@
 -- The lines of the package in hand.
-use Rattle.std.proofs.Common.{◌≡◌, ℕ, ◌<◌, true, List, [], ◌∷◌, length, Some, Result, Ok, Err, refl, sym, ap, ◌∙◌, rules}
-use Rattle.std.specs.Prelude.{nat_lt, OnOk, IfErr}
+use Rattle.std.proofs.Common.{◌≡◌, ℕ, ◌<◌, true, List, [], ◌∷◌, length, Some, Result, Ok, Err, refl, sym, ap, ◌∙◌}
+use Rattle.std.specs.Prelude.{nat_lt}
 use Rattle.std.specs.Str.{bytes_eq}
-use Rattle.std.proofs.lemmas.Slice.Eq.{bytes_eq-Decides}
 use Rattle.solv_base.specs.Dependency.{Dep}
 use Rattle.solv_base.specs.Pool.{Held, Grows, text_at, text_tree}
 use Rattle.solv_pool.specs.Written.{WrittenPackage, written_package}
 use Rattle.solv_pool.specs.declared.packages.Package.{Package}
 use Rattle.solv_tags.specs.Entries.{with_path, with_entry}
-use Rattle.solv_deps.specs.Entering.{IsRefusal, Entered, text_entered, dependency_entered, text_read}
+use Rattle.solv_deps.specs.Inner.Entering.{IsRefusal, text_read}
+use Rattle.solv_deps.specs.Entering.{Entered, text_entered, dependency_entered}
 use Rattle.solv_tags.specs.Headings.{place_of}
 use Rattle.solv_deps.specs.Reading.{and_then, dependency}
-use Rattle.solv_tags.specs.TagReading.{IsOf, IsCause, HasRead, HasEnded, with_id, with_entry_id}
+use Rattle.solv_tags.specs.Inner.TagReading.{IsOf, IsCause, HasRead, HasEnded, with_id, with_entry_id}
 use Rattle.solv_tags.specs.Testtags.{Tagged, cause_of, or_cause, vendor_entry, path_entry, dependency_entry, entry_of}
 use Rattle.solv_deps.specs.declared.fault.DepFault.{DepFault}
 use Rattle.solv_deps.specs.declared.fault.DepFault.TheVariants.{BadOperator, MissingOperand, MixedOperators, UnclosedParenthesis, TooDeep, OperatorNotHere, FullNames, FullRelations, Memory}
 use Rattle.solv_tags.specs.declared.tag.Tag.{Tag}
 use Rattle.solv_tags.specs.declared.tag.Tag.TheVariants.{Pkg, Prv, Req, Prq, Con, Obs, Rec, Sug, Sup, Enh, Vnd, Fls}
 use Rattle.solv_tags.specs.declared.tag_fault.TagCause.{TagCause}
-use Rattle.solv_deps.proofs.Both.{both_true}
 use Rattle.solv_tags.proofs.Staying.{of_grown, package_stays, with_id_at, with_id_all, entry_at, entry_of_pool}
+use Rattle.solv_list.proofs.Lists.{bytes_themselves, same_bytes}
+use Rattle.std.proofs.lemmas.Bool.{and_from}
 
 pub refused_cause : {A B : Type 0} (e : DepFault) (r : Result A DepFault) (next : A → Result B TagCause) → IsRefusal e r → IsCause (cause_of e) (or_cause r next)
 refused_cause BadOperator r next h = rw h refl
@@ -69,15 +70,9 @@ vendor_read old new a (x ∷ xs) id some grows of entered text_is within = recor
       let same : record (written_package old a) { vendor = Some (x ∷ xs) } ≡ written_package new (record a { vendor = Some id })
       = sym (ap (λ (w : WrittenPackage). record w { vendor = Some (text_at new id) }) stays ∙ ap (λ (t : List ℕ). record (written_package old a) { vendor = Some t }) text_is) in
       rw (h, entered) (ap (λ (w : WrittenPackage). Ok (record s { held = new; hand = Some w })) same);
-  of = let more = of_grown old new a grows of in record { name = more.name; evr = more.evr; arch = more.arch; vendor = both_true (nat_lt id (length new.names)) true within refl; provides = more.provides; requires_ = more.requires_; conflicts = more.conflicts; obsoletes = more.obsoletes; recommends = more.recommends; suggests = more.suggests; supplements = more.supplements; enhances = more.enhances; files = more.files };
+  of = let more = of_grown old new a grows of in record { name = more.name; evr = more.evr; arch = more.arch; vendor = and_from (nat_lt id (length new.names)) true within refl; provides = more.provides; requires_ = more.requires_; conflicts = more.conflicts; obsoletes = more.obsoletes; recommends = more.recommends; suggests = more.suggests; supplements = more.supplements; enhances = more.enhances; files = more.files };
   repo = refl;
 }
-
-same_text : (a b : List ℕ) → bytes_eq a b ≡ true → a ≡ b
-same_text a b h = search (rules, bytes_eq-Decides a b)
-
-text_itself : (a : List ℕ) → bytes_eq a a ≡ true
-text_itself a = search (rules, bytes_eq-Decides a a)
 
 pub path_read : (old new : Held) (a : Package) (text : List ℕ) (id : ℕ) → (length text ≡ 0 → ⊥) → Grows old new → IsOf old a
     → text_entered text old ≡ Ok (record { id = id; held = new }) → text_at new id ≡ text → id < length new.names → nat_lt id (length new.names) ≡ true
@@ -89,7 +84,7 @@ path_read old new a (x ∷ xs) id some grows of entered text_is within low apart
     record {
       is = λ s h k.
           let stays = package_stays old new grows a of in
-          let files = with_id_at bytes_eq same_text text_itself (text_at new) (length new.names) apart id a.files within more.files in
+          let files = with_id_at bytes_eq same_bytes bytes_themselves (text_at new) (length new.names) apart id a.files within more.files in
           let same : record (written_package old a) { files = with_path (x ∷ xs) (written_package old a).files } ≡ written_package new (record a { files = with_id id a.files })
           = sym (ap (λ (l : List (List ℕ)). record (written_package new a) { files = l }) (sym files)
           ∙ ap (λ (w : WrittenPackage). record w { files = with_path (text_at new id) w.files }) stays
@@ -166,11 +161,3 @@ other_ended Sup v f o a text c h = h
 other_ended Enh v f o a text c h = h
 other_ended Vnd v f o a text c h = absurd (v refl)
 other_ended Fls v f o a text c h = absurd (f refl)
-
-pub on_ok : {T E P Q : Type 0} (r : Result T E) → (P → Q) → OnOk r P → OnOk r Q
-on_ok (Ok x) f h = f h
-on_ok (Err e) f h = tt
-
-pub if_err : {T E : Type 0} {P Q : E → Type 0} (r : Result T E) → ((e : E) → P e → Q e) → IfErr r P → IfErr r Q
-if_err (Ok x) f h = tt
-if_err (Err e) f h = f e h

@@ -28,6 +28,7 @@ use Rattle.solv_tags.specs.declared.tag.Tag.TheVariants.{Pkg, Prv, Req, Prq, Con
 use Rattle.solv_tags.specs.declared.tag_fault.TagCause.{TagCause}
 use Rattle.solv_tags.specs.declared.tag_fault.TagCause.TheVariants as of_tag
 use Rattle.solv_tags.specs.declared.tag_fault.TagFault.{TagFault}
+use Rattle.solv_list.proofs.Answers.{either}
 
 -- is it want of memory?
 abbrev pub is_want : DepFault → Bool
@@ -44,10 +45,6 @@ IsOwn fault = is_want fault ≡ false
 
 abbrev pub IsOwnCause : TagCause → Type 0
 IsOwnCause c = is_tag_want c ≡ false
-
-either : {A E : Type 0} (P : E → Type 0) (b : Bool) (q r : Result A E) → IfErr q P → IfErr r P → IfErr (if b then q else r) P
-either P true q r h k = h
-either P false q r h k = k
 
 both_steps : {A B : Type 0} (r : Result A DepFault) (next : A → Result B DepFault) → IfErr r IsOwn → ((x : A) → IfErr (next x) IsOwn) → IfErr (and_then r next) IsOwn
 both_steps (Ok x) next h k = k x

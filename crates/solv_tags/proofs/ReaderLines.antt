@@ -13,7 +13,7 @@ use Rattle.solv_pool.specs.Written.{WrittenPackage, written_package}
 use Rattle.solv_pool.specs.declared.packages.Package.{Package}
 use Rattle.solv_tags.specs.Entries.{bare_package}
 use Rattle.solv_tags.specs.Headings.{entry_sign, opening_sign, closing_sign, after_heading, is_heading, letters, tag, trimmed}
-use Rattle.solv_tags.specs.TagReading.{IsOf, IsCause, IsHand, IsReading, IsRead, IsEnded, HasMore, HasReadHand, AreWithin, HaveTexts, package_of, tagged_of, with_packages}
+use Rattle.solv_tags.specs.Inner.TagReading.{IsOf, IsCause, IsHand, IsReading, IsRead, IsEnded, HasMore, HasReadHand, AreWithin, HaveTexts, package_of, tagged_of, with_packages}
 use Rattle.solv_tags.specs.Testtags.{Tagged, packages_so_far, texts_entered, begun, entry, entry_of_hand, entry_if_tag, block_entry, inside_block, outside_block, opens_block, end_read}
 use Rattle.solv_tags.specs.declared.package_words.PackageIds.{PackageIds}
 use Rattle.solv_tags.specs.declared.tag.Tag.{Tag}
@@ -21,12 +21,15 @@ use Rattle.solv_tags.specs.declared.tag.Tag.TheVariants.{Pkg, Prv, Req, Prq, Con
 use Rattle.solv_tags.specs.declared.tag_fault.TagCause.{TagCause}
 use Rattle.solv_tags.specs.declared.tag_fault.TagCause.TheVariants.{Dep, BadPackageLine, TagBeforePackage, UnclosedBlock, TooManyPackages, FullNames, Memory}
 use Rattle.solv_tags.specs.declared.tag_reader.TagReader.{TagReader}
-use Rattle.solv_deps.proofs.Both.{both_right, both_true, below_true}
-use Rattle.solv_tags.proofs.Staying.{all_both, fits_of, of_grown, package_stays, packages_stay}
+use Rattle.solv_tags.proofs.Staying.{fits_of, of_grown, package_stays, packages_stay}
+use Rattle.solv_base.proofs.Growth.{Grows-itself}
+use Rattle.solv_list.proofs.Booleans.{second_of_both}
+use Rattle.solv_list.proofs.Lists.{below_true, list_all_join}
+use Rattle.std.proofs.lemmas.Bool.{and_from}
 
 all_dropped : {X : Type 0} (p : X → Bool) (n : ℕ) (xs : List X) → list_all p xs ≡ true → list_all p (drop n xs) ≡ true
 all_dropped p n xs h =
-    both_right (list_all p (take n xs)) (list_all p (drop n xs)) (sym (list_all-append p (take n xs) (drop n xs)) ∙ ap (list_all p) (take-append-drop n xs) ∙ h)
+    second_of_both (list_all p (take n xs)) (list_all p (drop n xs)) (sym (list_all-append p (take n xs) (drop n xs)) ∙ ap (list_all p) (take-append-drop n xs) ∙ h)
 
 -- the packages before the one in hand stay
 done_stays : (r : TagReader) (old new : Held) (universe : Contents) → Grows old new → IsReading r old universe
@@ -71,7 +74,7 @@ hand_fits : (r : TagReader) (pool : Held) (count : ℕ) (hand : Option Package) 
     → list_all (fits (length pool.names) (length pool.nodes) count) (option_to_list hand) ≡ true
 hand_fits r pool count None h k = refl
 hand_fits r pool count (Some a) h k =
-    both_true (fits (length pool.names) (length pool.nodes) count a) true (fits_of pool count a h.0 (below_true a.repo count (rw h.1 k))) refl
+    and_from (fits (length pool.names) (length pool.nodes) count a) true (fits_of pool count a h.0 (below_true a.repo count (rw h.1 k))) refl
 
 hand_grown : (old new : Held) (repo : ℕ) (hand : Option Package) → Grows old new → IsHand old repo hand → IsHand new repo hand
 hand_grown old new repo None grows h = tt
@@ -79,7 +82,7 @@ hand_grown old new repo (Some a) grows h = (of_grown old new a grows h.0, h.1)
 
 put_over : (r : TagReader) (old new : Held) (universe : Contents) → Grows old new → IsReading r old universe → IsOver new universe → IsOver new (with_packages universe (option_to_list r.hand))
 put_over r old new universe grows reading over = record {
-  packages = all_both (fits (length new.names) (length new.nodes) (length universe.repos)) universe.packages (option_to_list r.hand) over.packages
+  packages = list_all_join (fits (length new.names) (length new.nodes) (length universe.repos)) universe.packages (option_to_list r.hand) over.packages
       (hand_fits r new (length universe.repos) r.hand (hand_grown old new r.repo r.hand grows reading.hand) reading.repo);
   repos = over.repos;
 }
@@ -157,16 +160,13 @@ pub inside_entry : (s : Tagged) (name line : List ℕ) → (is_heading closing_s
     → inside_block s name line ≡ entry_if_tag s (tag name) line
 inside_entry s name line goes_on n = rw goes_on (entry_inside s name line (trimmed line) n)
 
-pub grows_itself : (pool : Held) → Grows pool pool
-grows_itself pool = record { names = omega arith; nodes = omega arith; texts = λ n h. refl; trees = λ d h. refl }
-
 -- the end
 pub ended : (r : TagReader) (pool : Held) (universe later : Contents) (last : ℕ) → is_some r.block ≡ false → later ≡ with_packages universe (option_to_list r.hand)
     → IsReading r pool universe → IsEnded r pool universe later (end_read last (tagged_of r pool universe))
 ended r pool universe later last closed put reading = record {
-  is = rw (closed, put, all_so_far r pool pool universe (grows_itself pool) reading) refl;
+  is = rw (closed, put, all_so_far r pool pool universe (Grows-itself pool) reading) refl;
   universe = put;
-  over = rw put (put_over r pool pool universe (grows_itself pool) reading reading.over);
+  over = rw put (put_over r pool pool universe (Grows-itself pool) reading reading.over);
 }
 
 pub on_both : {T E P Q R : Type 0} (r : Result T E) → (P → Q → R) → OnOk r P → OnOk r Q → OnOk r R

@@ -1,18 +1,13 @@
 -- The test of equal dependencies says that they are equal.
 use Rattle.std.proofs.Common.{◌≡◌, ℕ, true, ◌&&◌, List, refl, ap, rules}
 use Rattle.std.specs.Str.{bytes_eq}
-use Rattle.std.proofs.lemmas.Slice.Eq.{bytes_eq-Decides}
 use Rattle.solv_base.specs.contracts.comparison.CmpPartialEq.TheImpl.{eq-value}
 use Rattle.solv_base.specs.declared.comparison.Cmp.{Cmp}
 use Rattle.solv_base.specs.Dependency.{Dep, Capability, plain, versioned, one, namespace, and, or, with, without, if_then, if_else, unless, unless_else, missing}
 use Rattle.solv_tags.specs.Entries.{is_same, is_same_capability}
-use Rattle.solv_deps.proofs.Both.{both_left, both_right, both_true}
-
-same_text : (a b : List ℕ) → bytes_eq a b ≡ true → a ≡ b
-same_text a b h = search (rules, bytes_eq-Decides a b)
-
-text_itself : (a : List ℕ) → bytes_eq a a ≡ true
-text_itself a = search (rules, bytes_eq-Decides a a)
+use Rattle.solv_list.proofs.Booleans.{first_of_both, second_of_both}
+use Rattle.solv_list.proofs.Lists.{bytes_themselves, same_bytes}
+use Rattle.std.proofs.lemmas.Bool.{and_from}
 
 comparison_itself : (c : Cmp) → eq-value.it c c ≡ true
 comparison_itself c = search rules
@@ -21,44 +16,44 @@ same_comparison : (c d : Cmp) → eq-value.it c d ≡ true → c ≡ d
 same_comparison c d h = search rules
 
 capability_itself : (c : Capability (List ℕ)) → is_same_capability c c ≡ true
-capability_itself (plain a) = text_itself a
-capability_itself (versioned a c e) = both_true (bytes_eq a a) (eq-value.it c c && bytes_eq e e) (text_itself a) (both_true (eq-value.it c c) (bytes_eq e e) (comparison_itself c) (text_itself e))
+capability_itself (plain a) = bytes_themselves a
+capability_itself (versioned a c e) = and_from (bytes_eq a a) (eq-value.it c c && bytes_eq e e) (bytes_themselves a) (and_from (eq-value.it c c) (bytes_eq e e) (comparison_itself c) (bytes_themselves e))
 
 same_capability : (c d : Capability (List ℕ)) → is_same_capability c d ≡ true → c ≡ d
-same_capability (plain a) (plain b) h = ap plain (same_text a b h)
+same_capability (plain a) (plain b) h = ap plain (same_bytes a b h)
 same_capability (plain a) (versioned b d f) h = cc
 same_capability (versioned a c e) (plain b) h = cc
 same_capability (versioned a c e) (versioned b d f) h =
-    let t = same_text a b (both_left (bytes_eq a b) (eq-value.it c d && bytes_eq e f) h) in
-    let r = both_right (bytes_eq a b) (eq-value.it c d && bytes_eq e f) h in
-    rw (t, same_comparison c d (both_left (eq-value.it c d) (bytes_eq e f) r), same_text e f (both_right (eq-value.it c d) (bytes_eq e f) r)) refl
+    let t = same_bytes a b (first_of_both (bytes_eq a b) (eq-value.it c d && bytes_eq e f) h) in
+    let r = second_of_both (bytes_eq a b) (eq-value.it c d && bytes_eq e f) h in
+    rw (t, same_comparison c d (first_of_both (eq-value.it c d) (bytes_eq e f) r), same_bytes e f (second_of_both (eq-value.it c d) (bytes_eq e f) r)) refl
 
 same_pair : {A : Type 0} (a b c d : Dep (List ℕ)) (f : Dep (List ℕ) → Dep (List ℕ) → A) → (is_same a c ≡ true → a ≡ c) → (is_same b d ≡ true → b ≡ d)
     → (is_same a c && is_same b d) ≡ true → f a b ≡ f c d
-same_pair a b c d f p q h = rw (p (both_left (is_same a c) (is_same b d) h), q (both_right (is_same a c) (is_same b d) h)) refl
+same_pair a b c d f p q h = rw (p (first_of_both (is_same a c) (is_same b d) h), q (second_of_both (is_same a c) (is_same b d) h)) refl
 
 same_triple : {A : Type 0} (a b e c d g : Dep (List ℕ)) (f : Dep (List ℕ) → Dep (List ℕ) → Dep (List ℕ) → A) → (is_same a c ≡ true → a ≡ c) → (is_same b d ≡ true → b ≡ d) → (is_same e g ≡ true → e ≡ g)
     → (is_same a c && (is_same b d && is_same e g)) ≡ true → f a b e ≡ f c d g
 same_triple a b e c d g f p q r h =
-    let rest : (is_same b d && is_same e g) ≡ true = both_right (is_same a c) (is_same b d && is_same e g) h in
-    rw (p (both_left (is_same a c) (is_same b d && is_same e g) h), q (both_left (is_same b d) (is_same e g) rest), r (both_right (is_same b d) (is_same e g) rest)) refl
+    let rest : (is_same b d && is_same e g) ≡ true = second_of_both (is_same a c) (is_same b d && is_same e g) h in
+    rw (p (first_of_both (is_same a c) (is_same b d && is_same e g) h), q (first_of_both (is_same b d) (is_same e g) rest), r (second_of_both (is_same b d) (is_same e g) rest)) refl
 
 pub dependency_itself : (a : Dep (List ℕ)) → is_same a a ≡ true
 dependency_itself (one c) = capability_itself c
-dependency_itself (namespace n) = text_itself n
-dependency_itself (and a b) = both_true (is_same a a) (is_same b b) (dependency_itself a) (dependency_itself b)
-dependency_itself (or a b) = both_true (is_same a a) (is_same b b) (dependency_itself a) (dependency_itself b)
-dependency_itself (with a b) = both_true (is_same a a) (is_same b b) (dependency_itself a) (dependency_itself b)
-dependency_itself (without a b) = both_true (is_same a a) (is_same b b) (dependency_itself a) (dependency_itself b)
-dependency_itself (if_then a b) = both_true (is_same a a) (is_same b b) (dependency_itself a) (dependency_itself b)
-dependency_itself (unless a b) = both_true (is_same a a) (is_same b b) (dependency_itself a) (dependency_itself b)
-dependency_itself (if_else a b e) = both_true (is_same a a) (is_same b b && is_same e e) (dependency_itself a) (both_true (is_same b b) (is_same e e) (dependency_itself b) (dependency_itself e))
-dependency_itself (unless_else a b e) = both_true (is_same a a) (is_same b b && is_same e e) (dependency_itself a) (both_true (is_same b b) (is_same e e) (dependency_itself b) (dependency_itself e))
+dependency_itself (namespace n) = bytes_themselves n
+dependency_itself (and a b) = and_from (is_same a a) (is_same b b) (dependency_itself a) (dependency_itself b)
+dependency_itself (or a b) = and_from (is_same a a) (is_same b b) (dependency_itself a) (dependency_itself b)
+dependency_itself (with a b) = and_from (is_same a a) (is_same b b) (dependency_itself a) (dependency_itself b)
+dependency_itself (without a b) = and_from (is_same a a) (is_same b b) (dependency_itself a) (dependency_itself b)
+dependency_itself (if_then a b) = and_from (is_same a a) (is_same b b) (dependency_itself a) (dependency_itself b)
+dependency_itself (unless a b) = and_from (is_same a a) (is_same b b) (dependency_itself a) (dependency_itself b)
+dependency_itself (if_else a b e) = and_from (is_same a a) (is_same b b && is_same e e) (dependency_itself a) (and_from (is_same b b) (is_same e e) (dependency_itself b) (dependency_itself e))
+dependency_itself (unless_else a b e) = and_from (is_same a a) (is_same b b && is_same e e) (dependency_itself a) (and_from (is_same b b) (is_same e e) (dependency_itself b) (dependency_itself e))
 dependency_itself missing = refl
 
 pub same_dependency : (a b : Dep (List ℕ)) → is_same a b ≡ true → a ≡ b
 same_dependency (one c) (one d) h = ap one (same_capability c d h)
-same_dependency (namespace m) (namespace n) h = ap namespace (same_text m n h)
+same_dependency (namespace m) (namespace n) h = ap namespace (same_bytes m n h)
 same_dependency (and a b) (and c d) h = same_pair a b c d and (same_dependency a c) (same_dependency b d) h
 same_dependency (or a b) (or c d) h = same_pair a b c d or (same_dependency a c) (same_dependency b d) h
 same_dependency (with a b) (with c d) h = same_pair a b c d with (same_dependency a c) (same_dependency b d) h

@@ -3,10 +3,10 @@ use Rattle.std.proofs.Common.{◌≡◌, ℕ, ◌<◌, ◌≤◌, Bool, true, fa
 use Rattle.std.specs.Prelude.{nat_lt, ◌&&◌, ◌||◌, ◌==◌, option_to_list, if◌then◌else◌}
 use Rattle.std.specs.Option.{option_map}
 use Rattle.std.specs.List.{list_any, list_all}
-use Rattle.std.proofs.lemmas.Bool.{ltb-true}
+use Rattle.std.proofs.lemmas.Bool.{ltb-true, and_from}
 use Rattle.std.proofs.lemmas.Bool.Decides.{nat_tests}
 use Rattle.std.proofs.lemmas.List.{map-append}
-use Rattle.std.proofs.lemmas.List.Folds.{list_all-append, list_all-map}
+use Rattle.std.proofs.lemmas.List.Folds.{list_all-map}
 use Rattle.solv_base.specs.Dependency.{Dep}
 use Rattle.solv_base.specs.Pool.{Held, Grows, text_at, text_tree}
 use Rattle.solv_pool.specs.Belonging.{fits, names_of, relations_of}
@@ -14,41 +14,30 @@ use Rattle.solv_pool.specs.Written.{WrittenNeed, written_package}
 use Rattle.solv_pool.specs.declared.packages.Need.{Need}
 use Rattle.solv_pool.specs.declared.packages.Package.{Package}
 use Rattle.solv_tags.specs.Entries.{is_same, also_pre, with_need, with_dependency, with_entry}
-use Rattle.solv_tags.specs.TagReading.{IsOf, with_id, also_pre_id, with_need_id, with_entry_id}
+use Rattle.solv_tags.specs.Inner.TagReading.{IsOf, with_id, also_pre_id, with_need_id, with_entry_id}
 use Rattle.solv_tags.specs.declared.tag.Tag.{Tag}
 use Rattle.solv_tags.specs.declared.tag.Tag.TheVariants.{Pkg, Prv, Req, Prq, Con, Obs, Rec, Sug, Sup, Enh, Vnd, Fls}
-use Rattle.solv_deps.proofs.Both.{both_left, both_right, both_true}
 use Rattle.solv_tags.proofs.SameDependency.{same_dependency, dependency_itself}
+use Rattle.solv_list.proofs.Booleans.{first_of_both, second_of_both}
+use Rattle.solv_list.proofs.Lists.{all_left, all_right, list_all_join}
+use Rattle.solv_list.proofs.Numbers.{below_wider}
 
 -- two functions that agree where a test holds
-same_map : {X Y : Type 0} (test : X → Bool) (f g : X → Y) → ((x : X) → test x ≡ true → f x ≡ g x) → (xs : List X) → list_all test xs ≡ true → map f xs ≡ map g xs
+pub same_map : {X Y : Type 0} (test : X → Bool) (f g : X → Y) → ((x : X) → test x ≡ true → f x ≡ g x) → (xs : List X) → list_all test xs ≡ true → map f xs ≡ map g xs
 same_map test f g same [] h = refl
-same_map test f g same (x ∷ xs) h = rw (same x (both_left (test x) (list_all test xs) h), same_map test f g same xs (both_right (test x) (list_all test xs) h)) refl
-
-all_left : {X : Type 0} (p : X → Bool) (xs ys : List X) → list_all p (xs ++ ys) ≡ true → list_all p xs ≡ true
-all_left p xs ys h = both_left (list_all p xs) (list_all p ys) (sym (list_all-append p xs ys) ∙ h)
-
-all_right : {X : Type 0} (p : X → Bool) (xs ys : List X) → list_all p (xs ++ ys) ≡ true → list_all p ys ≡ true
-all_right p xs ys h = both_right (list_all p xs) (list_all p ys) (sym (list_all-append p xs ys) ∙ h)
-
-pub all_both : {X : Type 0} (p : X → Bool) (xs ys : List X) → list_all p xs ≡ true → list_all p ys ≡ true → list_all p (xs ++ ys) ≡ true
-all_both p xs ys h k = list_all-append p xs ys ∙ both_true (list_all p xs) (list_all p ys) h k
-
--- ids below a number are below a greater one
-wider : (x n m : ℕ) → n ≤ m → nat_lt x n ≡ true → nat_lt x m ≡ true
-wider x n m le h = grind (arith, nat_tests)
+same_map test f g same (x ∷ xs) h = rw (same x (first_of_both (test x) (list_all test xs) h), same_map test f g same xs (second_of_both (test x) (list_all test xs) h)) refl
 
 all_wider : {X : Type 0} (f : X → ℕ) (n m : ℕ) → n ≤ m → (xs : List X) → list_all (λ x. nat_lt (f x) n) xs ≡ true → list_all (λ x. nat_lt (f x) m) xs ≡ true
 all_wider f n m le [] h = refl
 all_wider f n m le (x ∷ xs) h =
-    both_true (nat_lt (f x) m) (list_all (λ y. nat_lt (f y) m) xs) (wider (f x) n m le (both_left (nat_lt (f x) n) (list_all (λ y. nat_lt (f y) n) xs) h))
-    (all_wider f n m le xs (both_right (nat_lt (f x) n) (list_all (λ y. nat_lt (f y) n) xs) h))
+    and_from (nat_lt (f x) m) (list_all (λ y. nat_lt (f y) m) xs) (below_wider (f x) n m le (first_of_both (nat_lt (f x) n) (list_all (λ y. nat_lt (f y) n) xs) h))
+    (all_wider f n m le xs (second_of_both (nat_lt (f x) n) (list_all (λ y. nat_lt (f y) n) xs) h))
 
 pub of_grown : (old new : Held) (a : Package) → Grows old new → IsOf old a → IsOf new a
 of_grown old new a grows of = record {
-  name = wider a.name (length old.names) (length new.names) grows.names of.name;
-  evr = wider a.evr (length old.names) (length new.names) grows.names of.evr;
-  arch = wider a.arch (length old.names) (length new.names) grows.names of.arch;
+  name = below_wider a.name (length old.names) (length new.names) grows.names of.name;
+  evr = below_wider a.evr (length old.names) (length new.names) grows.names of.evr;
+  arch = below_wider a.arch (length old.names) (length new.names) grows.names of.arch;
   vendor = all_wider (λ (n : ℕ). n) (length old.names) (length new.names) grows.names (option_to_list a.vendor) of.vendor;
   provides = all_wider (λ (d : ℕ). d) (length old.nodes) (length new.nodes) grows.nodes a.provides of.provides;
   requires_ = all_wider (λ (need : Need). need.dep) (length old.nodes) (length new.nodes) grows.nodes a.requires_ of.requires_;
@@ -72,29 +61,29 @@ fits_of pool count a of h =
     let l4 = a.obsoletes ++ l5 in
     let l3 = a.conflicts ++ l4 in
     let needs = map (λ (need : Need). need.dep) a.requires_ in
-    let k7 = all_both small a.supplements a.enhances of.supplements of.enhances in
-    let k6 = all_both small a.suggests l7 of.suggests k7 in
-    let k5 = all_both small a.recommends l6 of.recommends k6 in
-    let k4 = all_both small a.obsoletes l5 of.obsoletes k5 in
-    let k3 = all_both small a.conflicts l4 of.conflicts k4 in
-    let k2 = all_both small needs l3 (list_all-map small (λ (need : Need). need.dep) a.requires_ ∙ of.requires_) k3 in
-    let k1 : list_all small (relations_of a) ≡ true = all_both small a.provides (needs ++ l3) of.provides k2 in
-    both_true (list_all low (names_of a)) (list_all small (relations_of a) && nat_lt a.repo count)
-    (both_true (low a.name) (list_all low (a.evr ∷ a.arch ∷ (option_to_list a.vendor ++ a.files))) of.name
-    (both_true (low a.evr) (list_all low (a.arch ∷ (option_to_list a.vendor ++ a.files))) of.evr
-    (both_true (low a.arch) (list_all low (option_to_list a.vendor ++ a.files)) of.arch (all_both low (option_to_list a.vendor) a.files of.vendor of.files))))
-    (both_true (list_all small (relations_of a)) (nat_lt a.repo count) k1 h)
+    let k7 = list_all_join small a.supplements a.enhances of.supplements of.enhances in
+    let k6 = list_all_join small a.suggests l7 of.suggests k7 in
+    let k5 = list_all_join small a.recommends l6 of.recommends k6 in
+    let k4 = list_all_join small a.obsoletes l5 of.obsoletes k5 in
+    let k3 = list_all_join small a.conflicts l4 of.conflicts k4 in
+    let k2 = list_all_join small needs l3 (list_all-map small (λ (need : Need). need.dep) a.requires_ ∙ of.requires_) k3 in
+    let k1 : list_all small (relations_of a) ≡ true = list_all_join small a.provides (needs ++ l3) of.provides k2 in
+    and_from (list_all low (names_of a)) (list_all small (relations_of a) && nat_lt a.repo count)
+    (and_from (low a.name) (list_all low (a.evr ∷ a.arch ∷ (option_to_list a.vendor ++ a.files))) of.name
+    (and_from (low a.evr) (list_all low (a.arch ∷ (option_to_list a.vendor ++ a.files))) of.evr
+    (and_from (low a.arch) (list_all low (option_to_list a.vendor ++ a.files)) of.arch (list_all_join low (option_to_list a.vendor) a.files of.vendor of.files))))
+    (and_from (list_all small (relations_of a)) (nat_lt a.repo count) k1 h)
 
 pub of_fits : (pool : Held) (count : ℕ) (a : Package) → fits (length pool.names) (length pool.nodes) count a ≡ true → IsOf pool a
 of_fits pool count a h =
     let low = λ (n : ℕ). nat_lt n (length pool.names) in
     let small = λ (d : ℕ). nat_lt d (length pool.nodes) in
-    let names : list_all low (names_of a) ≡ true = both_left (list_all low (names_of a)) (list_all small (relations_of a) && nat_lt a.repo count) h in
-    let more : (list_all small (relations_of a) && nat_lt a.repo count) ≡ true = both_right (list_all low (names_of a)) (list_all small (relations_of a) && nat_lt a.repo count) h in
-    let r0 : list_all small (relations_of a) ≡ true = both_left (list_all small (relations_of a)) (nat_lt a.repo count) more in
-    let n1 = both_right (low a.name) (list_all low (a.evr ∷ a.arch ∷ (option_to_list a.vendor ++ a.files))) names in
-    let n2 = both_right (low a.evr) (list_all low (a.arch ∷ (option_to_list a.vendor ++ a.files))) n1 in
-    let n3 = both_right (low a.arch) (list_all low (option_to_list a.vendor ++ a.files)) n2 in
+    let names : list_all low (names_of a) ≡ true = first_of_both (list_all low (names_of a)) (list_all small (relations_of a) && nat_lt a.repo count) h in
+    let more : (list_all small (relations_of a) && nat_lt a.repo count) ≡ true = second_of_both (list_all low (names_of a)) (list_all small (relations_of a) && nat_lt a.repo count) h in
+    let r0 : list_all small (relations_of a) ≡ true = first_of_both (list_all small (relations_of a)) (nat_lt a.repo count) more in
+    let n1 = second_of_both (low a.name) (list_all low (a.evr ∷ a.arch ∷ (option_to_list a.vendor ++ a.files))) names in
+    let n2 = second_of_both (low a.evr) (list_all low (a.arch ∷ (option_to_list a.vendor ++ a.files))) n1 in
+    let n3 = second_of_both (low a.arch) (list_all low (option_to_list a.vendor ++ a.files)) n2 in
     let l7 = a.supplements ++ a.enhances in
     let l6 = a.suggests ++ l7 in
     let l5 = a.recommends ++ l6 in
@@ -108,9 +97,9 @@ of_fits pool count a h =
     let r5 = all_right small a.recommends l6 r4 in
     let r6 = all_right small a.suggests l7 r5 in
     record {
-      name = both_left (low a.name) (list_all low (a.evr ∷ a.arch ∷ (option_to_list a.vendor ++ a.files))) names;
-      evr = both_left (low a.evr) (list_all low (a.arch ∷ (option_to_list a.vendor ++ a.files))) n1;
-      arch = both_left (low a.arch) (list_all low (option_to_list a.vendor ++ a.files)) n2;
+      name = first_of_both (low a.name) (list_all low (a.evr ∷ a.arch ∷ (option_to_list a.vendor ++ a.files))) names;
+      evr = first_of_both (low a.evr) (list_all low (a.arch ∷ (option_to_list a.vendor ++ a.files))) n1;
+      arch = first_of_both (low a.arch) (list_all low (option_to_list a.vendor ++ a.files)) n2;
       vendor = all_left low (option_to_list a.vendor) a.files n3;
       provides = all_left small a.provides (needs ++ l3) r0;
       requires_ = sym (list_all-map small (λ (need : Need). need.dep) a.requires_) ∙ all_left small needs l3 r1;
@@ -138,7 +127,7 @@ module _ (old new : Held) (grows : Grows old new) where
 
   vendor_stays : (vendor : Option ℕ) → list_all (λ n. nat_lt n (length old.names)) (option_to_list vendor) ≡ true → option_map (text_at new) vendor ≡ option_map (text_at old) vendor
   vendor_stays None h = refl
-  vendor_stays (Some n) h = ap Some (text_stays n (both_left (nat_lt n (length old.names)) true h))
+  vendor_stays (Some n) h = ap Some (text_stays n (first_of_both (nat_lt n (length old.names)) true h))
 
   pub package_stays : (a : Package) → IsOf old a → written_package new a ≡ written_package old a
   package_stays a of =
@@ -180,7 +169,7 @@ module _ {Y : Type 0} (same : Y → Y → Bool) (sound : (y z : Y) → same y z 
   any_id : (d : ℕ) → d < count → (xs : List ℕ) → list_all (λ o. nat_lt o count) xs ≡ true → list_any (same (at d)) (map at xs) ≡ list_any (λ o. d == o) xs
   any_id d h [] k = refl
   any_id d h (x ∷ xs) k =
-      rw (same_id d x h (both_left (nat_lt x count) (list_all (λ o. nat_lt o count) xs) k), any_id d h xs (both_right (nat_lt x count) (list_all (λ o. nat_lt o count) xs) k)) refl
+      rw (same_id d x h (first_of_both (nat_lt x count) (list_all (λ o. nat_lt o count) xs) k), any_id d h xs (second_of_both (nat_lt x count) (list_all (λ o. nat_lt o count) xs) k)) refl
 
   pub with_id_at : (d : ℕ) (xs : List ℕ) → d < count → list_all (λ o. nat_lt o count) xs ≡ true
       → (if list_any (same (at d)) (map at xs) then map at xs else map at xs ++ at d ∷ []) ≡ map at (with_id d xs)
@@ -195,7 +184,7 @@ pub with_id_all : (p : ℕ → Bool) (d : ℕ) (xs : List ℕ) → p d ≡ true 
 with_id_all p d xs h k =
     elim (list_any (λ o. d == o) xs) as (λ b. list_all p (if b then xs else xs ++ d ∷ []) ≡ true) [
       | true ↦ k
-      | false ↦ all_both p xs (d ∷ []) k (both_true (p d) true h refl)
+      | false ↦ list_all_join p xs (d ∷ []) k (and_from (p d) true h refl)
     ]
 
 also_all : (p : ℕ → Bool) (d : ℕ) (pre : Bool) (needs : List Need) → list_all (λ need. p need.dep) needs ≡ true → list_all (λ need. p need.dep) (map (also_pre_id d pre) needs) ≡ true
@@ -203,14 +192,14 @@ also_all p d pre [] k = refl
 also_all p d pre (need ∷ needs) k =
     let first : p (also_pre_id d pre need).dep ≡ p need.dep
     = elim (d == need.dep) as (λ b. p (if b then record { dep = need.dep; pre = need.pre || pre } else need).dep ≡ p need.dep) [ true ↦ refl | false ↦ refl ] in
-    both_true (p (also_pre_id d pre need).dep) (list_all (λ n. p n.dep) (map (also_pre_id d pre) needs)) (first ∙ both_left (p need.dep) (list_all (λ n. p n.dep) needs) k)
-    (also_all p d pre needs (both_right (p need.dep) (list_all (λ n. p n.dep) needs) k))
+    and_from (p (also_pre_id d pre need).dep) (list_all (λ n. p n.dep) (map (also_pre_id d pre) needs)) (first ∙ first_of_both (p need.dep) (list_all (λ n. p n.dep) needs) k)
+    (also_all p d pre needs (second_of_both (p need.dep) (list_all (λ n. p n.dep) needs) k))
 
 with_need_all : (p : ℕ → Bool) (d : ℕ) (pre : Bool) (needs : List Need) → p d ≡ true → list_all (λ need. p need.dep) needs ≡ true → list_all (λ need. p need.dep) (with_need_id d pre needs) ≡ true
 with_need_all p d pre needs h k =
     elim (list_any (λ need. d == need.dep) needs) as (λ b. list_all (λ need. p need.dep) (if b then map (also_pre_id d pre) needs else needs ++ record { dep = d; pre = pre } ∷ []) ≡ true) [
       | true ↦ also_all p d pre needs k
-      | false ↦ all_both (λ need. p need.dep) needs (record { dep = d; pre = pre } ∷ []) k (both_true (p d) true h refl)
+      | false ↦ list_all_join (λ need. p need.dep) needs (record { dep = d; pre = pre } ∷ []) k (and_from (p d) true h refl)
     ]
 
 module _ (pool : Held) (d : ℕ) (within : nat_lt d (length pool.nodes) ≡ true)
@@ -247,8 +236,8 @@ module _ (pool : Held) (d : ℕ) (within : nat_lt d (length pool.nodes) ≡ true
   any_need [] k = refl
   any_need (need ∷ needs) k =
       rw (
-        same_tree need.dep (both_left (nat_lt need.dep (length pool.nodes)) (list_all (λ n. nat_lt n.dep (length pool.nodes)) needs) k),
-        any_need needs (both_right (nat_lt need.dep (length pool.nodes)) (list_all (λ n. nat_lt n.dep (length pool.nodes)) needs) k),
+        same_tree need.dep (first_of_both (nat_lt need.dep (length pool.nodes)) (list_all (λ n. nat_lt n.dep (length pool.nodes)) needs) k),
+        any_need needs (second_of_both (nat_lt need.dep (length pool.nodes)) (list_all (λ n. nat_lt n.dep (length pool.nodes)) needs) k),
       ) refl
 
   also_one : (pre : Bool) (need : Need) → nat_lt need.dep (length pool.nodes) ≡ true
@@ -264,8 +253,8 @@ module _ (pool : Held) (d : ℕ) (within : nat_lt d (length pool.nodes) ≡ true
   also_at pre [] k = refl
   also_at pre (need ∷ needs) k =
       rw (
-        also_one pre need (both_left (nat_lt need.dep (length pool.nodes)) (list_all (λ n. nat_lt n.dep (length pool.nodes)) needs) k),
-        also_at pre needs (both_right (nat_lt need.dep (length pool.nodes)) (list_all (λ n. nat_lt n.dep (length pool.nodes)) needs) k),
+        also_one pre need (first_of_both (nat_lt need.dep (length pool.nodes)) (list_all (λ n. nat_lt n.dep (length pool.nodes)) needs) k),
+        also_at pre needs (second_of_both (nat_lt need.dep (length pool.nodes)) (list_all (λ n. nat_lt n.dep (length pool.nodes)) needs) k),
       ) refl
 
   needs_at : (pre : Bool) (needs : List Need) → list_all (λ need. nat_lt need.dep (length pool.nodes)) needs ≡ true

@@ -5,10 +5,8 @@ use Rattle.solv_base.specs.Dependency.{Dep, operators}
 use Rattle.solv_base.specs.Places.{fits_place, unconditional}
 use Rattle.solv_base.specs.Pool.{Held}
 use Rattle.solv_deps.specs.Table.{is_capability}
-use Rattle.solv_pool.specs.Catalog.{Catalog, dependency}
 use Rattle.solv_pool.specs.TaskForms.{most_operators}
 use Rattle.solv_pool.specs.Written.{WrittenPackage}
-use Rattle.solv_pool.specs.declared.packages.Package.{Package}
 use Rattle.solv_tags.specs.Testtags.{Repository, testtags}
 
 -- may stand at a requirement (true), or at a conflict (false), where nothing has a condition, with at most so many operators as a dependency may have
@@ -26,13 +24,3 @@ is_written_formed a =
 -- the packages that numbered lines give have dependencies of such forms
 abbrev pub EntriesHaveForms : Type 0
 EntriesHaveForms = (held : Held) (before repo : ℕ) (lines : List (ℕ × List ℕ)) (r : Repository) → testtags held before repo lines ≡ Ok r → list_all is_written_formed r.packages ≡ true
-
--- what packages conflict with, by the ids of a pool
-module _ (catalog : Catalog) where
-  -- the relation has no condition
-  abbrev pub is_unconditional : ℕ → Bool
-  is_unconditional d = unconditional (dependency catalog d)
-
-  -- so it is with whatever a package conflicts with
-  abbrev pub conflicts_unconditionally : Package → Bool
-  conflicts_unconditionally a = list_all is_unconditional a.conflicts

@@ -1,7 +1,6 @@
 pub mod Headings
 pub mod Entries
 pub mod Testtags
-pub mod TagReading
-pub mod TesttagsExamples
-pub mod RepositoryReading
 pub mod EntryForms
+pub mod Inner
+pub mod Examples

@@ -2,7 +2,6 @@
 use Rattle.std.specs.Prelude.{ℕ, ◌+◌, ◌&&◌, List, [], ◌∷◌, ◌++◌, length, Option, Some, None, Result, Ok, Err, option_to_list, nat_le, is_some, if◌then◌else◌}
 use Rattle.std.specs.Str.{bytes_eq}
 use Rattle.solv_io.specs.Words.{words_of}
-use Rattle.solv_io.specs.Lines.{numbered_lines}
 use Rattle.solv_base.specs.Pool.{Held}
 use Rattle.solv_pool.specs.Contents.{most_packages}
 use Rattle.solv_pool.specs.Written.{WrittenPackage}
@@ -165,7 +164,3 @@ no_line held before repo = record { repo = repo; before = before; held = held; d
 -- the numbered lines of a repository: its packages, or the first bad line and its first cause
 abbrev pub testtags : Held → ℕ → ℕ → List (ℕ × List ℕ) → Result Repository TagFault
 testtags held before repo lines = lines_read 0 (no_line held before repo) lines
-
--- a repository's file
-abbrev pub testtags_file : Held → ℕ → ℕ → List ℕ → Result Repository TagFault
-testtags_file held before repo bytes = testtags held before repo (numbered_lines bytes)

@@ -1,7 +1,7 @@
 //! The entries of the package in hand: lists of ids in which each stands once.
 ghost use Rattle.std.specs.Prelude.{◌≡◌, ◌==◌, ℕ, map, length, OnOk};
 ghost use Rattle.std.specs.List.{list_any};
-ghost use Rattle.solv_tags.specs.TagReading.{with_id, also_pre_id, with_need_id, with_entry_id};
+ghost use Rattle.solv_tags.specs.Inner.TagReading.{with_id, also_pre_id, with_need_id, with_entry_id};
 
 use crate::tag::Tag;
 use solv_base::{DepId, NameId};

@@ -3,8 +3,8 @@ ghost use Rattle.std.specs.Prelude.{◌≡◌, ◌<◌, ◌∷◌, [], ℕ, List
 ghost use Rattle.solv_base.specs.Pool.{Held, Grows, text_at};
 ghost use Rattle.solv_deps.specs.Entering.{text_entered, Entered};
 ghost use Rattle.solv_tags.specs.Headings.{trimmed};
-ghost use Rattle.solv_tags.specs.RepositoryReading.{HasOneForm};
-ghost use Rattle.solv_tags.specs.TagReading.{IsOf, IsCause, HasRead, HasEnded, AreWithin, HaveTexts};
+ghost use Rattle.solv_tags.specs.Inner.RepositoryReading.{HasOneForm};
+ghost use Rattle.solv_tags.specs.Inner.TagReading.{IsOf, IsCause, HasRead, HasEnded, AreWithin, HaveTexts};
 ghost use Rattle.solv_tags.specs.Testtags.{Tagged, cause_of, or_cause, texts_entered, vendor_entry, path_entry, dependency_entry, entry_of};
 
 use crate::entries::{add_entry, add_name};

@@ -2,7 +2,7 @@
 ghost use Rattle.std.specs.Prelude.{◌≡◌, ◌∷◌, [], length, IfSome, IfNone, OnOk, IfOk};
 ghost use Rattle.solv_io.specs.Words.{words_of};
 ghost use Rattle.solv_tags.specs.Entries.{evr_text};
-ghost use Rattle.solv_tags.specs.TagReading.{package_of};
+ghost use Rattle.solv_tags.specs.Inner.TagReading.{package_of};
 
 use solv_base::NameId;
 use solv_io::split_word;

@@ -7,8 +7,8 @@ ghost use Rattle.solv_pool.specs.Written.{written_package};
 ghost use Rattle.solv_tags.specs.Entries.{evr_text};
 ghost use Rattle.solv_tags.specs.Headings.{closing_sign, is_heading, letters, tag};
 ghost use Rattle.solv_io.specs.Words.{words_of};
-ghost use Rattle.solv_tags.specs.RepositoryReading.{IsTagRefusal, HasOneForm};
-ghost use Rattle.solv_tags.specs.TagReading.{IsCause, IsReading, IsRead, IsHand, HasReadHand, HasEndedHand, IsEnded, HasMore, with_packages, tagged_of};
+ghost use Rattle.solv_tags.specs.Inner.RepositoryReading.{IsTagRefusal, HasOneForm};
+ghost use Rattle.solv_tags.specs.Inner.TagReading.{IsCause, IsReading, IsRead, IsHand, HasReadHand, HasEndedHand, IsEnded, HasMore, with_packages, tagged_of};
 ghost use Rattle.solv_tags.specs.Testtags.{begun, package_entry, entry, entry_of_hand, entry_if_tag, opens_block, outside_block, inside_block, line_read, end_read};
 
 use crate::hand::{enter_package, take_entry};

@@ -3,13 +3,14 @@ ghost use Rattle.std.specs.Prelude.{◌≡◌, ◌<◌, ◌≤◌, true, drop, l
 ghost use Rattle.solv_base.specs.Pool.{Held, Grows};
 ghost use Rattle.std.specs.List.{list_all};
 ghost use Rattle.solv_pool.specs.Belonging.{IsOver};
-ghost use Rattle.solv_pool.specs.Catalog.{alone};
+ghost use Rattle.solv_pool.specs.Inner.Catalog.{alone};
 ghost use Rattle.solv_pool.specs.TaskForms.{is_formed};
 ghost use Rattle.solv_io.specs.Lines.{numbered_lines};
-ghost use Rattle.solv_tags.specs.EntryForms.{conflicts_unconditionally};
-ghost use Rattle.solv_tags.specs.RepositoryReading.{IsTaken, IsTagRefusal, HasOneForm};
-ghost use Rattle.solv_tags.specs.TagReading.{IsReading, HasMore, IsReadTo, tagged_of};
-ghost use Rattle.solv_tags.specs.Testtags.{testtags_file, lines_read};
+ghost use Rattle.solv_tags.specs.Inner.EntryForms.{conflicts_unconditionally};
+ghost use Rattle.solv_tags.specs.Inner.RepositoryReading.{IsTaken, IsTagRefusal, HasOneForm};
+ghost use Rattle.solv_tags.specs.Inner.TagReading.{IsReading, HasMore, IsReadTo, tagged_of};
+ghost use Rattle.solv_tags.specs.Inner.Testtags.{testtags_file};
+ghost use Rattle.solv_tags.specs.Testtags.{lines_read};
 
 use crate::tag_fault::TagFault;
 use crate::tag_reader::TagReader;

@@ -6,10 +6,11 @@ ghost use Rattle.solv_base.specs.declared.relation.DepNode.TheVariants.{Simple, 
 ghost use Rattle.solv_pool.specs.declared.packages.Repo.{Repo};
 ghost use Rattle.solv_tags.specs.Entries.{bare_package};
 ghost use Rattle.solv_deps.specs.Entering.{is_relation};
-ghost use Rattle.solv_tags.specs.Testtags.{Repository, testtags_file, line_read, no_line, cause_of};
-ghost use Rattle.solv_deps.specs.Laws.{repeated};
-ghost use Rattle.solv_tags.specs.RepositoryReading.{IsTaken, IsTagRefusal, HasOneForm};
-ghost use Rattle.solv_tags.specs.TesttagsExamples.{empty_pool, map_read, given, given_behind, given_by_lines, given_after_a, bad, noarch, package_a, simple, compared, at_least, equal, below, at_most, need, with_one_repo, one_package};
+ghost use Rattle.solv_tags.specs.Testtags.{Repository, line_read, no_line, cause_of};
+ghost use Rattle.solv_tags.specs.Inner.Testtags.{testtags_file};
+ghost use Rattle.solv_deps.specs.Examples.Laws.{repeated};
+ghost use Rattle.solv_tags.specs.Inner.RepositoryReading.{IsTaken, IsTagRefusal, HasOneForm};
+ghost use Rattle.solv_tags.specs.Examples.TesttagsExamples.{empty_pool, map_read, given, given_behind, given_by_lines, given_after_a, bad, noarch, package_a, simple, compared, at_least, equal, below, at_most, need, with_one_repo, one_package};
 ghost use Rattle.solv_tags.specs.declared.tag_fault.TagCause.TheVariants.{Dep, BadPackageLine, TagBeforePackage, UnclosedBlock, TooManyPackages, FullNames, Memory};
 ghost use Rattle.solv_deps.specs.declared.fault.DepFault.{DepFault};
 ghost use Rattle.solv_tags.specs.declared.tag_fault.TagFault.{TagFault};

@@ -5,7 +5,8 @@ use Rattle.std.specs.Int.{bit_at, trailing_zeros}
 use Rattle.std.proofs.lemmas.Bool.{cases_Bool, cases_eq, cases_lt, eqb-true}
 use Rattle.std.proofs.lemmas.List.{get_or-replicate, get_or_past, length-replicate}
 use Rattle.std.proofs.lemmas.Nat.Bits.{bit_at_and, bit_at_or, bit_at_not, bit_at-lt, bit_at-zero, bit_at_above, bit_at_ones, bit_at_mask_inside, bit_at_mask_below, bit_at-trailing_zeros, bit_at_set_same, bit_at_set_other, bit_at_clear_same, bit_at_clear_other, ones_shl}
-use Rattle.solv_trail.specs.Numbers.{has, IsFirst}
+use Rattle.solv_trail.specs.Inner.Numbers.{has, IsFirst}
+use Rattle.solv_list.proofs.Booleans.{and_true}
 
 pub ne-eqb : (a b : ℕ) → (a ≡ b → ⊥) → eqb a b ≡ false
 ne-eqb a b differ = go (cases_Bool (eqb a b))
@@ -183,13 +184,9 @@ module _ (test : ℕ → Bool) (place word : ℕ) (same : (i : ℕ) → i < 64 �
         at_number k (omega arith) (omega arith) ∙ first.2 (k - place * 64) (omega arith) (omega arith),
   )
 
-alone : (b : Bool) → (b && true) ≡ b
-alone true = refl
-alone false = refl
-
 -- beside the empty set nothing is left out
 pub beside_none : (words : List ℕ) (k : ℕ) → (has words k && not (has [] k)) ≡ has words k
-beside_none words k = ap (λ b. has words k && not b) (has_past [] k (omega arith)) ∙ alone (has words k)
+beside_none words k = ap (λ b. has words k && not b) (has_past [] k (omega arith)) ∙ and_true (has words k)
 
 -- the first of a test that says the same
 pub first_of : (rule test : ℕ → Bool) (same : (k : ℕ) → rule k ≡ test k) (from : ℕ) (o : Option ℕ) → IsFirst rule from o → IsFirst test from o
@@ -213,10 +210,6 @@ has_small words n few h = elim (cases_lt n (64 * length words)) [
   | inl small ↦ omega arith
   | inr large ↦ absurd (let none : has words n ≡ false = has_past words n large in let both : true ≡ false = sym h ∙ none in cc)
 ]
-
-pub and_left : (a b : Bool) → (a && b) ≡ true → a ≡ true
-and_left true b h = refl
-and_left false b h = cc
 
 -- a word that another one has all bits of
 pub within_word : (a b : ℕ) → b < 2 ^ 64 → bit_and a (18446744073709551615 - b) ≡ 0 → (i : ℕ) → i < 64 → eqb (bit_at a i) 1 ≡ true → eqb (bit_at b i) 1 ≡ true

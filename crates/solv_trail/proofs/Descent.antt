@@ -5,11 +5,12 @@ use Rattle.std.proofs.lemmas.Bool.{cases_lt, lt-ltb, le-leb, and_from}
 use Rattle.std.proofs.lemmas.List.{take-append-le, take-take, take_at, get_or-take, get_or_append_left, get_or_push, length_push}
 use Rattle.solv_pool.specs.Propagation.{is_fact, is_refuted}
 use Rattle.solv_derive.specs.Range.{names_package}
-use Rattle.solv_trail.specs.Derivation.{IsConsistent, IsTrail}
-use Rattle.solv_trail.specs.Held.{Held}
-use Rattle.solv_trail.specs.Used.{used_clauses}
-use Rattle.solv_trail.specs.Propagated.{IsUsed, choice, by_rule, IsReasoned, IsAtRest, IsGrown, Propagated, clash, rest}
-use Rattle.solv_trail.specs.Descends.{asked_pack, AreAsked, IsKept, Ended, clash as ended_clash}
+use Rattle.solv_trail.specs.Inner.Derivation.{IsConsistent, IsTrail}
+use Rattle.solv_trail.specs.Inner.Held.{Held}
+use Rattle.solv_trail.specs.Inner.Used.{used_clauses}
+use Rattle.solv_trail.specs.Inner.Propagated.{IsUsed, choice, by_rule, IsReasoned, IsAtRest, IsGrown, Propagated, clash, rest}
+use Rattle.solv_trail.specs.Descends.{asked_pack}
+use Rattle.solv_trail.specs.Inner.Descends.{AreAsked, IsKept, Ended, clash as ended_clash}
 use Rattle.solv_trail.specs.declared.questions.Ask.{Ask}
 use Rattle.solv_trail.proofs.Trails.{trail_choose}
 use Rattle.solv_trail.proofs.Runs.{grown_trail, rest_quiet}

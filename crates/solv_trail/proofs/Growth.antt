@@ -1,18 +1,11 @@
 -- A trail grows by what rules in use force.
-use Rattle.std.proofs.Common.{◌≡◌, ℕ, zero, suc, ◌+◌, Bool, true, List, [], ◌∷◌, ◌++◌, length, take, get_or, Some, inl, inr, refl, sym, ap, ◌∙◌, subst, arith}
-use Rattle.std.specs.Prelude.{ℤ, pos, slice_get}
-use Rattle.std.proofs.lemmas.Bool.{and_parts, cases_lt}
+use Rattle.std.proofs.Common.{◌≡◌, ℕ, ◌+◌, Bool, List, [], ◌∷◌, ◌++◌, length, take, get_or, Some, inl, inr, refl, sym, ap, ◌∙◌, subst, arith}
+use Rattle.std.specs.Prelude.{ℤ, pos}
+use Rattle.std.proofs.lemmas.Bool.{cases_lt}
 use Rattle.std.proofs.lemmas.List.{take-append-le, take_all, take_at, get_or_append_left, get_or_push, length_push}
 use Rattle.solv_derive.specs.Forced.{forced}
-use Rattle.solv_derive.specs.Range.{is_over, are_over}
-use Rattle.solv_trail.specs.Held.{Held}
-use Rattle.solv_trail.specs.Propagated.{IsUsed, choice, by_rule, IsReasoned, IsGrown}
-
--- each rule is over the packages where all are
-pub rule_over : (count : ℕ) (rules : List (List ℤ)) (k : ℕ) (c : List ℤ) → are_over count rules ≡ true → slice_get rules k ≡ Some c → is_over count c ≡ true
-rule_over count [] k c h e = cc
-rule_over count (x ∷ xs) zero c h e = let f : x ≡ c = cc in ap (is_over count) (sym f) ∙ (and_parts (is_over count x) (are_over count xs) h).0
-rule_over count (x ∷ xs) (suc k) c h e = rule_over count xs k c (and_parts (is_over count x) (are_over count xs) h).1 e
+use Rattle.solv_trail.specs.Inner.Held.{Held}
+use Rattle.solv_trail.specs.Inner.Propagated.{IsUsed, choice, by_rule, IsReasoned, IsGrown}
 
 module _ (rules : List (List ℤ)) (used : ℕ → Bool) where
   pub grown_self : (held : Held) → IsGrown rules used held held

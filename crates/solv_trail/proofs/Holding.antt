@@ -9,10 +9,11 @@ use Rattle.std.proofs.lemmas.List.Sums.{sum_by-set, sum_by-cons}
 use Rattle.std.proofs.lemmas.List.Folds.{list_all-append}
 use Rattle.solv_pool.specs.Propagation.{is_fact, is_refuted}
 use Rattle.solv_derive.specs.Range.{names_package}
-use Rattle.solv_trail.specs.Held.{IsHeld, code, filled}
-use Rattle.solv_derive.proofs.Facts.{same, same_self, all_member}
+use Rattle.solv_trail.specs.Inner.Held.{IsHeld, code, filled}
+use Rattle.solv_derive.proofs.Facts.{same_self, all_member}
 use Rattle.solv_derive.proofs.Tables.{names_parts, names_neg, known_push}
 use Rattle.solv_trail.proofs.Walk.{known_at, known_place}
+use Rattle.solv_list.proofs.Numbers.{same_integer}
 
 filled_le : (v : ℕ) → filled v ≤ 1
 filled_le v = go (eqb v 0) refl
@@ -124,7 +125,7 @@ module _ (count : ℕ) (values places : List ℕ) (lits : List ℤ) (reasons mar
     pushed_other m h = sym (known_push lits l m) ∙ ap (λ b. b || is_fact lits m) (int_ne (cases_Bool (int_eq m l)))
       where
         int_ne : ((int_eq m l ≡ true) ⊎ (int_eq m l ≡ false)) → int_eq m l ≡ false
-        int_ne (inl e) = absurd (h (same m l e))
+        int_ne (inl e) = absurd (h (same_integer m l e))
         int_ne (inr f) = f
 
     -- with one more literal
@@ -293,7 +294,7 @@ module _ (count : ℕ) (values places : List ℕ) (lits : List ℤ) (l : ℤ) (r
   popped_other m h = sym (known_push lits l m) ∙ ap (λ b. b || is_fact lits m) (int_ne (cases_Bool (int_eq m l)))
     where
       int_ne : ((int_eq m l ≡ true) ⊎ (int_eq m l ≡ false)) → int_eq m l ≡ false
-      int_ne (inl e) = absurd (h (same m l e))
+      int_ne (inl e) = absurd (h (same_integer m l e))
       int_ne (inr f) = f
 
   pub held_pop : ((k : ℕ) → k < length marks → get_or marks k 0 < length lits) → length marks ≤ length lits → IsHeld count (set values (nat_abs l) 0) places lits reasons marks

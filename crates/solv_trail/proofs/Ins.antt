@@ -5,12 +5,13 @@ use Rattle.std.specs.Ordering.{int_eq}
 use Rattle.std.proofs.lemmas.Bool.{cases_Bool, cases_eq, ltb-false}
 use Rattle.solv_pool.specs.Propagation.{is_fact}
 use Rattle.solv_derive.specs.Range.{names_package}
-use Rattle.solv_derive.proofs.Facts.{same, same_self}
+use Rattle.solv_derive.proofs.Facts.{same_self}
 use Rattle.solv_derive.proofs.Tables.{names_parts, known_push}
-use Rattle.solv_trail.specs.Numbers.{has}
-use Rattle.solv_trail.specs.Held.{IsHeld, AreIn}
+use Rattle.solv_trail.specs.Inner.Numbers.{has}
+use Rattle.solv_trail.specs.Inner.Held.{IsHeld, AreIn}
 use Rattle.solv_trail.proofs.Bits.{ne-eqb}
 use Rattle.solv_trail.proofs.Holding.{popped_alone, popped_over}
+use Rattle.solv_list.proofs.Numbers.{same_integer}
 
 pub nat_as_int : (k n : ℕ) → eqb k n ≡ int_eq (pos k) (pos n)
 nat_as_int k n = elim (cases_eq k n) [
@@ -19,7 +20,7 @@ nat_as_int k n = elim (cases_eq k n) [
 ]
   where
     other : (k ≡ n → ⊥) → ((int_eq (pos k) (pos n) ≡ true) ⊎ (int_eq (pos k) (pos n) ≡ false)) → int_eq (pos k) (pos n) ≡ false
-    other differ (inl e) = absurd (differ (ap nat_abs (same (pos k) (pos n) e)))
+    other differ (inl e) = absurd (differ (ap nat_abs (same_integer (pos k) (pos n) e)))
     other differ (inr e) = e
 
 -- the package of a literal that says "in"
@@ -48,7 +49,7 @@ one_less_in count values places lits l reasons r marks held words new are long u
     left : (k : ℕ) (b : Bool) → int_eq (pos k) l ≡ b → (f : Bool) → is_fact lits (pos k) ≡ f → (not b && (b || f)) ≡ f
     left k false e f g = refl
     left k true e false g = refl
-    left k true e true g = absurd (popped_alone count values places lits l reasons r marks held (pos k) g (ap nat_abs (same (pos k) l e)))
+    left k true e true g = absurd (popped_alone count values places lits l reasons r marks held (pos k) g (ap nat_abs (same_integer (pos k) l e)))
 
 -- a literal over the packages has its place in the set
 pub fits_in : (count : ℕ) (words : List ℕ) (lits : List ℤ) (l : ℤ) → AreIn count words lits → names_package count l ≡ true → (0 < nat_abs l) × (nat_abs l < 64 * length words)

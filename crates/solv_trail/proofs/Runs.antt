@@ -9,11 +9,12 @@ use Rattle.solv_derive.specs.Range.{is_over}
 use Rattle.solv_derive.proofs.Facts.{known_here}
 use Rattle.solv_derive.proofs.Sound.{AllSo, forced_is_so}
 use Rattle.solv_trail.specs.Walk.{asserts, met_by_choices}
-use Rattle.solv_trail.specs.Derivation.{IsConsistent, IsQuiet, AllQuiet, none, more, Among, here, there, chosen, forced_by, IsTrail}
-use Rattle.solv_trail.proofs.Walk.{met, known_next}
-use Rattle.solv_trail.specs.Held.{Held}
-use Rattle.solv_trail.specs.Used.{used_from, used_clauses}
-use Rattle.solv_trail.specs.Propagated.{IsUsed, choice, by_rule, IsReasoned, IsAtRest, IsGrown}
+use Rattle.solv_trail.specs.Inner.Derivation.{IsConsistent, IsQuiet, AllQuiet, none, more, Among, here, there, chosen, forced_by, IsTrail}
+use Rattle.solv_trail.proofs.Walk.{met}
+use Rattle.solv_trail.specs.Inner.Held.{Held}
+use Rattle.solv_trail.specs.Inner.Used.{used_from, used_clauses}
+use Rattle.solv_trail.specs.Inner.Propagated.{IsUsed, choice, by_rule, IsReasoned, IsAtRest, IsGrown}
+use Rattle.solv_trail.proofs.Unit.{known_next}
 
 module _ (used : ℕ → Bool) where
   among_from : (rules : List (List ℤ)) (i r : ℕ) (c : List ℤ) → slice_get rules r ≡ Some c → used (i + r) ≡ true → Among c (used_from used i rules)

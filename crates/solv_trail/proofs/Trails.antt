@@ -8,7 +8,7 @@ use Rattle.std.proofs.lemmas.List.Folds.{list_any-append}
 use Rattle.solv_pool.specs.Propagation.{is_fact, is_refuted}
 use Rattle.solv_derive.specs.Forced.{forced}
 use Rattle.solv_derive.proofs.Facts.{known_cases, neg-neg, forces_from, forced_member, open_parts}
-use Rattle.solv_trail.specs.Derivation.{IsConsistent, IsQuiet, AllQuiet, Among, chosen, forced_by, IsChoice, IsTrail}
+use Rattle.solv_trail.specs.Inner.Derivation.{IsConsistent, IsQuiet, AllQuiet, Among, chosen, forced_by, IsChoice, IsTrail}
 use Rattle.solv_trail.proofs.Unit.{among_more, quiet_more}
 use Rattle.solv_trail.proofs.Walk.{take_known}
 

@@ -3,18 +3,15 @@ use Rattle.std.proofs.Common.{◌≡◌, ℕ, zero, suc, ◌+◌, ◌-◌, ◌<�
 use Rattle.std.specs.Prelude.{ℤ, pos, neg_ℤ}
 use Rattle.std.specs.List.{list_any}
 use Rattle.std.specs.Ordering.{int_eq}
-use Rattle.std.proofs.lemmas.Bool.{or_left, or_right, or_cases, or_parts, or_from, cases_Bool, false≢true}
+use Rattle.std.proofs.lemmas.Bool.{or_left, or_right, or_cases, or_parts, or_from, cases_Bool, false≢true, false_from_ne_true}
 use Rattle.std.proofs.lemmas.List.{take_more, take_all}
 use Rattle.std.proofs.lemmas.List.Folds.{list_any-append}
 use Rattle.solv_pool.specs.Propagation.{is_fact, is_refuted, is_open, unit, clashes}
 use Rattle.solv_derive.specs.Forced.{is_satisfied, is_falsified, forced}
 use Rattle.solv_trail.proofs.Rounds.{grown, settled, round, rounds, rounds_are}
-use Rattle.solv_trail.specs.Derivation.{Within, IsConsistent, IsQuiet, AllQuiet, none, more, Among, here, there}
+use Rattle.solv_trail.specs.Inner.Derivation.{Within, IsConsistent, IsQuiet, AllQuiet, none, more, Among, here, there}
 use Rattle.solv_derive.proofs.Facts.{known_here, known_later, known_cases, all_member, all_from, none_member, none_from, filter_same, Forces, forces_from, forced_from, open_parts, open_from, forced_member, forced_others}
-
-false_of : (b : Bool) → (b ≡ true → ⊥) → b ≡ false
-false_of true h = absurd (h refl)
-false_of false h = refl
+use Rattle.solv_list.proofs.Booleans.{same_truth}
 
 pub within_false : (A K : List ℤ) → Within A K → (l : ℤ) → is_refuted A l ≡ true → is_refuted K l ≡ true
 within_false A K w l h = w.sub (neg_ℤ l) h
@@ -23,7 +20,7 @@ not_both : (a b : Bool) → b ≡ true → (not a && not b) ≡ false
 not_both true b h = refl
 not_both false b h = rw h refl
 
-not_open : (B : List ℤ) (m : ℤ) → is_refuted B m ≡ true → is_open B m ≡ false
+pub not_open : (B : List ℤ) (m : ℤ) → is_refuted B m ≡ true → is_open B m ≡ false
 not_open B m g = not_both (is_fact B m) (is_refuted B m) g
 
 module _ (A K c : List ℤ) (x : ℤ) (w : Within A K) (h : forced A c ≡ Some x) where
@@ -40,7 +37,7 @@ module _ (A K c : List ℤ) (x : ℤ) (w : Within A K) (h : forced A c ≡ Some 
       let force : Forces A c x = forces_from A c x h in
       let no_true : is_satisfied K c ≡ false = none_from (is_fact K) c (λ m k. elim (forced_others A c x force m k) [
         | inl e ↦ ap (is_fact K) e ∙ unknown
-        | inr g ↦ false_of (is_fact K m) (λ t. apart.apart m t (within_false A K w m g))
+        | inr g ↦ false_from_ne_true (is_fact K m) (λ t. apart.apart m t (within_false A K w m g))
       ]) in
       let same_open : filter (is_open K) c ≡ filter (is_open A) c = filter_same (is_open K) (is_open A) c (λ m k. elim (forced_others A c x force m k) [
         | inl e ↦ ap (is_open K) e ∙ open_from K x unknown f ∙ sym (forced_member A c x force).1 ∙ ap (is_open A) (sym e)
@@ -111,16 +108,11 @@ rounds_up j k F A h = let e : k ≡ (k - j) + j = omega arith in let P : ℕ →
 pub false_within : (A K c : List ℤ) → Within A K → is_falsified A c ≡ true → is_falsified K c ≡ true
 false_within A K c w h = all_from (is_refuted K) c (λ m k. within_false A K w m (all_member (is_refuted A) c h m k))
 
-same_bool : (a b : Bool) → (a ≡ true → b ≡ true) → (b ≡ true → a ≡ true) → a ≡ b
-same_bool true b h k = sym (h refl)
-same_bool false true h k = k refl
-same_bool false false h k = refl
-
 no_clause_false : {A K : List ℤ} {F : List (List ℤ)} → AllQuiet K F → Within A K → list_any (is_falsified A) F ≡ false
 no_clause_false none w = refl
 no_clause_false {A} {K} (more {c} {F} q rest) w =
     or_from (is_falsified A c) (list_any (is_falsified A) F)
-    (false_of (is_falsified A c) (λ f. false≢true (sym q.not_false ∙ false_within A K c w f)))
+    (false_from_ne_true (is_falsified A c) (λ f. false≢true (sym q.not_false ∙ false_within A K c w f)))
     (no_clause_false rest w)
 
 -- a fact, or forced by a clause and the literals before it
@@ -175,7 +167,7 @@ round_reaches B U c R x (there {d} {F} a) w h v apart alive =
     round_reaches B U c (settled R d) x a (within_within B R (settled R d) w (settled_keeps R d)) h v apart alive
 
 -- a list's first literals, with one more
-known_next : (T : List ℤ) (j : ℕ) → j < length T → (l : ℤ) → is_fact (take (suc j) T) l ≡ true → (is_fact (take j T) l ≡ true) ⊎ (l ≡ get_or T j (pos 0))
+pub known_next : (T : List ℤ) (j : ℕ) → j < length T → (l : ℤ) → is_fact (take (suc j) T) l ≡ true → (is_fact (take j T) l ≡ true) ⊎ (l ≡ get_or T j (pos 0))
 known_next T j h l k =
     let e : take (suc j) T ≡ take j T ++ get_or T j (pos 0) ∷ [] = rw (← add-one) (take_more T j (pos 0) h) in
     let s : (is_fact (take j T) l || is_fact (get_or T j (pos 0) ∷ []) l) ≡ true = sym (list_any-append (int_eq l) (take j T) (get_or T j (pos 0) ∷ [])) ∙ ap (λ v. is_fact v l) (sym e) ∙ k in
@@ -223,10 +215,10 @@ module _ (F : List (List ℤ)) (A T : List ℤ) (derived : IsDerived F A T) wher
         let inside : Within (rounds k F A) T = within_rounds k A T F start apart quiet in
         or_from (list_any (is_falsified (rounds k F A)) F) (list_any (is_refuted (rounds k F A)) (rounds k F A))
         (no_clause_false quiet inside)
-        (none_from (is_refuted (rounds k F A)) (rounds k F A) (λ l m. false_of (is_refuted (rounds k F A) l) (λ f. apart.apart l (inside.sub l m) (within_false (rounds k F A) T inside l f))))
+        (none_from (is_refuted (rounds k F A)) (rounds k F A) (λ l m. false_from_ne_true (is_refuted (rounds k F A) l) (λ f. apart.apart l (inside.sub l m) (within_false (rounds k F A) T inside l f))))
 
     pub rest_is_reached : (l : ℤ) → is_fact (rounds k F A) l ≡ is_fact T l
-    rest_is_reached l = same_bool (is_fact (rounds k F A) l) (is_fact T l)
+    rest_is_reached l = same_truth (is_fact (rounds k F A) l) (is_fact T l)
         ((within_rounds k A T F start apart quiet).sub l)
         ((all_within k long (clear_from F (rounds k F A) rest_is_clear)).sub l)
 
@@ -246,7 +238,7 @@ module _ (n : ℕ) (F : List (List ℤ)) (A T : List ℤ) (derived : IsDerived F
 pub two_open_quiet : (K c : List ℤ) (l m : ℤ) → is_fact c l ≡ true → is_fact c m ≡ true → (l ≡ m → ⊥) → is_open K l ≡ true → is_open K m ≡ true → IsQuiet K c
 two_open_quiet K c l m hl hm apart ol om = record {
   forces_none = none_of (forced K c) (λ x e. apart (only x e l hl ol ∙ sym (only x e m hm om)));
-  not_false = false_of (is_falsified K c) (λ f. false≢true (sym (open_parts K l ol).1 ∙ all_member (is_refuted K) c f l hl));
+  not_false = false_from_ne_true (is_falsified K c) (λ f. false≢true (sym (open_parts K l ol).1 ∙ all_member (is_refuted K) c f l hl));
 }
   where
     none_of : (o : Option ℤ) → ((x : ℤ) → o ≡ Some x → ⊥) → o ≡ None

@@ -1,16 +1,16 @@
 -- A trail whose choices are at rest is the walk of its choices.
-use Rattle.std.proofs.Common.{◌≡◌, ℕ, zero, suc, ◌+◌, ◌-◌, ◌<◌, ◌≤◌, Bool, true, false, not, ◌&&◌, ◌||◌, List, [], ◌∷◌, ◌++◌, length, take, get_or, map, Option, Some, None, ◌⊎◌, inl, inr, refl, sym, ap, ◌∙◌, subst, arith, add-one}
+use Rattle.std.proofs.Common.{◌≡◌, ℕ, zero, suc, ◌+◌, ◌-◌, ◌<◌, ◌≤◌, Bool, true, false, not, ◌&&◌, ◌||◌, List, [], ◌∷◌, ◌++◌, length, take, get_or, map, Option, Some, None, inl, inr, refl, sym, ap, ◌∙◌, subst, arith, add-one}
 use Rattle.std.specs.Prelude.{ℤ, pos, neg_ℤ, nat_abs, nat_lt}
 use Rattle.std.specs.List.{list_all}
 use Rattle.std.specs.Ordering.{int_eq}
-use Rattle.std.proofs.lemmas.Bool.{or_cases, cases_lt, and_from, lt-ltb, false≢true, cond-true, cond-false}
+use Rattle.std.proofs.lemmas.Bool.{cases_lt, and_from, lt-ltb, false≢true, cond-true, cond-false}
 use Rattle.std.proofs.lemmas.List.{length-map, take_more, take_all, take-take, get_or-take, length-take-le}
 use Rattle.std.proofs.lemmas.List.Folds.{list_any-append}
 use mathlib.Core.Path.{fun_ext}
 use Rattle.solv_pool.specs.Propagation.{is_fact, clashes}
 use Rattle.solv_derive.specs.Forced.{is_falsified}
-use Rattle.solv_trail.specs.Derivation.{Within, IsConsistent, Among}
-use Rattle.solv_trail.specs.Derivation.{chosen, forced_by, IsTrail}
+use Rattle.solv_trail.specs.Inner.Derivation.{Within, IsConsistent, Among}
+use Rattle.solv_trail.specs.Inner.Derivation.{chosen, forced_by, IsTrail}
 use Rattle.solv_trail.specs.Walk.{known_after, choice_after, walk_within, walk, asserts, without_last, met_by_choices}
 use Rattle.solv_derive.proofs.Facts.{known_here, known_later, known_same, known_cases}
 use Rattle.solv_trail.proofs.Unit.{given, implied, IsDerived, clash_in_unit, unit_is_clear, unit_is_reached}
@@ -51,15 +51,6 @@ record Cut (T : List ℤ) (M : List ℕ) (i e : ℕ) : Type 0 where
   many : i ≤ length M
   below : (k : ℕ) → k < i → get_or M k 0 < e
   above : (k : ℕ) → k < length M → get_or M k 0 < e → k < i
-
-pub known_next : (T : List ℤ) (j : ℕ) → j < length T → (l : ℤ) → is_fact (take (suc j) T) l ≡ true → (is_fact (take j T) l ≡ true) ⊎ (l ≡ get_or T j (pos 0))
-known_next T j h l k =
-    let e : take (suc j) T ≡ take j T ++ get_or T j (pos 0) ∷ [] = rw (← add-one) (take_more T j (pos 0) h) in
-    let s : (is_fact (take j T) l || is_fact (get_or T j (pos 0) ∷ []) l) ≡ true = sym (list_any-append (int_eq l) (take j T) (get_or T j (pos 0) ∷ [])) ∙ ap (λ v. is_fact v l) (sym e) ∙ k in
-    elim (or_cases (is_fact (take j T) l) (is_fact (get_or T j (pos 0) ∷ []) l) s) [
-      | inl a ↦ inl a
-      | inr b ↦ elim (known_cases (get_or T j (pos 0)) l [] b) [ inl f ↦ inr f | inr z ↦ absurd (false≢true z) ]
-    ]
 
 pub known_up : (T : List ℤ) (j : ℕ) → j < length T → (l : ℤ) → is_fact (take j T) l ≡ true → is_fact (take (suc j) T) l ≡ true
 known_up T j h l k =

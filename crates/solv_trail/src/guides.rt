@@ -2,7 +2,8 @@
 ghost use Rattle.std.specs.Prelude.{◌≡◌, ◌<◌, ℕ, ℤ, Bool, true, List, Option, length, take, nat_lt};
 ghost use Rattle.std.specs.List.{list_all};
 ghost use Rattle.solv_pool.specs.Propagation.{is_fact};
-ghost use Rattle.solv_trail.specs.Asked.{KeepsLaw, enabled_clauses};
+ghost use Rattle.solv_trail.specs.Inner.Asked.{KeepsLaw};
+ghost use Rattle.solv_trail.specs.Asked.{enabled_clauses};
 ghost use Rattle.solv_trail.specs.declared.questions.Ask.{Ask};
 
 use crate::known::Known;

@@ -3,8 +3,8 @@ ghost use Rattle.std.specs.Prelude.{◌≡◌, ◌≤◌, ◌<◌, ◌+◌, ◌=
 ghost use Rattle.std.specs.List.{list_all};
 ghost use Rattle.solv_pool.specs.Propagation.{is_fact, is_refuted};
 ghost use Rattle.solv_derive.specs.Range.{names_package};
-ghost use Rattle.solv_trail.specs.Held.{code};
-ghost use Rattle.solv_trail.specs.Numbers.{has, room};
+ghost use Rattle.solv_trail.specs.Inner.Held.{code};
+ghost use Rattle.solv_trail.specs.Inner.Numbers.{has, room};
 ghost use Rattle.std.specs.Ordering.{int_eq};
 ghost use Rattle.solv_trail.specs.declared.questions.Question.{Question};
 
@@ -51,7 +51,7 @@ impl Drop for Known {
 
 impl Model for Known {
     ghost use Rattle.std.specs.Prelude.{◌≡◌, ◌≤◌, ◌<◌, length, vec_capacity};
-    ghost use Rattle.solv_trail.specs.Held.{Held, IsHeld, AreIn};
+    ghost use Rattle.solv_trail.specs.Inner.Held.{Held, IsHeld, AreIn};
 
     ghost Value = { Held };
 

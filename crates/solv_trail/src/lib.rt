@@ -9,7 +9,7 @@
 //! - [`Guide`]: who chooses, and [`Recaller`], a guide that remembers; [`Ask`] and [`Question`]: what it asks for, and why; [`taken`]: the literal of what is asked for.
 //! - [`lits_of`], [`is_in_use`]: a rule by its number, in the book or behind it, and whether it is in use.
 //!
-//! `specs/Held` says what is held, `specs/Derivation` and `specs/Propagated` how literals come to be known, `specs/Used` which
+//! `specs/Inner/Held` says what is held, `specs/Inner/Derivation` and `specs/Propagated` how literals come to be known, `specs/Inner/Used` which
 //! clauses are in use, `specs/Asked` what a guide owes, `specs/Descends` what holds between conflicts, and `specs/Walk`
 //! which packages a guide takes from nothing, by `solv_pool`'s unit propagation.
 #![tactic(auto)]

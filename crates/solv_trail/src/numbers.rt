@@ -1,7 +1,7 @@
 //! Sets of numbers, as bits.
 ghost use Rattle.std.specs.Prelude.{◌≡◌, ◌≤◌, ◌<◌, ◌+◌, ◌*◌, ◌/◌, ◌==◌, ◌||◌, ◌&&◌, not, ℕ, List, length, slice_index, true, false, IfOk, IfSome};
 ghost use Rattle.std.specs.Int.{bit_at};
-ghost use Rattle.solv_trail.specs.Numbers.{has, room, IsFirst};
+ghost use Rattle.solv_trail.specs.Inner.Numbers.{has, room, IsFirst};
 
 use std::alloc::{AllocError, Global};
 use std::marker::Model;

@@ -1,20 +1,20 @@
 -- The edges that an order keeps.
-use Rattle.std.proofs.Common.{◌≡◌, ℕ, zero, suc, ◌<◌, Bool, true, false, not, ◌&&◌, ◌||◌, List, [], ◌∷◌, ◌++◌, length, ◌⊎◌, inl, inr, refl, sym, ap, ◌∙◌, subst, arith, eqb, eq-eqb}
+use Rattle.std.proofs.Common.{◌≡◌, ℕ, ◌<◌, Bool, true, false, not, ◌&&◌, ◌||◌, List, [], ◌∷◌, ◌++◌, length, ◌⊎◌, inl, inr, refl, sym, ap, ◌∙◌, subst, arith, eqb, eq-eqb}
 use Rattle.std.specs.Prelude.{slice_index}
 use Rattle.std.specs.List.{list_any, range_with_len}
-use Rattle.std.proofs.lemmas.Bool.{and_parts, and_from, false≢true, eqb-true}
+use Rattle.std.proofs.lemmas.Bool.{and_parts, and_from, false≢true, eqb-true, false_from_ne_true, or_left, or_right}
 use Rattle.solv_graph.specs.Walks.{is_walk, end_of, Leads, InOneClass}
-use Rattle.solv_graph.specs.Graphs.{is_in, row, edge_to}
-use Rattle.solv_graph.specs.Classes.{TellClasses}
-use Rattle.solv_graph.specs.Orders.{waits_in, IsGoodOrder}
+use Rattle.solv_graph.specs.Graphs.{is_in, row}
+use Rattle.solv_graph.specs.Inner.Graphs.{edge_to}
+use Rattle.solv_graph.specs.Inner.Classes.{TellClasses}
+use Rattle.solv_graph.specs.Inner.Orders.{waits_in}
+use Rattle.solv_graph.specs.Orders.{IsGoodOrder}
 use Rattle.solv_trans.specs.Orders.{Counts, a_pre_edge, another_edge}
-use Rattle.solv_trans.specs.Joining.{apart}
-use Rattle.solv_trans.proofs.Lists.{or_cases, or_right, or_left, or_false, not_true, both_ways, any_some, some_any, range_in}
-
-pub edge_bound : (next : List (List ℕ)) (p q : ℕ) → edge_to next p q ≡ true → p < length next
-edge_bound [] p q h = absurd (false≢true h)
-edge_bound (x ∷ next) zero q h = omega arith
-edge_bound (x ∷ next) (suc p) q h = let k = edge_bound next p q h in omega arith
+use Rattle.solv_trans.specs.Inner.Joining.{apart}
+use Rattle.solv_graph.proofs.Numbered.{edge_bound}
+use Rattle.solv_list.proofs.Booleans.{or_cases, or_false, same_truth}
+use Rattle.solv_pool.proofs.Among.{any_from, any_gives}
+use Rattle.solv_prov.proofs.Obsoleting.{among_range}
 
 module _ (marks : List ℕ) (rows : List (List ℕ)) (a b : ℕ) where
   abbrev differ : Bool
@@ -23,11 +23,11 @@ module _ (marks : List ℕ) (rows : List (List ℕ)) (a b : ℕ) where
   -- the edges of a row
   pub row_apart : (from : ℕ) (next : List ℕ) → next ≡ row rows from
       → list_any (λ q. eqb from a && (eqb q b && not (eqb (slice_index marks a) (slice_index marks b)))) next ≡ list_any (λ p. eqb p a && apart marks rows a b) (from ∷ [])
-  row_apart from next e = both_ways _ _ to back
+  row_apart from next e = same_truth _ _ to back
     where
       to : list_any (λ q. eqb from a && (eqb q b && not (eqb (slice_index marks a) (slice_index marks b)))) next ≡ true → list_any (λ p. eqb p a && apart marks rows a b) (from ∷ []) ≡ true
       to h =
-          let r = any_some (λ q. eqb from a && (eqb q b && not (eqb (slice_index marks a) (slice_index marks b)))) next h in
+          let r = any_gives (λ q. eqb from a && (eqb q b && not (eqb (slice_index marks a) (slice_index marks b)))) next h in
           let one = and_parts (eqb from a) (eqb r.0 b && not (eqb (slice_index marks a) (slice_index marks b))) r.2 in
           let two = and_parts (eqb r.0 b) (not (eqb (slice_index marks a) (slice_index marks b))) one.1 in
           let held : is_in next b ≡ true = ap (is_in next) (sym (eqb-true r.0 b two.0)) ∙ r.1 in
@@ -40,20 +40,20 @@ module _ (marks : List ℕ) (rows : List (List ℕ)) (a b : ℕ) where
           let one = and_parts (eqb from a) (apart marks rows a b) k in
           let two = and_parts (edge_to rows a b) (not (eqb (slice_index marks a) (slice_index marks b))) one.1 in
           let held : is_in next b ≡ true = ap (λ l. is_in l b) e ∙ ap (λ x. is_in (row rows x) b) (eqb-true from a one.0) ∙ two.0 in
-          some_any (λ q. eqb from a && (eqb q b && not (eqb (slice_index marks a) (slice_index marks b)))) next b held
+          any_from (λ q. eqb from a && (eqb q b && not (eqb (slice_index marks a) (slice_index marks b)))) next b held
           (and_from (eqb from a) (eqb b b && not (eqb (slice_index marks a) (slice_index marks b))) one.0 (and_from (eqb b b) (not (eqb (slice_index marks a) (slice_index marks b))) (eq-eqb b b refl) two.1))
 
   -- those of all rows
   pub all_apart : (n : ℕ) → length rows ≡ n → list_any (λ p. eqb p a && apart marks rows a b) (range_with_len 0 n) ≡ apart marks rows a b
-  all_apart n size = both_ways _ _ to back
+  all_apart n size = same_truth _ _ to back
     where
       to : list_any (λ p. eqb p a && apart marks rows a b) (range_with_len 0 n) ≡ true → apart marks rows a b ≡ true
-      to h = let r = any_some (λ p. eqb p a && apart marks rows a b) (range_with_len 0 n) h in (and_parts (eqb r.0 a) (apart marks rows a b) r.2).1
+      to h = let r = any_gives (λ p. eqb p a && apart marks rows a b) (range_with_len 0 n) h in (and_parts (eqb r.0 a) (apart marks rows a b) r.2).1
 
       back : apart marks rows a b ≡ true → list_any (λ p. eqb p a && apart marks rows a b) (range_with_len 0 n) ≡ true
       back h =
           let edge = (and_parts (edge_to rows a b) (not (eqb (slice_index marks a) (slice_index marks b))) h).0 in
-          some_any (λ p. eqb p a && apart marks rows a b) (range_with_len 0 n) a (range_in 0 n a (omega arith) (omega (arith, edge_bound rows a b edge, size))) (and_from (eqb a a) (apart marks rows a b) (eq-eqb a a refl) h)
+          any_from (λ p. eqb p a && apart marks rows a b) (range_with_len 0 n) a (among_range 0 n a (omega arith) (omega (arith, edge_bound rows a b edge, size))) (and_from (eqb a a) (apart marks rows a b) (eq-eqb a a refl) h)
 
 -- walks
 module _ (edge : ℕ → ℕ → Bool) where
@@ -131,7 +131,7 @@ module _ (all pre counting : List (List ℕ)) (n : ℕ) (marks pre_marks : List 
       (tells_pre.whole p q (start_bound p q (counts_edge p q h)) (ends p q (counts_edge p q h)) (record { there = leads_step (edge_to pre) p q k.0; back = on_pre }))
 
   differ_from : (ms : List ℕ) (p q : ℕ) → (slice_index ms p ≡ slice_index ms q → ⊥) → not (eqb (slice_index ms p) (slice_index ms q)) ≡ true
-  differ_from ms p q h = ap not (not_true (eqb (slice_index ms p) (slice_index ms q)) (λ e. h (eqb-true (slice_index ms p) (slice_index ms q) e)))
+  differ_from ms p q h = ap not (false_from_ne_true (eqb (slice_index ms p) (slice_index ms q)) (λ e. h (eqb-true (slice_index ms p) (slice_index ms q) e)))
 
   -- the graph has exactly the edges that count
   counted : (p q : ℕ) → Counts (edge_to all) (edge_to pre) p q → edge_to counting p q ≡ true

@@ -3,7 +3,7 @@ use Rattle.std.proofs.Common.{◌≡◌, ℕ, zero, suc, ◌+◌, ◌-◌, ◌<�
 use Rattle.std.specs.Prelude.{slice_get, nat_lt, nat_le, if◌then◌else◌, nat_eq}
 use Rattle.std.specs.List.{list_any, list_all}
 use Rattle.std.specs.Option.{option_eq}
-use Rattle.std.proofs.lemmas.Bool.{and_parts, and_from, false≢true, eqb-true, ltb-true}
+use Rattle.std.proofs.lemmas.Bool.{and_parts, and_from, false≢true, eqb-true, ltb-true, false_from_ne_true, or_left, or_right}
 use Rattle.std.proofs.lemmas.Bool.Decides.{eqb_tells, nat_tests}
 use Rattle.solv_base.specs.Dependency.{Dep}
 use Rattle.solv_pool.specs.Words.{passes, is_among}
@@ -14,13 +14,17 @@ use Rattle.solv_pool.specs.Parts.{parts}
 use Rattle.solv_pool.specs.TaskBelonging.{is_pack}
 use Rattle.solv_pool.specs.declared.packages.Package.{Package}
 use Rattle.solv_pool.specs.declared.tasks.Task.{Task}
-use Rattle.solv_graph.specs.Orders.{turn_at, part_of, late_of, is_placed, is_late}
+use Rattle.solv_graph.specs.Inner.Orders.{turn_at, part_of, late_of, is_placed, is_late}
 use Rattle.solv_graph.specs.declared.orders.Turn.{Turn}
 use Rattle.solv_graph.specs.declared.orders.Turn.TheVariants.{Never, Early, Late}
 use Rattle.solv_trans.specs.Moving.{comes, goes, is_kept, is_part}
 use Rattle.solv_trans.specs.Edges.{is_met_already, brings, serves}
-use Rattle.solv_trans.specs.Joining.{AreTurns, is_early_in, settles}
-use Rattle.solv_trans.proofs.Lists.{or_cases, or_right, or_left, or_false, not_true, not_is, both_ways, here, any_some, some_any, in_filter, filter_in, in_range, range_in, all_at}
+use Rattle.solv_trans.specs.Inner.Joining.{AreTurns, is_early_in, settles}
+use Rattle.solv_trans.proofs.Lists.{in_filter, filter_in, in_range}
+use Rattle.solv_list.proofs.Booleans.{false_of_not, or_cases, or_false, same_truth}
+use Rattle.solv_list.proofs.Lists.{all_at}
+use Rattle.solv_pool.proofs.Among.{any_from, any_gives, here}
+use Rattle.solv_prov.proofs.Obsoleting.{among_range}
 
 module _ (catalog : Catalog) (set : ℕ → Bool) where
   abbrev count : ℕ
@@ -36,7 +40,7 @@ module _ (catalog : Catalog) (set : ℕ → Bool) where
       let both = and_parts (nat_lt 0 p) (nat_le p (length catalog.universe.packages)) h in
       let low : 0 < p = ltb-true 0 p both.0 in
       let high : p ≤ length catalog.universe.packages = le p both.1 in
-      range_in 1 (length catalog.universe.packages) p (omega arith) (omega arith)
+      among_range 1 (length catalog.universe.packages) p (omega arith) (omega arith)
     where
       le : (p : ℕ) → nat_le p (length catalog.universe.packages) ≡ true → p ≤ length catalog.universe.packages
       le p h = grind (arith, nat_tests)
@@ -61,14 +65,14 @@ module _ (catalog : Catalog) (set : ℕ → Bool) where
       lt e = grind (arith, nat_tests)
 
       by : (b : Bool) → nat_lt k (length catalog.universe.packages) ≡ b → is_among (packages catalog) (suc k) ≡ true
-      by true e = range_in 1 (length catalog.universe.packages) (suc k) (omega arith) (lt e)
+      by true e = among_range 1 (length catalog.universe.packages) (suc k) (omega arith) (lt e)
       by false e = absurd (false≢true (ap (λ o. passes o (λ (a : Package). option_eq nat_eq (Some a.repo) catalog.universe.installed)) (sym (past_end catalog.universe.packages k (le e))) ∙ h))
 
   pub comes_pack : (p : ℕ) → comes catalog set p ≡ true → is_among (packages catalog) p ≡ true
   comes_pack p h = in_packages p (and_parts (is_pack (length catalog.universe.packages) p) (set p && not (is_installed catalog p)) h).0
 
   comes_new : (p : ℕ) → comes catalog set p ≡ true → is_installed catalog p ≡ false
-  comes_new p h = not_is (is_installed catalog p) (and_parts (set p) (not (is_installed catalog p)) (and_parts (is_pack (length catalog.universe.packages) p) (set p && not (is_installed catalog p)) h).1).1
+  comes_new p h = false_of_not (is_installed catalog p) (and_parts (set p) (not (is_installed catalog p)) (and_parts (is_pack (length catalog.universe.packages) p) (set p && not (is_installed catalog p)) h).1).1
 
   goes_installed : (p : ℕ) → goes catalog set p ≡ true → is_installed catalog p ≡ true
   goes_installed p h = (and_parts (is_installed catalog p) _ h).0
@@ -77,7 +81,7 @@ module _ (catalog : Catalog) (set : ℕ → Bool) where
   goes_pack p h = installed_pack p (goes_installed p h)
 
   pub not_both : (p : ℕ) → comes catalog set p ≡ true → goes catalog set p ≡ false
-  not_both p h = not_true (goes catalog set p) (λ g. false≢true (sym (comes_new p h) ∙ goes_installed p g))
+  not_both p h = false_from_ne_true (goes catalog set p) (λ g. false≢true (sym (comes_new p h) ∙ goes_installed p g))
 
   pub in_members : (p : ℕ) → is_among (packages catalog) p ≡ true → is_among (members catalog) p ≡ true
   in_members p h = or_right (eqb 0 p) (is_among (packages catalog) p) h
@@ -95,7 +99,7 @@ module _ (catalog : Catalog) (set : ℕ → Bool) where
     never_past (t ∷ ts) (suc k) le = never_past ts k (omega (arith, le))
 
     outside : (p : ℕ) → length catalog.universe.packages < p → is_among (packages catalog) p ≡ false
-    outside p lt = not_true (is_among (packages catalog) p) (λ i. let b = packages_bound p i in omega (arith, b.1, lt))
+    outside p lt = false_from_ne_true (is_among (packages catalog) p) (λ i. let b = packages_bound p i in omega (arith, b.1, lt))
 
     within_or : (p : ℕ) → (p ≤ length catalog.universe.packages) ⊎ (length catalog.universe.packages < p)
     within_or p = elim (eqb_tells 0 (p - length catalog.universe.packages)) [ inl e ↦ let s = e.1 in inl (omega arith) | inr n ↦ let s = n.1 in inr (omega arith) ]
@@ -105,7 +109,7 @@ module _ (catalog : Catalog) (set : ℕ → Bool) where
       | inl le ↦ ap is_placed (are.each p le) ∙ (turn_cases (comes catalog set p) (goes catalog set p) (not_both p)).0
       | inr lt ↦
           ap is_placed (never_past turns p (omega (arith, are.size, lt)))
-          ∙ sym (not_true (is_part catalog set p) (λ h. elim (or_cases (comes catalog set p) (goes catalog set p) h) [
+          ∙ sym (false_from_ne_true (is_part catalog set p) (λ h. elim (or_cases (comes catalog set p) (goes catalog set p) h) [
             | inl c ↦ false≢true (sym (outside p lt) ∙ comes_pack p c)
             | inr g ↦ false≢true (sym (outside p lt) ∙ goes_pack p g)
           ]))
@@ -114,7 +118,7 @@ module _ (catalog : Catalog) (set : ℕ → Bool) where
     pub late_is : (p : ℕ) → late_of turns p ≡ goes catalog set p
     late_is p = elim (within_or p) [
       | inl le ↦ ap is_late (are.each p le) ∙ (turn_cases (comes catalog set p) (goes catalog set p) (not_both p)).1
-      | inr lt ↦ ap is_late (never_past turns p (omega (arith, are.size, lt))) ∙ sym (not_true (goes catalog set p) (λ g. false≢true (sym (outside p lt) ∙ goes_pack p g)))
+      | inr lt ↦ ap is_late (never_past turns p (omega (arith, are.size, lt))) ∙ sym (false_from_ne_true (goes catalog set p) (λ g. false≢true (sym (outside p lt) ∙ goes_pack p g)))
     ]
 
     early_cases : (c g : Bool) → (c ≡ true → g ≡ false) → ((c || g) && not g) ≡ c
@@ -145,14 +149,14 @@ module _ (catalog : Catalog) (set : ℕ → Bool) where
 
     -- a provider that settles it, and being met already
     pub settled_is : (p : ℕ) → is_among (packages catalog) p ≡ true → list_any (settles catalog set p) providers ≡ is_met_already catalog set p (dependency catalog id)
-    settled_is p is_package = both_ways (list_any (settles catalog set p) providers) (is_met_already catalog set p (dependency catalog id)) to from
+    settled_is p is_package = same_truth (list_any (settles catalog set p) providers) (is_met_already catalog set p (dependency catalog id)) to from
       where
         kept_meets : Bool
         kept_meets = list_any (λ q. is_kept catalog set q && package_meets catalog (dependency catalog id) q) (packages catalog)
 
         to : list_any (settles catalog set p) (filter (package_meets catalog (dependency catalog id)) (members catalog)) ≡ true → is_met_already catalog set p (dependency catalog id) ≡ true
         to h =
-            let r = any_some (settles catalog set p) (filter (package_meets catalog (dependency catalog id)) (members catalog)) h in
+            let r = any_gives (settles catalog set p) (filter (package_meets catalog (dependency catalog id)) (members catalog)) h in
             let q = r.0 in
             let m = in_filter (package_meets catalog (dependency catalog id)) (members catalog) r.0 r.1 in
             elim (or_cases (eqb r.0 p) (eqb r.0 0 || is_kept catalog set r.0) r.2) [
@@ -160,7 +164,7 @@ module _ (catalog : Catalog) (set : ℕ → Bool) where
               | inr k ↦ or_right (package_meets catalog (dependency catalog id) p) _ (elim (or_cases (eqb r.0 0) (is_kept catalog set r.0) k) [
                 | inl z ↦ or_left (package_meets catalog (dependency catalog id) 0) _ (ap (package_meets catalog (dependency catalog id)) (sym (eqb-true r.0 0 z)) ∙ m.1)
                 | inr s ↦ or_right (package_meets catalog (dependency catalog id) 0) _
-                    (some_any (λ q. is_kept catalog set q && package_meets catalog (dependency catalog id) q) (packages catalog) r.0 (installed_pack r.0 (and_parts (is_installed catalog r.0) (set r.0) s).0)
+                    (any_from (λ q. is_kept catalog set q && package_meets catalog (dependency catalog id) q) (packages catalog) r.0 (installed_pack r.0 (and_parts (is_installed catalog r.0) (set r.0) s).0)
                     (and_from (is_kept catalog set r.0) (package_meets catalog (dependency catalog id) r.0) s m.1))
               ])
             ]
@@ -168,13 +172,13 @@ module _ (catalog : Catalog) (set : ℕ → Bool) where
         from : is_met_already catalog set p (dependency catalog id) ≡ true → list_any (settles catalog set p) (filter (package_meets catalog (dependency catalog id)) (members catalog)) ≡ true
         from h =
             elim (or_cases (package_meets catalog (dependency catalog id) p) _ h) [
-              | inl m ↦ some_any (settles catalog set p) providers p (filter_in (package_meets catalog (dependency catalog id)) (members catalog) p (in_members p is_package) m) (or_left (eqb p p) _ (eq-eqb p p refl))
+              | inl m ↦ any_from (settles catalog set p) providers p (filter_in (package_meets catalog (dependency catalog id)) (members catalog) p (in_members p is_package) m) (or_left (eqb p p) _ (eq-eqb p p refl))
               | inr k ↦ elim (or_cases (package_meets catalog (dependency catalog id) 0) _ k) [
-                | inl z ↦ some_any (settles catalog set p) providers 0 (filter_in (package_meets catalog (dependency catalog id)) (members catalog) 0 (here 0 (packages catalog)) z) (or_right (eqb 0 p) _ refl)
+                | inl z ↦ any_from (settles catalog set p) providers 0 (filter_in (package_meets catalog (dependency catalog id)) (members catalog) 0 (here 0 (packages catalog)) z) (or_right (eqb 0 p) _ refl)
                 | inr s ↦
-                    let r = any_some (λ q. is_kept catalog set q && package_meets catalog (dependency catalog id) q) (packages catalog) s in
+                    let r = any_gives (λ q. is_kept catalog set q && package_meets catalog (dependency catalog id) q) (packages catalog) s in
                     let both = and_parts (is_kept catalog set r.0) (package_meets catalog (dependency catalog id) r.0) r.2 in
-                    some_any (settles catalog set p) providers r.0 (filter_in (package_meets catalog (dependency catalog id)) (members catalog) r.0 (in_members r.0 r.1) both.1)
+                    any_from (settles catalog set p) providers r.0 (filter_in (package_meets catalog (dependency catalog id)) (members catalog) r.0 (in_members r.0 r.1) both.1)
                     (or_right (eqb r.0 p) _ (or_right (eqb r.0 0) (is_kept catalog set r.0) both.0))
               ]
             ]

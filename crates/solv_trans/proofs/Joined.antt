@@ -1,23 +1,16 @@
 -- Edges that are put into graphs one after another.
-use Rattle.std.proofs.Common.{◌≡◌, ℕ, Bool, true, false, ◌||◌, List, [], ◌++◌, refl, sym, ap, ◌∙◌}
+use Rattle.std.proofs.Common.{◌≡◌, ℕ, Bool, true, ◌||◌, List, [], ◌++◌, refl, sym, ap, ◌∙◌}
 use Rattle.std.specs.List.{list_any}
 use Rattle.std.proofs.lemmas.List.Folds.{list_any-append}
 use Rattle.solv_pool.specs.declared.packages.Need.{Need}
-use Rattle.solv_graph.specs.Graphs.{edge_to}
-use Rattle.solv_trans.specs.Joining.{Adds, Joins}
+use Rattle.solv_graph.specs.Inner.Graphs.{edge_to}
+use Rattle.solv_trans.specs.Inner.Joining.{Adds, Joins}
 use Rattle.solv_trans.specs.declared.edges.Edges.{Edges}
-
-or_false : (a : Bool) → a ≡ (a || false)
-or_false true = refl
-or_false false = refl
-
-or_assoc : (a b c : Bool) → ((a || b) || c) ≡ (a || (b || c))
-or_assoc true b c = refl
-or_assoc false b c = refl
+use Rattle.solv_list.proofs.Booleans.{or_assoc, with_or_false}
 
 module _ {X : Type 0} (asks : X → ℕ → ℕ → Bool) where
   pub adds_none : (old : List (List ℕ)) → Adds asks [] old old
-  adds_none old = record { size = refl; edges = λ a b. or_false (edge_to old a b) }
+  adds_none old = record { size = refl; edges = λ a b. with_or_false (edge_to old a b) }
 
   pub adds_more : (xs ys : List X) (old mid new : List (List ℕ)) → Adds asks xs old mid → Adds asks ys mid new → Adds asks (xs ++ ys) old new
   adds_more xs ys old mid new f g = record {

@@ -9,20 +9,16 @@ use Rattle.std.proofs.lemmas.List.{get_or-set_same, get_or-set_other}
 use Rattle.solv_pool.specs.Words.{passes}
 use Rattle.solv_pool.specs.Catalog.{Catalog, package_at, packages}
 use Rattle.solv_pool.specs.declared.packages.Package.{Package}
-use Rattle.solv_graph.specs.Orders.{turn_at}
+use Rattle.solv_graph.specs.Inner.Orders.{turn_at}
 use Rattle.solv_graph.specs.declared.orders.Turn.{Turn}
 use Rattle.solv_graph.specs.declared.orders.Turn.TheVariants.{Never}
 use Rattle.solv_trans.specs.Moving.{comes}
-use Rattle.solv_trans.specs.Joining.{is_marked, comes_named}
-use Rattle.solv_trans.proofs.Lists.{or_false}
+use Rattle.solv_trans.specs.Inner.Joining.{is_marked, comes_named}
+use Rattle.solv_list.proofs.Booleans.{or_assoc, or_false}
 
 or_true : (a : Bool) → true ≡ (a || true)
 or_true true = refl
 or_true false = refl
-
-or_assoc : (a b c : Bool) → ((a || b) || c) ≡ (a || (b || c))
-or_assoc true b c = refl
-or_assoc false b c = refl
 
 module _ (catalog : Catalog) (set : ℕ → Bool) where
   pub name_marked : (names : List Bool) (p : ℕ) (a : Package) → comes catalog set p ≡ true → package_at catalog p ≡ Some a → a.name < length names → (n : ℕ)

@@ -2,7 +2,7 @@
 use Rattle.std.proofs.Common.{◌≡◌, ℕ, zero, suc, ◌+◌, ◌<◌, Bool, true, false, not, ◌&&◌, ◌||◌, List, [], ◌∷◌, ◌++◌, length, filter, map, inl, inr, refl, sym, ap, ◌∙◌, arith, eqb, eq-eqb, get_or, Option, Some, None}
 use Rattle.std.specs.Prelude.{slice_get, nat_lt, if◌then◌else◌}
 use Rattle.std.specs.List.{list_any, list_all}
-use Rattle.std.proofs.lemmas.Bool.{and_parts, and_from, false≢true, eqb-true, ne_eqb, ltb-true}
+use Rattle.std.proofs.lemmas.Bool.{and_parts, and_from, false≢true, eqb-true, ne_eqb, ltb-true, false_from_ne_true, or_left, or_right}
 use Rattle.std.proofs.lemmas.Bool.Decides.{nat_tests}
 use Rattle.std.proofs.lemmas.List.Folds.{list_any-append}
 use Rattle.solv_base.specs.Dependency.{Dep}
@@ -15,17 +15,20 @@ use Rattle.solv_pool.specs.declared.packages.Package.{Package}
 use Rattle.solv_pool.specs.declared.packages.Need.{Need}
 use Rattle.solv_pool.specs.declared.tasks.Task.{Task}
 use Rattle.solv_prov.specs.Index.{Index}
-use Rattle.solv_graph.specs.Orders.{late_of}
+use Rattle.solv_graph.specs.Inner.Orders.{late_of}
 use Rattle.solv_graph.specs.declared.orders.Turn.{Turn}
 use Rattle.solv_graph.specs.declared.orders.Turn.TheVariants.{Never, Early, Late}
 use Rattle.solv_trans.specs.Moving.{comes, goes}
 use Rattle.solv_trans.specs.Edges.{is_met_already, brings, serves, requires_some, coming_edge, going_edge, edge_by}
-use Rattle.solv_trans.specs.Readiness.{IsReady}
-use Rattle.solv_trans.specs.Joining.{Joins, turn_of, AreTurns, is_early_in, from_one, to_one, settles, unsettled, to_coming, from_going, owned_by}
-use Rattle.solv_trans.proofs.Lists.{or_cases, or_right, or_left, or_false, not_true, not_is, both_ways, any_some, some_any, in_filter, filter_in, all_at, all_members}
+use Rattle.solv_trans.specs.Inner.Readiness.{IsReady}
+use Rattle.solv_trans.specs.Inner.Joining.{Joins, turn_of, AreTurns, is_early_in, from_one, to_one, settles, unsettled, to_coming, from_going, owned_by}
+use Rattle.solv_trans.proofs.Lists.{in_filter, filter_in, all_members}
 use Rattle.solv_trans.specs.declared.edges.Edges.{Edges}
 use Rattle.solv_trans.proofs.Joined.{joins_by, joins_more}
 use Rattle.solv_trans.proofs.Asking.{brings_is, serves_is, settled_is, comes_pack, goes_pack, in_members, packages_bound, late_is, early_is, not_both}
+use Rattle.solv_list.proofs.Booleans.{and_false, false_of_not, or_cases, or_false, same_truth}
+use Rattle.solv_list.proofs.Lists.{all_at, all_left, all_right}
+use Rattle.solv_pool.proofs.Among.{any_from, any_gives}
 
 unsettled_in : (b : Bool) (qs : List ℕ) (q : ℕ) → is_among (if b then [] else qs) q ≡ true → (b ≡ false) × (is_among qs q ≡ true)
 unsettled_in true qs q h = absurd (false≢true h)
@@ -50,10 +53,6 @@ pull_three t g true true true xs = refl
 pull_three t g true true false xs = none_of t xs
 pull_three t g true false l xs = none_of t xs
 pull_three t g false k l xs = none_of t xs
-
-and_false : (a : Bool) → (a && false) ≡ false
-and_false true = refl
-and_false false = refl
 
 -- a package that comes owns no edge as one that goes, and the other way
 coming_only : (c k r x y z s cp gp : Bool) → cp ≡ true → gp ≡ false → (c && (k && r)) ≡ (((c && (k && (cp && r))) || (x && (y && (z && (gp && s))))) || false)
@@ -88,11 +87,11 @@ module _ (catalog : Catalog) (set : ℕ → Bool) where
     -- the edges of one requirement, by its providers
     pub coming_same : (p : ℕ) → is_among (packages catalog) p ≡ true
         → list_any (λ q. from_one turns p need these q a b) (unsettled catalog set p (filter (package_meets catalog (dependency catalog need.dep)) (members catalog))) ≡ list_any (λ n. to_coming catalog set p these n a b) (need ∷ [])
-    coming_same p is_package = both_ways _ _ to from
+    coming_same p is_package = same_truth _ _ to from
       where
         to : list_any (λ q. from_one turns p need these q a b) (unsettled catalog set p (filter (package_meets catalog (dependency catalog need.dep)) (members catalog))) ≡ true → list_any (λ n. to_coming catalog set p these n a b) (need ∷ []) ≡ true
         to h =
-            let r = any_some (λ q. from_one turns p need these q a b) (unsettled catalog set p (filter (package_meets catalog (dependency catalog need.dep)) (members catalog))) h in
+            let r = any_gives (λ q. from_one turns p need these q a b) (unsettled catalog set p (filter (package_meets catalog (dependency catalog need.dep)) (members catalog))) h in
             let u = unsettled_in (list_any (settles catalog set p) (filter (package_meets catalog (dependency catalog need.dep)) (members catalog))) (filter (package_meets catalog (dependency catalog need.dep)) (members catalog)) r.0 r.1 in
             let m = in_filter (package_meets catalog (dependency catalog need.dep)) (members catalog) r.0 u.1 in
             let one = and_parts (these need) (is_early_in turns r.0 && (eqb r.0 a && eqb p b)) r.2 in
@@ -116,19 +115,19 @@ module _ (catalog : Catalog) (set : ℕ → Bool) where
             let three = and_parts (comes catalog set a) (brings catalog set a p (dependency catalog need.dep)) two.1 in
             let four = and_parts (package_meets catalog (dependency catalog need.dep) a) (not (is_met_already catalog set p (dependency catalog need.dep))) (sym (brings_is catalog set need.dep single a p) ∙ three.1) in
             let open_ : list_any (settles catalog set p) (filter (package_meets catalog (dependency catalog need.dep)) (members catalog)) ≡ false =
-            settled_is catalog set need.dep single p is_package ∙ not_is (is_met_already catalog set p (dependency catalog need.dep)) four.1 in
+            settled_is catalog set need.dep single p is_package ∙ false_of_not (is_met_already catalog set p (dependency catalog need.dep)) four.1 in
             ap (λ s. list_any (λ q. from_one turns p need these q a b) (if s then [] else filter (package_meets catalog (dependency catalog need.dep)) (members catalog))) open_
-            ∙ some_any (λ q. from_one turns p need these q a b) (filter (package_meets catalog (dependency catalog need.dep)) (members catalog)) a
+            ∙ any_from (λ q. from_one turns p need these q a b) (filter (package_meets catalog (dependency catalog need.dep)) (members catalog)) a
             (filter_in (package_meets catalog (dependency catalog need.dep)) (members catalog) a (in_members catalog set a (comes_pack catalog set a three.0)) four.0)
             (and_from (these need) (is_early_in turns a && (eqb a a && eqb p b)) one.0
             (and_from (is_early_in turns a) (eqb a a && eqb p b) (early_is catalog set turns are a ∙ three.0) (and_from (eqb a a) (eqb p b) (eq-eqb a a refl) two.0)))
 
     pub going_same : (p : ℕ) → list_any (λ q. to_one turns p need these q a b) (filter (package_meets catalog (dependency catalog need.dep)) (members catalog)) ≡ list_any (λ n. from_going catalog set p these n a b) (need ∷ [])
-    going_same p = both_ways _ _ to from
+    going_same p = same_truth _ _ to from
       where
         to : list_any (λ q. to_one turns p need these q a b) (filter (package_meets catalog (dependency catalog need.dep)) (members catalog)) ≡ true → list_any (λ n. from_going catalog set p these n a b) (need ∷ []) ≡ true
         to h =
-            let r = any_some (λ q. to_one turns p need these q a b) (filter (package_meets catalog (dependency catalog need.dep)) (members catalog)) h in
+            let r = any_gives (λ q. to_one turns p need these q a b) (filter (package_meets catalog (dependency catalog need.dep)) (members catalog)) h in
             let m = in_filter (package_meets catalog (dependency catalog need.dep)) (members catalog) r.0 r.1 in
             let one = and_parts (these need) (not (eqb p r.0) && (late_of turns r.0 && (eqb p a && eqb r.0 b))) r.2 in
             let two = and_parts (not (eqb p r.0)) (late_of turns r.0 && (eqb p a && eqb r.0 b)) one.1 in
@@ -149,7 +148,7 @@ module _ (catalog : Catalog) (set : ℕ → Bool) where
             let two = and_parts (eqb p a) (not (eqb p b) && (goes catalog set b && serves catalog set b (dependency catalog need.dep))) one.1 in
             let three = and_parts (not (eqb p b)) (goes catalog set b && serves catalog set b (dependency catalog need.dep)) two.1 in
             let four = and_parts (goes catalog set b) (serves catalog set b (dependency catalog need.dep)) three.1 in
-            some_any (λ q. to_one turns p need these q a b) (filter (package_meets catalog (dependency catalog need.dep)) (members catalog)) b
+            any_from (λ q. to_one turns p need these q a b) (filter (package_meets catalog (dependency catalog need.dep)) (members catalog)) b
             (filter_in (package_meets catalog (dependency catalog need.dep)) (members catalog) b (in_members catalog set b (goes_pack catalog set b four.0)) (sym (serves_is catalog set need.dep single b) ∙ four.1))
             (and_from (these need) (not (eqb p b) && (late_of turns b && (eqb p a && eqb b b))) one.0
             (and_from (not (eqb p b)) (late_of turns b && (eqb p a && eqb b b)) three.0
@@ -221,7 +220,7 @@ module _ (catalog : Catalog) (set : ℕ → Bool) where
         pull_three these (λ n. serves catalog set b (dependency catalog n.dep)) (eqb p a) (not (eqb p b)) (goes catalog set b) held.requires_
         ∙ ap (λ t. eqb p a && (not (eqb p b) && (goes catalog set b && t))) (requires_are (serves catalog set b))
         ∙ going_only (eqb p b) (comes catalog set a) (requires_some catalog set these (brings catalog set a p) p) (eqb p a) (not (eqb p b)) (goes catalog set b) (requires_some catalog set these (serves catalog set b) p) (comes catalog set p) (goes catalog set p)
-        (not_true (comes catalog set p) (λ c. false≢true (sym (not_both catalog set p c) ∙ g))) g
+        (false_from_ne_true (comes catalog set p) (λ c. false≢true (sym (not_both catalog set p c) ∙ g))) g
 
   pub nothing_owned : (p : ℕ) → comes catalog set p ≡ false → goes catalog set p ≡ false → (these : Need → Bool) (a b : ℕ) → list_any {X = ℕ} (λ x. owned_by catalog set these x a b) [] ≡ list_any (λ x. owned_by catalog set these x a b) (p ∷ [])
   nothing_owned p c g these a b = neither (eqb p b) (comes catalog set a) (requires_some catalog set these (brings catalog set a p) p) (eqb p a) (not (eqb p b)) (goes catalog set b) (requires_some catalog set these (serves catalog set b) p) (comes catalog set p) (goes catalog set p) c g
@@ -245,11 +244,11 @@ module _ (catalog : Catalog) (set : ℕ → Bool) where
 
   -- together they are the edges
   pub all_owned : (these : Need → Bool) (a b : ℕ) → list_any (λ x. owned_by catalog set these x a b) (packages catalog) ≡ edge_by catalog set these a b
-  all_owned these a b = both_ways _ _ to from
+  all_owned these a b = same_truth _ _ to from
     where
       to : list_any (λ x. owned_by catalog set these x a b) (packages catalog) ≡ true → edge_by catalog set these a b ≡ true
       to h =
-          let r = any_some (λ x. owned_by catalog set these x a b) (packages catalog) h in
+          let r = any_gives (λ x. owned_by catalog set these x a b) (packages catalog) h in
           elim (or_cases (eqb r.0 b && (comes catalog set a && (comes catalog set r.0 && requires_some catalog set these (brings catalog set a r.0) r.0))) (eqb r.0 a && (not (eqb r.0 b) && (goes catalog set b && (goes catalog set r.0 && requires_some catalog set these (serves catalog set b) r.0)))) r.2) [
             | inl k ↦
                 let one = and_parts (eqb r.0 b) (comes catalog set a && (comes catalog set r.0 && requires_some catalog set these (brings catalog set a r.0) r.0)) k in
@@ -277,12 +276,12 @@ module _ (catalog : Catalog) (set : ℕ → Bool) where
             | inl k ↦
                 let two = and_parts (comes catalog set a) (comes catalog set b && requires_some catalog set these (brings catalog set a b) b) k in
                 let three = and_parts (comes catalog set b) (requires_some catalog set these (brings catalog set a b) b) two.1 in
-                some_any (λ x. owned_by catalog set these x a b) (packages catalog) b (comes_pack catalog set b three.0)
+                any_from (λ x. owned_by catalog set these x a b) (packages catalog) b (comes_pack catalog set b three.0)
                 (or_left _ _ (and_from (eqb b b) (comes catalog set a && (comes catalog set b && requires_some catalog set these (brings catalog set a b) b)) (eq-eqb b b refl) k))
             | inr k ↦
                 let two = and_parts (goes catalog set a) (goes catalog set b && requires_some catalog set these (serves catalog set b) a) k in
                 let three = and_parts (goes catalog set b) (requires_some catalog set these (serves catalog set b) a) two.1 in
-                some_any (λ x. owned_by catalog set these x a b) (packages catalog) a (goes_pack catalog set a two.0)
+                any_from (λ x. owned_by catalog set these x a b) (packages catalog) a (goes_pack catalog set a two.0)
                 (or_right (eqb a b && (comes catalog set a && (comes catalog set a && requires_some catalog set these (brings catalog set a a) a))) _
                 (and_from (eqb a a) (not (eqb a b) && (goes catalog set b && (goes catalog set a && requires_some catalog set these (serves catalog set b) a))) (eq-eqb a a refl)
                 (and_from (not (eqb a b)) (goes catalog set b && (goes catalog set a && requires_some catalog set these (serves catalog set b) a)) one.0
@@ -294,14 +293,6 @@ pub all_get : {X : Type 0} (f : X → Bool) (xs : List X) (i : ℕ) (x : X) → 
 all_get f [] i x h lt at = absurd (omega arith)
 all_get f (y ∷ xs) zero x h lt at = ap f at ∙ (and_parts (f y) (list_all f xs) h).0
 all_get f (y ∷ xs) (suc i) x h lt at = all_get f xs i x (and_parts (f y) (list_all f xs) h).1 (omega (arith, lt)) at
-
-all_left : {X : Type 0} (p : X → Bool) (xs ys : List X) → list_all p (xs ++ ys) ≡ true → list_all p xs ≡ true
-all_left p [] ys h = refl
-all_left p (x ∷ xs) ys h = and_from (p x) (list_all p xs) (and_parts (p x) (list_all p (xs ++ ys)) h).0 (all_left p xs ys (and_parts (p x) (list_all p (xs ++ ys)) h).1)
-
-all_right : {X : Type 0} (p : X → Bool) (xs ys : List X) → list_all p (xs ++ ys) ≡ true → list_all p ys ≡ true
-all_right p [] ys h = h
-all_right p (x ∷ xs) ys h = all_right p xs ys (and_parts (p x) (list_all p (xs ++ ys)) h).1
 
 all_of_map : (p : ℕ → Bool) (needs : List Need) → list_all p (map (λ (need : Need). need.dep) needs) ≡ true → list_all (λ need. p need.dep) needs ≡ true
 all_of_map p [] h = refl

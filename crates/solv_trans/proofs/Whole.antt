@@ -3,23 +3,24 @@ use Rattle.std.proofs.Common.{◌≡◌, ℕ, zero, suc, ◌+◌, ◌<◌, ◌�
 use mathlib.Core.Path.{fun_ext}
 use Rattle.std.specs.Prelude.{nat_le}
 use Rattle.std.specs.List.{list_any, list_all}
-use Rattle.std.proofs.lemmas.Bool.{and_parts, and_from, false≢true}
+use Rattle.std.proofs.lemmas.Bool.{and_parts, and_from, false≢true, false_from_ne_true, or_left, or_right}
 use Rattle.std.proofs.lemmas.Bool.Decides.{nat_tests}
 use Rattle.solv_pool.specs.Words.{passes, is_among}
 use Rattle.solv_pool.specs.Catalog.{Catalog, package_at, dependency}
 use Rattle.solv_pool.specs.declared.packages.Package.{Package}
 use Rattle.solv_pool.specs.declared.packages.Need.{Need}
-use Rattle.solv_graph.specs.Graphs.{edge_to}
-use Rattle.solv_graph.specs.Orders.{part_of, late_of}
+use Rattle.solv_graph.specs.Inner.Graphs.{edge_to}
+use Rattle.solv_graph.specs.Inner.Orders.{part_of, late_of}
 use Rattle.solv_graph.specs.declared.orders.Turn.{Turn}
 use Rattle.solv_trans.specs.Moving.{comes, goes, is_part}
 use Rattle.solv_trans.specs.Edges.{brings, serves, requires_some, coming_edge, going_edge, edge, pre_edge}
 use Rattle.solv_trans.specs.Orders.{IsOrdered}
-use Rattle.solv_trans.specs.Joining.{is_marked, AreTurns, AreEdges}
+use Rattle.solv_trans.specs.Inner.Joining.{is_marked, AreTurns, AreEdges}
 use Rattle.solv_trans.specs.declared.ordering.Ordered.{Ordered}
 use Rattle.solv_trans.specs.declared.edges.Edges.{Edges}
-use Rattle.solv_trans.proofs.Lists.{or_cases, or_right, or_left, member_of, not_true}
 use Rattle.solv_trans.proofs.Asking.{part_is, late_is}
+use Rattle.solv_list.proofs.Booleans.{or_cases}
+use Rattle.solv_pool.proofs.Among.{among_passes}
 
 -- some requirement asks where some of fewer do
 any_fewer : (these asks : Need → Bool) (ns : List Need) → list_any (λ n. these n && asks n) ns ≡ true → list_any asks ns ≡ true
@@ -114,10 +115,4 @@ table_is table set n size each within = fun_ext (λ p. at p (nat_le p n) refl)
 
     at : (p : ℕ) (b : Bool) → nat_le p n ≡ b → is_marked table p ≡ is_among set p
     at p true e = each p (low p e)
-    at p false e = past_table table p (omega (arith, high p e, size)) ∙ sym (not_true (is_among set p) (λ i. false≢true (sym e ∙ member_of (λ q. nat_le q n) set p within i)))
-
--- what is to be placed has a turn
-pub part_bound : (turns : List Turn) (p : ℕ) → part_of turns p ≡ true → p < length turns
-part_bound [] p h = absurd (false≢true h)
-part_bound (t ∷ turns) zero h = omega arith
-part_bound (t ∷ turns) (suc p) h = let r = part_bound turns p h in omega (arith, r)
+    at p false e = past_table table p (omega (arith, high p e, size)) ∙ sym (false_from_ne_true (is_among set p) (λ i. false≢true (sym e ∙ among_passes (λ q. nat_le q n) set p within i)))

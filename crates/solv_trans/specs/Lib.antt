@@ -1,5 +1,4 @@
 pub mod Moving
 pub mod Edges
 pub mod Orders
-pub mod Readiness
-pub mod Joining
+pub mod Inner

@@ -1,7 +1,8 @@
 //! The edges that an order keeps.
 ghost use Rattle.std.specs.Prelude.{ℕ, ◌≡◌, ◌<◌, ◌∷◌, [], ◌||◌, ◌&&◌, ◌==◌, not, true, length, slice_index, IfOk, OnOk};
-ghost use Rattle.solv_graph.specs.Graphs.{edge_to, is_in};
-ghost use Rattle.solv_trans.specs.Joining.{Adds, apart};
+ghost use Rattle.solv_graph.specs.Inner.Graphs.{edge_to};
+ghost use Rattle.solv_graph.specs.Graphs.{is_in};
+ghost use Rattle.solv_trans.specs.Inner.Joining.{Adds, apart};
 
 use crate::edges::Edges;
 use solv_graph::{Classes, Graph};

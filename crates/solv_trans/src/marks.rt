@@ -1,7 +1,7 @@
 //! Tables of packages.
 ghost use Rattle.std.specs.Prelude.{ℕ, ◌≡◌, ◌<◌, ◌+◌, false, length, IfOk};
 ghost use Rattle.solv_pool.specs.Words.{is_among};
-ghost use Rattle.solv_trans.specs.Joining.{is_marked};
+ghost use Rattle.solv_trans.specs.Inner.Joining.{is_marked};
 
 use solv_pool::PackNo;
 use std::alloc::{AllocError, Global};

@@ -4,7 +4,7 @@ ghost use Rattle.std.specs.List.{list_any};
 ghost use Rattle.solv_pool.specs.Belonging.{IsOver};
 ghost use Rattle.solv_pool.specs.Catalog.{catalog_of, packages};
 ghost use Rattle.solv_trans.specs.Moving.{comes, goes};
-ghost use Rattle.solv_trans.specs.Joining.{is_marked, comes_named, turn_of, AreTurns};
+ghost use Rattle.solv_trans.specs.Inner.Joining.{is_marked, comes_named, turn_of, AreTurns};
 
 use solv_graph::Turn;
 use solv_pool::{PackNo, Task};

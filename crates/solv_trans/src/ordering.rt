@@ -1,15 +1,15 @@
 //! The order in which a transaction is made.
 ghost use Rattle.std.specs.Prelude.{ℕ, ◌≡◌, ◌≤◌, ◌<◌, ◌+◌, true, length, nat_le, IfOk};
 ghost use Rattle.std.specs.List.{list_all};
-ghost use Rattle.solv_graph.specs.Graphs.{edge_to};
-ghost use Rattle.solv_graph.specs.Orders.{part_of, late_of};
+ghost use Rattle.solv_graph.specs.Inner.Graphs.{edge_to};
+ghost use Rattle.solv_graph.specs.Inner.Orders.{part_of, late_of};
 ghost use Rattle.solv_pool.specs.Catalog.{catalog_of};
 ghost use Rattle.solv_pool.specs.Words.{is_among};
 ghost use Rattle.solv_trans.specs.Moving.{goes, is_part};
 ghost use Rattle.solv_trans.specs.Edges.{edge, pre_edge};
-ghost use Rattle.solv_trans.specs.Joining.{is_marked};
+ghost use Rattle.solv_trans.specs.Inner.Joining.{is_marked};
 ghost use Rattle.solv_trans.specs.Orders.{IsOrdered};
-ghost use Rattle.solv_trans.specs.Readiness.{IsReady};
+ghost use Rattle.solv_trans.specs.Inner.Readiness.{IsReady};
 
 use crate::counting::counting_edges;
 use crate::edges::{Edges, edges_of};

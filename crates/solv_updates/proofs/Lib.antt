@@ -1,5 +1,5 @@
-mod Pairs
-mod Near
-mod Puts
+pub mod Pairs
+pub mod Near
+pub mod Puts
 mod Inferior
 mod Asking

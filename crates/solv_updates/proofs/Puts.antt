@@ -1,36 +1,16 @@
 -- Rules put behind others, package by package.
-use Rattle.std.proofs.Common.{◌≡◌, ◌<◌, ◌≤◌, ◌+◌, ◌-◌, ℕ, suc, Bool, true, false, not, ◌&&◌, List, [], ◌∷◌, ◌++◌, map, length, refl, sym, ap, subst, ◌∙◌, arith}
+use Rattle.std.proofs.Common.{◌≡◌, ◌<◌, ◌≤◌, ◌+◌, ◌-◌, ℕ, suc, Bool, true, false, List, [], ◌∷◌, ◌++◌, map, refl, sym, ap, subst, ◌∙◌, arith}
 use Rattle.std.specs.Prelude.{filter}
 use Rattle.std.specs.List.{range_with_len}
 use Rattle.std.proofs.lemmas.List.{append-nil}
 use Rattle.solv_pool.specs.RuleMeaning.{HardRule}
 use Rattle.solv_pool.specs.Words.{when}
 use Rattle.solv_pool.specs.declared.hard_rules.Rules.{Rules}
-use Rattle.solv_jobs.specs.Putting.{IsPut, HasPut, PutsFollow}
-
--- nothing is put
-pub nothing_put : (made : List HardRule) (rules : Rules) → IsPut made made rules rules
-nothing_put made rules = record {
-  more = [];
-  sets = [];
-  list_is = sym (append-nil rules.list);
-  sets_are = sym (append-nil rules.sets);
-  read = refl;
-  own = refl;
-}
-
-pub put_refused : (made left : List HardRule) (old new : Rules) → IsPut made left old new → HasPut false made old new
-put_refused made left old new put = record { left = left; put = put; whole = λ h. cc }
-
-pub put_whole : (made : List HardRule) (old new : Rules) → IsPut made [] old new → HasPut true made old new
-put_whole made old new put = record { left = []; put = put; whole = λ h. refl }
+use Rattle.solv_jobs.specs.Inner.Putting.{IsPut, HasPut, PutsFollow}
+use Rattle.solv_jobs.proofs.Puts.{none_left, nothing_put, put_refused, put_whole}
 
 pub nothing_made : (rules : Rules) → HasPut true [] rules rules
 nothing_made rules = put_whole [] rules rules (nothing_put [] rules)
-
-none_left : (left : List HardRule) → length left ≡ 0 → left ≡ []
-none_left [] h = refl
-none_left (x ∷ xs) h = absurd (omega (arith, h))
 
 module _ (follow : PutsFollow) (all made rest : List HardRule) (old mid new : Rules) (before : IsPut all (made ++ rest) old mid) where
   -- all of them were put, so the rest is what is left
@@ -90,22 +70,6 @@ module _ (follow : PutsFollow) (test : ℕ → Bool) (make : ℕ → HardRule) (
   put_some b =
       subst (λ t. HasPut false t old new) (rules_whole test make count)
       (put_stops follow (rules_from test make 0 count) (when (test (number + 1)) (make (number + 1) ∷ [])) (rules_from test make (number + 1) count) old mid new turned b)
-
-pub not_this : (a : Bool) → a ≡ true → not a ≡ false
-not_this true h = refl
-not_this false h = sym h
-
-pub and_not_left : (a b : Bool) → a ≡ false → (a && b) ≡ false
-and_not_left true b h = cc
-and_not_left false b h = refl
-
-pub and_not_right : (a b : Bool) → b ≡ false → (a && b) ≡ false
-and_not_right true b h = h
-and_not_right false b h = refl
-
-pub and_both : (a b : Bool) → a ≡ true → b ≡ true → (a && b) ≡ true
-and_both true b h k = k
-and_both false b h k = h
 
 pub refused_unchanged : (made : List HardRule) (rules : Rules) → HasPut false made rules rules
 refused_unchanged made rules = put_refused made made rules rules (nothing_put made rules)

@@ -9,8 +9,8 @@ ghost use Rattle.solv_pool.specs.RuleMeaning.{infarch};
 ghost use Rattle.solv_pool.specs.TaskBelonging.{is_pack};
 ghost use Rattle.solv_pool.specs.Words.{when};
 ghost use Rattle.solv_prov.specs.Index.{IsIndexOf};
-ghost use Rattle.solv_jobs.specs.Putting.{HasPut};
-ghost use Rattle.solv_updates.specs.Places.{IsPlace};
+ghost use Rattle.solv_jobs.specs.Inner.Putting.{HasPut};
+ghost use Rattle.solv_updates.specs.Inner.Places.{IsPlace};
 
 use crate::comparing::{is_noarch, package};
 use solv_jobs::{put_rule, puts_follow_each_other};

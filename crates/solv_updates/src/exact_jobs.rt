@@ -9,8 +9,8 @@ ghost use Rattle.solv_pool.specs.JobMarks.{is_install};
 ghost use Rattle.solv_pool.specs.Words.{passes};
 ghost use Rattle.solv_pool.specs.TaskBelonging.{IsClosed, is_pack, choice_fits};
 ghost use Rattle.solv_prov.specs.Index.{IsIndexOf};
-ghost use Rattle.solv_updates.specs.Places.{IsPlace};
-ghost use Rattle.solv_updates.specs.Exact.{has_name, are_named, asks_for_name, asked_name, AreAsked};
+ghost use Rattle.solv_updates.specs.Inner.Places.{IsPlace};
+ghost use Rattle.solv_updates.specs.Inner.Exact.{has_name, are_named, asks_for_name, asked_name, AreAsked};
 
 use crate::comparing::package;
 use solv_base::{DepId, DepNode, NameId};

@@ -10,8 +10,8 @@ ghost use Rattle.solv_pool.specs.TaskBelonging.{is_pack};
 ghost use Rattle.solv_pool.specs.Updates.{coexist, is_feature, is_legal, flags_allow, feature_set, legal_set};
 ghost use Rattle.solv_prov.specs.Index.{IsIndexOf};
 ghost use Rattle.solv_jobs.specs.Marking.{HasMarks};
-ghost use Rattle.solv_updates.specs.Places.{IsPlace};
-ghost use Rattle.solv_updates.specs.Replacing.{is_near, is_wanted, is_candidate};
+ghost use Rattle.solv_updates.specs.Inner.Places.{IsPlace};
+ghost use Rattle.solv_updates.specs.Inner.Replacing.{is_near, is_wanted, is_candidate};
 
 use crate::comparing::{coexist, flags_allow, package};
 use solv_jobs::put_in_order;

@@ -8,10 +8,10 @@ ghost use Rattle.solv_pool.specs.RuleMeaning.{update, feature};
 ghost use Rattle.solv_pool.specs.TaskBelonging.{IsClosed};
 ghost use Rattle.solv_pool.specs.Words.{when};
 ghost use Rattle.solv_prov.specs.Index.{IsIndexOf};
-ghost use Rattle.solv_jobs.specs.Putting.{HasPut};
-ghost use Rattle.solv_updates.specs.Exact.{AreAsked};
+ghost use Rattle.solv_jobs.specs.Inner.Putting.{HasPut};
+ghost use Rattle.solv_updates.specs.Inner.Exact.{AreAsked};
 ghost use Rattle.solv_jobs.specs.Marking.{HasMarks};
-ghost use Rattle.solv_updates.specs.Places.{IsPlace};
+ghost use Rattle.solv_updates.specs.Inner.Places.{IsPlace};
 
 use crate::comparing::package;
 use crate::exact_jobs::asked_names;

@@ -1,22 +1,23 @@
 -- One rule after another is hung at two of its literals.
-use Rattle.std.proofs.Common.{◌≡◌, ◌≢◌, ℕ, zero, suc, ◌+◌, ◌*◌, ◌/◌, ◌^◌, ◌<◌, ◌≤◌, true, false, List, [], ◌∷◌, ◌++◌, length, take, drop, get_or, set, Option, Some, inl, inr, refl, sym, ap, ◌∙◌, subst, arith, length-append, take_all, length-take-le, eqb, eq-eqb, ne_eqb, if◌then◌else◌}
-use Rattle.std.proofs.lemmas.Grind.{common_steps}
+use Rattle.std.proofs.Common.{◌≡◌, ◌≢◌, ℕ, zero, suc, ◌+◌, ◌*◌, ◌/◌, ◌^◌, ◌<◌, ◌≤◌, true, false, List, [], ◌∷◌, ◌++◌, length, take, get_or, set, Some, inl, inr, refl, sym, ap, ◌∙◌, subst, arith, length-append, take_all, length-take-le, eqb, eq-eqb, ne_eqb, if◌then◌else◌}
 use Rattle.std.specs.Prelude.{ℤ, pos, slice_get}
 use Rattle.std.proofs.lemmas.Bool.{cases_lt, cases_eq, cases_Bool}
 use Rattle.std.proofs.lemmas.List.{length-set, length_push, get_or_append_left, get_or_push, take_at}
 use Rattle.std.proofs.lemmas.Option.{slice_get_within}
-use Rattle.solv_pack.specs.Literals.{place_of}
-use Rattle.solv_pack.specs.Packing.{no_link}
-use Rattle.solv_watch.specs.Chains.{Has, IsChain, AreHung, AreAllHung, other}
-use Rattle.solv_watch.specs.Spares.{AreTwoOf}
-use Rattle.solv_watch.specs.Watching.{literal_of, place_at, IsWatch, ArePairs, AreChained, AreChainedTo, AreNarrow}
+use Rattle.solv_pack.specs.Inner.Literals.{place_of}
+use Rattle.solv_pack.specs.Inner.Packing.{no_link}
+use Rattle.solv_watch.specs.Inner.Chains.{Has, IsChain, AreHung, AreAllHung, other}
+use Rattle.solv_watch.specs.Inner.Spares.{AreTwoOf}
+use Rattle.solv_watch.specs.Inner.Watching.{literal_of, place_at, IsWatch, ArePairs, AreChained, AreChainedTo, AreNarrow}
 use Rattle.std.specs.Ordering.{int_eq}
 use Rattle.solv_pool.specs.Propagation.{is_fact}
-use Rattle.solv_derive.proofs.Facts.{same, known_later, known_same}
-use Rattle.solv_watch.specs.Spares.{without}
+use Rattle.solv_derive.proofs.Facts.{known_later, known_same}
+use Rattle.solv_watch.specs.Inner.Spares.{without}
 use Rattle.solv_watch.proofs.Pairs.{two_flip, without_here, without_later}
 use Rattle.solv_watch.proofs.Hanging.{put, put_is, put_same, hung_somewhere}
 use Rattle.solv_watch.proofs.Adding.{entry_first, entry_second, entry_before}
+use Rattle.solv_list.proofs.Answers.{one_clause}
+use Rattle.solv_list.proofs.Numbers.{same_integer}
 
 -- the first rules
 get_taken : (xs : List (List ℤ)) (r k : ℕ) (c : List ℤ) → slice_get (take r xs) k ≡ Some c → (slice_get xs k ≡ Some c) × (k < r)
@@ -44,9 +45,6 @@ is_less rules r v h is =
 
 is_below : (rules : List (List ℤ)) (r v : ℕ) → IsWatch (take r rules) v → v / 2 < r
 is_below rules r v is = (get_taken rules r (v / 2) is.clause is.held).1
-
-one_clause : (o : Option (List ℤ)) (c d : List ℤ) → o ≡ Some c → o ≡ Some d → c ≡ d
-one_clause o c d e f = cc
 
 module _ (count r : ℕ) (rules : List (List ℤ)) (heads links : List ℕ) (watched : List ℤ) (chained : AreChainedTo count r rules heads links watched) (c : List ℤ) (found : slice_get rules r ≡ Some c) where
   below : r < length rules
@@ -228,7 +226,7 @@ first_two (x ∷ []) a b h e f = absurd (omega arith)
 first_two (x ∷ y ∷ c) a b h e f = record {
   second = known_later x b (y ∷ c) (known_same y b c f);
   first = elim (cases_Bool (int_eq x b)) [
-    | inl t ↦ let q : x ≡ b = same x b t in ap (λ l. is_fact l a) (without_here b x (y ∷ c) t) ∙ known_same y a c (e ∙ q ∙ f)
+    | inl t ↦ let q : x ≡ b = same_integer x b t in ap (λ l. is_fact l a) (without_here b x (y ∷ c) t) ∙ known_same y a c (e ∙ q ∙ f)
     | inr n ↦ ap (λ l. is_fact l a) (without_later b x (y ∷ c) n) ∙ known_same x a (without b (y ∷ c)) e
   ];
 }
@@ -286,10 +284,6 @@ narrow_none rules r c numbers found wide h =
                 absurd (omega arith)
           ];
     }
-
--- a slice of a whole vector that was written
-pub whole_write : {X : Type 0} (new items : List X) (len : ℕ) → length new ≡ length items → len ≡ length items → take len (new ++ drop (length new) items) ≡ new
-whole_write new items len e f = grind (arith, common_steps)
 
 -- more links behind change no chain
 chain_more : (links more : List ℕ) (from : ℕ) (ws : List ℕ) → ((w : ℕ) → Has ws w → w < length links) → IsChain links from ws → IsChain (links ++ more) from ws

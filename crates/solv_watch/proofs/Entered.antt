@@ -7,16 +7,16 @@ use Rattle.std.proofs.lemmas.List.{length_push, length-take-le, get_or-take}
 use Rattle.solv_pool.specs.Propagation.{is_fact, is_refuted, is_open}
 use Rattle.solv_derive.specs.Forced.{forced}
 use Rattle.solv_derive.proofs.Facts.{open_parts, known_here, same_self}
-use Rattle.solv_watch.specs.Spares.{AreTwoOf}
+use Rattle.solv_watch.specs.Inner.Spares.{AreTwoOf}
 use Rattle.solv_watch.proofs.Pairs.{two_flip, without_here}
-use Rattle.solv_trail.specs.Derivation.{IsConsistent, IsQuiet}
+use Rattle.solv_trail.specs.Inner.Derivation.{IsConsistent, IsQuiet}
 use Rattle.solv_trail.specs.Walk.{asserts}
 use Rattle.solv_trail.proofs.Walk.{take_known}
-use Rattle.solv_watch.specs.Watching.{literal_of, AreGuards, Each, IsKeptAtChoices, IsKeptUpto, always}
-use Rattle.solv_watch.specs.Watching.{AreChained, AreChainedTo}
-use Rattle.solv_watch.specs.Propagating.{AreKeptAtChoices, AreReady}
+use Rattle.solv_watch.specs.Inner.Watching.{literal_of, AreGuards, Each, IsKeptAtChoices, IsKeptUpto, always}
+use Rattle.solv_watch.specs.Inner.Watching.{AreChained, AreChainedTo}
+use Rattle.solv_watch.specs.Inner.Propagating.{AreKeptAtChoices, AreReady}
 use Rattle.solv_watch.specs.declared.chains.Watches.{Watches}
-use Rattle.solv_trail.specs.Held.{Held}
+use Rattle.solv_trail.specs.Inner.Held.{Held}
 use Rattle.solv_watch.proofs.Chained.{chained_more, all_chained}
 use Rattle.solv_watch.proofs.Keeping.{kept_cut, kept_grown, kept_choices_grown, lone_forces}
 use Rattle.solv_watch.proofs.Learning.{learnt_wide, learnt_lone, last_late}

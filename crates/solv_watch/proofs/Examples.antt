@@ -3,7 +3,7 @@ use Rattle.std.proofs.Common.{◌≡◌, ℕ, ◌≤◌, Bool, true, false, ◌|
 use Rattle.std.specs.Prelude.{ℤ, pos, negsuc, if◌then◌else◌}
 use Rattle.std.proofs.lemmas.Bool.{false≢true}
 use Rattle.solv_pool.specs.Propagation.{is_fact}
-use Rattle.solv_trail.specs.Descends.{AsksUnknown, IsKept}
+use Rattle.solv_trail.specs.Inner.Descends.{AsksUnknown, IsKept}
 use Rattle.solv_watch.specs.Examples.{asks_for_one}
 use Rattle.solv_trail.specs.declared.questions.Ask.{Ask}
 use Rattle.solv_trail.specs.declared.questions.Question.TheVariants as question

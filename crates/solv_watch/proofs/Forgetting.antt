@@ -1,9 +1,9 @@
 -- Which heads lead somewhere.
 use Rattle.std.proofs.Common.{◌≡◌, ℕ, ◌<◌, ◌≤◌, ◌⊎◌, List, [], ◌∷◌, length, get_or, inl, inr, refl, sym, subst, arith}
 use Rattle.std.specs.Prelude.{ℤ}
-use Rattle.solv_pack.specs.Packing.{no_link}
-use Rattle.solv_watch.specs.Chains.{Has, IsChain}
-use Rattle.solv_watch.specs.Watching.{place_at, AreChained, AreHeads}
+use Rattle.solv_pack.specs.Inner.Packing.{no_link}
+use Rattle.solv_watch.specs.Inner.Chains.{Has, IsChain}
+use Rattle.solv_watch.specs.Inner.Watching.{place_at, AreChained, AreHeads}
 
 -- a head that leads somewhere leads to a watch, which is at its literal
 pub heads_of : (count : ℕ) (rules : List (List ℤ)) (heads links : List ℕ) (watched : List ℤ) → AreChained count rules heads links watched → AreHeads count heads watched

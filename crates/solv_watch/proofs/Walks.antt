@@ -1,6 +1,6 @@
 -- A walk through a chain.
 use Rattle.std.proofs.Common.{◌≡◌, ◌≢◌, ℕ, zero, suc, ◌+◌, ◌*◌, ◌/◌, ◌^◌, ◌<◌, ◌≤◌, Bool, true, false, eqb, List, [], ◌∷◌, ◌++◌, length, take, get_or, set, Option, Some, inl, inr, refl, sym, ap, ◌∙◌, subst, arith, append_assoc, if◌then◌else◌}
-use Rattle.std.specs.Prelude.{ℤ, pos, negsuc, neg_ℤ, slice_get}
+use Rattle.std.specs.Prelude.{ℤ, pos, neg_ℤ, slice_get}
 use Rattle.std.specs.List.{list_any, IsDistinct}
 use Rattle.std.proofs.lemmas.Map.Made.{IsDistinct-from_AllPairs}
 use Rattle.std.proofs.lemmas.Bool.Decides.{Decides-eqb}
@@ -10,31 +10,24 @@ use Rattle.std.proofs.lemmas.List.{length-set, take-append-le, length_push}
 use Rattle.std.proofs.lemmas.List.Folds.{list_any-append}
 use Rattle.std.proofs.lemmas.Map.Steps.{length-le_from_distinct_below}
 use Rattle.solv_pool.specs.Propagation.{is_fact, is_refuted}
-use Rattle.solv_pack.specs.Literals.{place_of}
-use Rattle.solv_pack.specs.Packing.{no_link}
+use Rattle.solv_pack.specs.Inner.Literals.{place_of}
+use Rattle.solv_pack.specs.Inner.Packing.{no_link}
 use Rattle.solv_derive.proofs.Facts.{neg-neg, known_here}
-use Rattle.solv_trail.specs.Derivation.{IsConsistent}
+use Rattle.solv_trail.specs.Inner.Derivation.{IsConsistent}
 use Rattle.solv_trail.proofs.Walk.{take_known, known_at}
-use Rattle.solv_watch.specs.Chains.{Has, AreOnce, IsChain, AreHung, AreAllHung, other, heads_past, links_past}
-use Rattle.solv_watch.specs.Spares.{AreTwoOf}
-use Rattle.solv_watch.specs.Watching.{literal_of, place_at, IsWatch, ArePairs, AreGuards, AreGuardsAtChoices, Each, AreChained, IsPart, Looked, stays, falsified, forces, moves}
+use Rattle.solv_watch.specs.Inner.Chains.{Has, AreOnce, IsChain, AreHung, AreAllHung, other, heads_past, links_past}
+use Rattle.solv_watch.specs.Inner.Spares.{AreTwoOf}
+use Rattle.solv_watch.specs.Inner.Watching.{literal_of, place_at, IsWatch, ArePairs, AreGuards, AreGuardsAtChoices, Each, AreChained, IsPart, Looked, stays, falsified, forces, moves}
 use Rattle.solv_watch.specs.declared.walking.Visit.TheVariants.{Stays, Falsified, Forces, Moves}
 use Rattle.solv_derive.specs.Forced.{is_falsified, forced}
-use Rattle.solv_derive.specs.Range.{names_package}
-use Rattle.solv_derive.proofs.Tables.{names_parts}
-use Rattle.solv_trail.specs.Propagated.{IsUsed}
+use Rattle.solv_derive.proofs.Tables.{place_of-injective}
+use Rattle.solv_trail.specs.Inner.Propagated.{IsUsed}
 use Rattle.solv_watch.proofs.Hanging.{IsFront, none, upto, Has-left, Has-right, length-heads_past, length-links_past, rehung, once_right, chain_set, behind_past}
 use Rattle.solv_watch.proofs.Guards.{moved_guards, moved_pairs, guards_next, guards_more, refuted_next, literal_same, literal_other}
 
 -- the places of two literals differ
 place_even : (n m : ℕ) → 2 * n ≡ 2 * (m + 1) + 1 → ⊥
 place_even n m e = omega arith
-
-pub place_tells : (a b : ℤ) → place_of a ≡ place_of b → a ≡ b
-place_tells (pos n) (pos m) e = let f : n ≡ m = omega arith in ap pos f
-place_tells (pos n) (negsuc m) e = absurd (place_even n m e)
-place_tells (negsuc n) (pos m) e = absurd (place_even m n (sym e))
-place_tells (negsuc n) (negsuc m) e = let f : n ≡ m = omega arith in ap negsuc f
 
 -- what holds where a walk stands before the watch, and behind last
 pub record IsWalk (count : ℕ) (rules : List (List ℤ)) (used : ℕ → Bool) (heads links : List ℕ) (watched lits : List ℤ) (marks : List ℕ) (at place last watch : ℕ) : Type 0 where
@@ -229,14 +222,14 @@ module _ (count : ℕ) (rules : List (List ℤ)) (used : ℕ → Bool) (heads li
   walk_moved last watch y c h n apart not_false room found two =
       let s = rest_some links watch h.rest n h.behind in
       let o = walk_at last watch h n in
-      let was_false : is_refuted lits (literal_of watched watch) ≡ true = ap (is_refuted lits) (place_tells (literal_of watched watch) h.literal (o.2 ∙ h.placed)) ∙ h.now_false in
+      let was_false : is_refuted lits (literal_of watched watch) ≡ true = ap (is_refuted lits) (place_of-injective (literal_of watched watch) h.literal (o.2 ∙ h.placed)) ∙ h.now_false in
       let within : watch < length watched = let m : watch < 2 * length rules = o.0 in omega (arith, h.two) in
       let next : ℕ = get_or links watch 0 in
       let heads2 : List ℕ = set (heads_past heads place last next) (place_of y) watch in
       let links2 : List ℕ = set (links_past links last next) watch (get_or (heads_past heads place last next) (place_of y) 0) in
       let there : h.chain place ≡ h.front ++ watch ∷ s.0 = h.here ∙ ap (λ c. h.front ++ c) s.1 in
       let differs : place_of y ≢ place = λ e.
-      let q : y ≡ literal_of watched watch = place_tells y (literal_of watched watch) (e ∙ sym o.2) in
+      let q : y ≡ literal_of watched watch = place_of-injective y (literal_of watched watch) (e ∙ sym o.2) in
       false≢true (sym not_false ∙ ap (is_refuted lits) q ∙ was_false) in
       let hang = rehung heads links (IsWatch rules) (place_at watched) h.chain h.hung place watch (place_of y) last h.front s.0 (place_at (set watched watch y))
       h.all h.within room differs h.walked there (ap place_of (literal_same watched watch y within)) (λ v m. ap place_of (literal_other watched watch v y m)) in
@@ -334,11 +327,6 @@ looked_forces (forces c u f) = (c, u, f)
 
 pub looked_moves : {rules : List (List ℤ)} {used : ℕ → Bool} {lits : List ℤ} {rule : ℕ} {b y : ℤ} → Looked rules used lits rule b (Moves y) → (c : List ℤ) × IsUsed rules used rule c × AreTwoOf y b c × (is_refuted lits y ≡ false)
 looked_moves (moves y c u t f) = (c, u, t, f)
-
--- where literals of packages up to a number hang
-pub place_within : (count : ℕ) (l : ℤ) → names_package count l ≡ true → place_of l < 2 * count + 2
-place_within count (pos n) h = let m : n ≤ count = (names_parts count (pos n) h).1 in omega arith
-place_within count (negsuc n) h = let m : suc n ≤ count = (names_parts count (negsuc n) h).1 in omega arith
 
 -- a rule in use among these is one among all
 pub used_among : (all : List (List ℤ)) (inuse : ℕ → Bool) (base : ℕ) (rules : List (List ℤ)) (own : ℕ → Bool) → IsPart all inuse base rules own → (r : ℕ) (c : List ℤ) → IsUsed rules own r c → IsUsed all inuse (base + r) c

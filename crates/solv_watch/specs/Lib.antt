@@ -1,5 +1,2 @@
-pub mod Chains
-pub mod Spares
-pub mod Watching
-pub mod Propagating
 pub mod Examples
+pub mod Inner

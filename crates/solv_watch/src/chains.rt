@@ -1,8 +1,8 @@
 //! Chains of watches: from the head of a literal one link after another leads through the watches of that literal.
 ghost use Rattle.std.specs.Prelude.{◌≡◌, ◌<◌, ◌*◌, length, slice_index, slice_set};
-ghost use Rattle.solv_pack.specs.Literals.{place_of};
-ghost use Rattle.solv_pack.specs.Packing.{no_link};
-ghost use Rattle.solv_watch.specs.Chains.{other, heads_past, links_past};
+ghost use Rattle.solv_pack.specs.Inner.Literals.{place_of};
+ghost use Rattle.solv_pack.specs.Inner.Packing.{no_link};
+ghost use Rattle.solv_watch.specs.Inner.Chains.{other, heads_past, links_past};
 
 use solv_pack::{Lit, RuleMem, RuleNo};
 

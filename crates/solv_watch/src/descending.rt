@@ -3,8 +3,8 @@ ghost use Rattle.std.specs.Prelude.{◌≡◌, ◌<◌, ◌≤◌, ◌^◌, ◌+
 ghost use Rattle.std.specs.List.{list_all};
 ghost use Rattle.solv_derive.specs.Range.{are_over};
 ghost use Rattle.solv_trail.specs.Propagated.{in_use};
-ghost use Rattle.solv_trail.specs.Descends.{AsksUnknown, Ended, IsKept};
-ghost use Rattle.solv_watch.specs.Propagating.{AreWatched, AreKeptAtChoices, AreReady};
+ghost use Rattle.solv_trail.specs.Inner.Descends.{AsksUnknown, Ended, IsKept};
+ghost use Rattle.solv_watch.specs.Inner.Propagating.{AreWatched, AreKeptAtChoices, AreReady};
 
 use crate::chains::Watches;
 use crate::propagation::propagate;

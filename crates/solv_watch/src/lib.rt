@@ -15,8 +15,8 @@
 //!
 //! None of these takes memory but `Watches::over`.
 //!
-//! `specs/Propagating` says what propagation needs of the watches and keeps, `specs/Watching` what the watches of one memory
-//! keep, `specs/Chains` how watches are linked, and `specs/Spares` which literals a rule may watch.
+//! `specs/Inner/Propagating` says what propagation needs of the watches and keeps, `specs/Inner/Watching` what the watches of one memory
+//! keep, `specs/Inner/Chains` how watches are linked, and `specs/Inner/Spares` which literals a rule may watch.
 #![tactic(auto)]
 
 mod chaining;

@@ -3,11 +3,12 @@ ghost use Rattle.std.specs.Prelude.{◌≡◌, ◌<◌, ◌≤◌, ◌+◌, ◌-
 ghost use Rattle.std.specs.List.{list_all};
 ghost use Rattle.solv_derive.specs.Range.{are_over};
 ghost use Rattle.solv_derive.specs.Forced.{is_falsified};
-ghost use Rattle.solv_trail.specs.Propagated.{in_use, IsUsed, IsGrown, Propagated};
+ghost use Rattle.solv_trail.specs.Propagated.{in_use};
+ghost use Rattle.solv_trail.specs.Inner.Propagated.{IsUsed, IsGrown, Propagated};
 ghost use Rattle.solv_pool.specs.Propagation.{is_fact};
 ghost use Rattle.solv_derive.specs.Forced.{is_satisfied};
-ghost use Rattle.solv_watch.specs.Watching.{AreChained, AreNarrow, AreNarrowTrue, AreGuards, AreGuardsAtChoices, Each, IsPart, always, IsKeptAtChoices, IsKeptUpto};
-ghost use Rattle.solv_watch.specs.Propagating.{AreWatched, AreKeptAtChoices, AreReady, AreSeen};
+ghost use Rattle.solv_watch.specs.Inner.Watching.{AreChained, AreNarrow, AreNarrowTrue, AreGuards, AreGuardsAtChoices, Each, IsPart, always, IsKeptAtChoices, IsKeptUpto};
+ghost use Rattle.solv_watch.specs.Inner.Propagating.{AreWatched, AreKeptAtChoices, AreReady, AreSeen};
 
 use crate::chains::{Chains, Watches};
 use crate::walking::walk;

@@ -2,13 +2,14 @@
 ghost use Rattle.std.specs.Prelude.{◌≡◌, ◌<◌, ◌≤◌, ◌+◌, ◌*◌, ◌/◌, ◌%◌, ◌^◌, ℕ, ℤ, pos, neg_ℤ, Bool, true, List, Some, None, length, take, nat_lt, slice_get, slice_index, slice_index_or, slice_set, Option, IfSome};
 ghost use Rattle.std.specs.List.{list_all};
 ghost use Rattle.solv_pool.specs.Propagation.{is_fact};
-ghost use Rattle.solv_pack.specs.Literals.{place_of};
-ghost use Rattle.solv_pack.specs.Packing.{no_link, link_place};
+ghost use Rattle.solv_pack.specs.Inner.Literals.{place_of};
+ghost use Rattle.solv_pack.specs.Inner.Packing.{no_link, link_place};
 ghost use Rattle.solv_derive.specs.Range.{is_over, are_over, names_package};
 ghost use Rattle.solv_derive.specs.Forced.{is_falsified};
-ghost use Rattle.solv_trail.specs.Propagated.{in_use, IsUsed, IsGrown};
-ghost use Rattle.solv_watch.specs.Chains.{other, heads_past, links_past};
-ghost use Rattle.solv_watch.specs.Watching.{literal_of, AreChained, AreGuards, AreGuardsAtChoices, Each, IsPart, Looked};
+ghost use Rattle.solv_trail.specs.Propagated.{in_use};
+ghost use Rattle.solv_trail.specs.Inner.Propagated.{IsUsed, IsGrown};
+ghost use Rattle.solv_watch.specs.Inner.Chains.{other, heads_past, links_past};
+ghost use Rattle.solv_watch.specs.Inner.Watching.{literal_of, AreChained, AreGuards, AreGuardsAtChoices, Each, IsPart, Looked};
 
 use crate::chains::{NOWHERE, beside, link_of, rewatch};
 use crate::spares::spare;

@@ -5,7 +5,7 @@ ghost use Rattle.std.specs.List.{prefix_len};
 ghost use Rattle.std.specs.Ordering.{nat_cmp};
 ghost use Rattle.std.specs.Str.Parse.{digits_value, AllDigits};
 ghost use Rattle.solv_base.specs.Tokens.{tokens, rank, version_cmp};
-ghost use Rattle.solv_base.specs.Heads.{head_token, tokens_from, heads_cmp, stands_in_token, HasDigits};
+ghost use Rattle.solv_base.specs.Inner.Heads.{head_token, tokens_from, heads_cmp, stands_in_token, HasDigits};
 
 use std::cmp::Ordering;
 

@@ -1,6 +1,6 @@
 //! Why the reading of a line halts.
 ghost use Rattle.std.specs.Prelude.{◌≡◌};
-ghost use Rattle.solv_script.specs.Halts.{halt_of_text, halt_of_tag};
+ghost use Rattle.solv_script.specs.Inner.Halts.{halt_of_text, halt_of_tag};
 
 use solv_commands::Cause;
 use solv_tags::{DepFault, TagCause};

@@ -3,8 +3,8 @@ ghost use Rattle.std.specs.Prelude.{◌≡◌, ◌<◌, ◌==◌, ◌∷◌, ◌
 ghost use Rattle.std.specs.List.{list_all, list_any};
 ghost use Rattle.solv_pool.specs.TaskBelonging.{IsClosed};
 ghost use Rattle.solv_pool.specs.Written.{written_task};
-ghost use Rattle.solv_script.specs.Finders.{IsFinder};
-ghost use Rattle.solv_script.specs.Halts.{IsHalt};
+ghost use Rattle.solv_script.specs.Inner.Finders.{IsFinder};
+ghost use Rattle.solv_script.specs.Inner.Halts.{IsHalt};
 ghost use Rattle.solv_script.specs.Rows.{and_then, package_numbers};
 
 use crate::whole::finder::Finder;

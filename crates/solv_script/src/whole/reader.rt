@@ -5,11 +5,11 @@ ghost use Rattle.solv_pool.specs.Catalog.{catalog_of};
 ghost use Rattle.solv_pool.specs.TaskBelonging.{IsClosed};
 ghost use Rattle.solv_pool.specs.TaskForms.{HasForms};
 ghost use Rattle.solv_script.specs.Grammar.{counted};
-ghost use Rattle.solv_script.specs.Halts.{IsHalt};
-ghost use Rattle.solv_script.specs.Readings.{IsReader, HasRead, state_of};
+ghost use Rattle.solv_script.specs.Inner.Halts.{IsHalt};
+ghost use Rattle.solv_script.specs.Inner.Readings.{IsReader, HasRead, state_of};
 ghost use Rattle.solv_script.specs.ScriptsOf.{IsScriptOf};
 ghost use Rattle.solv_script.specs.States.{no_line};
-ghost use Rattle.solv_tags.specs.EntryForms.{conflicts_unconditionally};
+ghost use Rattle.solv_tags.specs.Inner.EntryForms.{conflicts_unconditionally};
 
 use crate::scripts::{EvrCheck, Kinds, Script};
 use crate::whole::finder::Finder;

@@ -2,8 +2,8 @@
 ghost use Rattle.std.specs.Prelude.{◌≡◌, ◌++◌, ◌∷◌, [], ℕ, List, map, OnOk, IfOk, IfErr};
 ghost use Rattle.solv_io.specs.Lines.{lines_of, numbered_lines};
 ghost use Rattle.solv_script.specs.Grammar.{of_result, with_lines};
-ghost use Rattle.solv_script.specs.Halts.{IsHalt, IsRefusal};
-ghost use Rattle.solv_script.specs.Readings.{IsReader, HasRead, state_of};
+ghost use Rattle.solv_script.specs.Inner.Halts.{IsHalt, IsRefusal};
+ghost use Rattle.solv_script.specs.Inner.Readings.{IsReader, HasRead, state_of};
 ghost use Rattle.solv_script.specs.Results.{with_kind, kinds_named, expected};
 ghost use Rattle.solv_script.specs.Rows.{result_row};
 ghost use Rattle.solv_script.specs.ScriptLines.{inline_lines};

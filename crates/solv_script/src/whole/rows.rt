@@ -1,10 +1,11 @@
 //! What a line's command does.
 ghost use Rattle.std.specs.Prelude.{◌≡◌, length, None, Err, IsOk, OnOk, IfOk, IfErr, IfSome};
 ghost use Rattle.std.specs.Option.{option_map};
-ghost use Rattle.solv_commands.specs.Borrowed.{command_of};
+ghost use Rattle.solv_commands.specs.Inner.Borrowed.{command_of};
 ghost use Rattle.solv_script.specs.Grammar.{of_packages, file_named};
-ghost use Rattle.solv_script.specs.Halts.{IsHalt};
-ghost use Rattle.solv_script.specs.Readings.{IsReader, HasRead, FitsLast, named_of, state_of};
+ghost use Rattle.solv_script.specs.Inner.Halts.{IsHalt};
+ghost use Rattle.solv_script.specs.Inner.Readings.{IsReader, HasRead, FitsLast, state_of};
+ghost use Rattle.solv_script.specs.Examples.Readings.{named_of};
 ghost use Rattle.solv_script.specs.Rows.{plain_row};
 ghost use Rattle.solv_script.specs.declared.whole.rows.Purpose.TheVariants.{Packages};
 

@@ -4,7 +4,8 @@ use Rattle.std.specs.List.{list_all}
 use Rattle.solv_derive.specs.Leaves.{leaves}
 use Rattle.solv_core.specs.Cores.{CoreOf}
 use Rattle.solv_rules.specs.Books.{read_rules}
-use Rattle.solv_remedy.specs.Remedies.{IsRemedies, is_spent_remedies}
+use Rattle.solv_remedy.specs.Remedies.{IsRemedies}
+use Rattle.solv_remedy.specs.Inner.Remedies.{is_spent_remedies}
 use Rattle.solv_remedy.specs.declared.problems.Remedies.{Remedies}
 use Rattle.solv_answers.specs.Answers.{request, all_enabled, hard_clauses, hard_owners}
 use Rattle.solv_answers.proofs.Remedied.{leaves_within, none_meets, listed_made, spent_later}

@@ -1,7 +1,8 @@
 use Rattle.std.proofs.Common.{◌≡◌, ◌∙◌, sym, ap, rules}
 use Rattle.std.specs.declared.cmp.Ordering.TheVariants.{Equal}
 use Rattle.solv_base.proofs.MatchingTable.{table-unequal, table-wanted_lacks}
-use Rattle.solv_base.specs.Evr.{Parts, parts_of, stem_cmp}
+use Rattle.solv_base.specs.Evr.{Parts, stem_cmp}
+use Rattle.solv_base.specs.Inner.Evr.{parts_of}
 use Rattle.solv_base.specs.Matching.{meets_by_order}
 use Rattle.solv_base.proofs.version.meets_by_table.Goals as goal
 

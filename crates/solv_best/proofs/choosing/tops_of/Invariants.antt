@@ -5,7 +5,7 @@ use Rattle.std.specs.List.{list_all}
 use Rattle.std.specs.Ordering.{nat_cmp}
 use Rattle.solv_pool.specs.Catalog.{catalog_of}
 use Rattle.solv_pool.specs.TaskBelonging.{is_pack}
-use Rattle.solv_best.specs.Standing.{ahead_of_name, top_of_name, ArePlaces}
+use Rattle.solv_best.specs.Inner.Standing.{ahead_of_name, top_of_name, ArePlaces}
 use Rattle.solv_best.proofs.choosing.tops_of.Given as goal
 
 abbrev pub invariant-loop-pack : goal.invariant-loop-pack

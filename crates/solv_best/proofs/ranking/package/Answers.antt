@@ -1,7 +1,8 @@
 use Rattle.std.proofs.Common.{◌-◌, length}
 use Rattle.solv_pool.specs.Belonging.{fits}
-use Rattle.solv_best.proofs.Places.{all_at, evr_below, repo_below}
+use Rattle.solv_best.proofs.Places.{evr_below, repo_below}
 use Rattle.solv_best.proofs.ranking.package.Goals as goal
+use Rattle.solv_list.proofs.Lists.{all_at}
 
 pub returns-clause-versioned : goal.returns-clause-versioned
 returns-clause-versioned c =

@@ -7,7 +7,7 @@ use Rattle.solv_pool.specs.HardRules.{best_job_rule, best_job_rules}
 use Rattle.solv_pool.specs.JobMarks.{is_install}
 use Rattle.solv_pool.specs.Selections.{selection}
 use Rattle.solv_pool.specs.Words.{when}
-use Rattle.solv_jobs.specs.Putting.{IsPut}
+use Rattle.solv_jobs.specs.Inner.Putting.{IsPut}
 use Rattle.solv_best.proofs.ruling.add_best_jobs.Given as goal
 
 abbrev pub invariant-loop-number : goal.invariant-loop-number

@@ -6,11 +6,12 @@ use Rattle.solv_pool.specs.HardRules.{best_update_rule, best_update_rules, selec
 use Rattle.solv_pool.specs.JobMarks.{is_update}
 use Rattle.solv_pool.specs.Words.{when}
 use Rattle.solv_pool.specs.declared.jobs.Job.{Job}
-use Rattle.solv_jobs.specs.Putting.{IsPut}
-use Rattle.solv_best.proofs.Puts.{nothing_put, put_next, put_stops}
+use Rattle.solv_jobs.specs.Inner.Putting.{IsPut}
+use Rattle.solv_best.proofs.Puts.{put_next, put_stops}
 use Rattle.solv_best.proofs.Rounds.{job_turn, job_at}
-use Rattle.solv_best.proofs.Turns.{this_turn}
 use Rattle.solv_best.proofs.ruling.add_best_updates.Goals as goal
+use Rattle.solv_jobs.proofs.Puts.{nothing_put}
+use Rattle.solv_list.proofs.Lists.{this_turn}
 
 pub loop-number-init : goal.loop-number-init
 loop-number-init c = nothing_put (best_update_rules (catalog_of c.args.task.now) c.args.task.now.flags c.args.marks.now c.args.task.now.jobs) c.args.rules.now

@@ -5,7 +5,7 @@ use Rattle.solv_pool.specs.Catalog.{catalog_of}
 use Rattle.solv_pool.specs.HardRules.{selected_installed, best_update_rule, best_update_rules}
 use Rattle.solv_pool.specs.JobMarks.{is_update}
 use Rattle.solv_pool.specs.Words.{when}
-use Rattle.solv_jobs.specs.Putting.{IsPut}
+use Rattle.solv_jobs.specs.Inner.Putting.{IsPut}
 use Rattle.solv_best.proofs.ruling.add_best_updates.Given as goal
 
 abbrev pub invariant-loop-number : goal.invariant-loop-number

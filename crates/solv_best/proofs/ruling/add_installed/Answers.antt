@@ -4,11 +4,12 @@ use Rattle.solv_pool.specs.Catalog.{catalog_of, is_installed}
 use Rattle.solv_pool.specs.HardRules.{best_update_rule}
 use Rattle.solv_pool.specs.TaskBelonging.{is_pack}
 use Rattle.solv_pool.specs.Words.{when}
-use Rattle.solv_jobs.specs.Putting.{IsPut}
-use Rattle.solv_best.proofs.Puts.{nothing_put, put_next, put_stops}
+use Rattle.solv_jobs.specs.Inner.Putting.{IsPut}
+use Rattle.solv_best.proofs.Puts.{put_next, put_stops}
 use Rattle.solv_best.proofs.Rounds.{pack_turn}
-use Rattle.solv_best.proofs.Turns.{this_turn, rest_turn}
 use Rattle.solv_best.proofs.ruling.add_installed.Goals as goal
+use Rattle.solv_jobs.proofs.Puts.{nothing_put}
+use Rattle.solv_list.proofs.Lists.{rest_turn, this_turn}
 
 pub loop-pack-init : goal.loop-pack-init
 loop-pack-init c = record {

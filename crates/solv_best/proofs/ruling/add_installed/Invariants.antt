@@ -4,7 +4,7 @@ use Rattle.std.specs.List.{list_all}
 use Rattle.solv_pool.specs.Catalog.{catalog_of, is_installed}
 use Rattle.solv_pool.specs.HardRules.{best_update_rule}
 use Rattle.solv_pool.specs.TaskBelonging.{is_pack}
-use Rattle.solv_jobs.specs.Putting.{IsPut}
+use Rattle.solv_jobs.specs.Inner.Putting.{IsPut}
 use Rattle.solv_best.proofs.ruling.add_installed.Given as goal
 
 abbrev pub invariant-loop-pack : goal.invariant-loop-pack

@@ -3,10 +3,10 @@ use Rattle.std.specs.Prelude.{filter, is_ok}
 use Rattle.solv_pool.specs.Catalog.{catalog_of, is_installed}
 use Rattle.solv_pool.specs.HardRules.{best_update_rule, selected_installed}
 use Rattle.solv_pool.specs.JobMarks.{is_update}
-use Rattle.solv_jobs.specs.Putting.{HasPut}
-use Rattle.solv_best.proofs.Puts.{nothing_when, all_when, refused_unchanged}
+use Rattle.solv_jobs.specs.Inner.Putting.{HasPut}
 use Rattle.solv_best.proofs.Rounds.{installed_of}
 use Rattle.solv_best.proofs.ruling.add_job_updates.Goals as goal
+use Rattle.solv_updates.proofs.Puts.{all_when, nothing_when, refused_unchanged}
 
 pub returns-then-not-asks_for_best_update : goal.returns-then-not-asks_for_best_update
 returns-then-not-asks_for_best_update c =

@@ -1,9 +1,9 @@
 use Rattle.std.proofs.Common.{◌≡◌, ◌∙◌, true, length, ap, sym, subst}
 use Rattle.std.proofs.lemmas.Bool.{eqb-true}
-use Rattle.solv_jobs.specs.Putting.{HasPut}
-use Rattle.solv_best.proofs.Puts.{nothing_made}
+use Rattle.solv_jobs.specs.Inner.Putting.{HasPut}
 use Rattle.solv_best.proofs.Rounds.{no_rule}
 use Rattle.solv_best.proofs.ruling.put_best_job.Goals as goal
+use Rattle.solv_updates.proofs.Puts.{nothing_made}
 
 pub returns-then-is_empty : goal.returns-then-is_empty
 returns-then-is_empty c =

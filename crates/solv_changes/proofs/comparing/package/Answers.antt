@@ -1,7 +1,8 @@
 use Rattle.std.proofs.Common.{◌-◌, length}
 use Rattle.solv_pool.specs.Belonging.{fits}
-use Rattle.solv_changes.proofs.Pairs.{all_at, name_below, evr_below}
+use Rattle.solv_changes.proofs.Pairs.{name_below, evr_below}
 use Rattle.solv_changes.proofs.comparing.package.Goals as goal
+use Rattle.solv_list.proofs.Lists.{all_at}
 
 pub returns-clause-named : goal.returns-clause-named
 returns-clause-named c =

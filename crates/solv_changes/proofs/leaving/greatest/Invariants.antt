@@ -4,8 +4,8 @@ use Rattle.std.specs.List.{list_all}
 use Rattle.solv_pool.specs.Catalog.{catalog_of}
 use Rattle.solv_pool.specs.TaskBelonging.{is_pack}
 use Rattle.solv_changes.specs.Changes.{comes}
-use Rattle.solv_changes.specs.Order.{greatest_from}
-use Rattle.solv_changes.specs.Tables.{is_true_at}
+use Rattle.solv_changes.specs.Inner.Order.{greatest_from}
+use Rattle.solv_changes.specs.Inner.Tables.{is_true_at}
 use Rattle.solv_changes.proofs.leaving.greatest.Given as goal
 
 abbrev pub invariant-loop-pack : goal.invariant-loop-pack

@@ -1,7 +1,7 @@
 use Rattle.std.proofs.Common.{◌≡◌, ◌++◌}
 use Rattle.solv_pool.specs.Catalog.{catalog_of}
 use Rattle.solv_changes.specs.Changes.{goes, line_of}
-use Rattle.solv_changes.specs.Tables.{is_true_at}
+use Rattle.solv_changes.specs.Inner.Tables.{is_true_at}
 use Rattle.solv_changes.proofs.Listing.{made_from}
 use Rattle.solv_changes.proofs.leaving.lines_of_going.Given as goal
 

@@ -2,7 +2,7 @@ use Rattle.std.proofs.Common.{◌∙◌, ap, length}
 use Rattle.std.specs.Prelude.{find}
 use Rattle.solv_pool.specs.Catalog.{catalog_of, packages}
 use Rattle.solv_pool.specs.Providing.{obsoletes}
-use Rattle.solv_changes.specs.Tables.{is_true_at}
+use Rattle.solv_changes.specs.Inner.Tables.{is_true_at}
 use Rattle.solv_changes.proofs.Listing.{below_of, find_filter}
 use Rattle.solv_changes.proofs.leaving.obsoleter.Goals as goal
 

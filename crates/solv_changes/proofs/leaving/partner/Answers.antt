@@ -1,6 +1,6 @@
 use Rattle.std.proofs.Common.{◌∙◌}
 use Rattle.solv_pool.specs.Catalog.{catalog_of}
-use Rattle.solv_changes.specs.Tables.{is_true_at}
+use Rattle.solv_changes.specs.Inner.Tables.{is_true_at}
 use Rattle.solv_changes.proofs.Greatest.{partner_is}
 use Rattle.solv_changes.proofs.leaving.partner.Goals as goal
 

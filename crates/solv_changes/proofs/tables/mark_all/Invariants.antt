@@ -1,6 +1,6 @@
 use Rattle.std.proofs.Common.{ℕ, ◌≡◌, ◌<◌, ◌||◌, length, drop}
 use Rattle.solv_pool.specs.Words.{is_among}
-use Rattle.solv_changes.specs.Tables.{is_true_at}
+use Rattle.solv_changes.specs.Inner.Tables.{is_true_at}
 use Rattle.solv_changes.proofs.tables.mark_all.Given as goal
 
 abbrev pub invariant-loop-pack : goal.invariant-loop-pack

@@ -1,6 +1,6 @@
 use Rattle.std.proofs.Common.{ℕ, ◌≡◌, ◌<◌, ◌||◌, length, drop}
 use Rattle.solv_changes.specs.Effects.{is_brought}
-use Rattle.solv_changes.specs.Tables.{is_true_at}
+use Rattle.solv_changes.specs.Inner.Tables.{is_true_at}
 use Rattle.solv_changes.proofs.tables.mark_all_brought.Given as goal
 
 abbrev pub invariant-loop-change : goal.invariant-loop-change

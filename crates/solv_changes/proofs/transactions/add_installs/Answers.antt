@@ -2,7 +2,7 @@ use Rattle.std.proofs.Common.{◌&&◌, not}
 use Rattle.solv_pool.specs.Catalog.{catalog_of}
 use Rattle.solv_changes.specs.declared.kinds.Change.TheVariants.{Install}
 use Rattle.solv_changes.specs.Changes.{comes}
-use Rattle.solv_changes.specs.Tables.{is_true_at}
+use Rattle.solv_changes.specs.Inner.Tables.{is_true_at}
 use Rattle.solv_changes.proofs.Listing.{made_turn}
 use Rattle.solv_changes.proofs.transactions.add_installs.Goals as goal
 

@@ -5,7 +5,7 @@ use Rattle.solv_pool.specs.Words.{is_among}
 use Rattle.solv_changes.specs.declared.kinds.Change.TheVariants.{Install}
 use Rattle.solv_changes.specs.Changes.{comes, lines_of_going}
 use Rattle.solv_changes.specs.Effects.{is_brought, after}
-use Rattle.solv_changes.specs.Tables.{is_true_at}
+use Rattle.solv_changes.specs.Inner.Tables.{is_true_at}
 use Rattle.solv_changes.proofs.Same.{made_is}
 use Rattle.solv_changes.proofs.Restored.{after_is}
 use Rattle.solv_changes.proofs.Rising.{members_are, holds_system}

@@ -1,5 +1,5 @@
 use Rattle.std.proofs.Common.{ℕ, ap, subst}
-use Rattle.solv_watch.specs.Watching.{AreHeads}
+use Rattle.solv_watch.specs.Inner.Watching.{AreHeads}
 use Rattle.solv_watch.proofs.Forgetting.{heads_of}
 use Rattle.solv_core.proofs.refuting.force.Goals as goal
 

@@ -2,7 +2,7 @@ use Rattle.std.proofs.Common.{◌<◌, ℕ, List, Bool, true, false, length, sub
 use Rattle.std.specs.Prelude.{ℤ}
 use Rattle.std.proofs.lemmas.Bool.{or_left}
 use Rattle.solv_trail.specs.Propagated.{in_use}
-use Rattle.solv_core.specs.Contradictions.{IsLogWith}
+use Rattle.solv_core.specs.Inner.Contradictions.{IsLogWith}
 use Rattle.solv_core.proofs.Contradicted.{clash_on, clash_within}
 use Rattle.solv_core.proofs.refuting.refuted_over.Goals as goal
 

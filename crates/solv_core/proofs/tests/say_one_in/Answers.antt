@@ -1,5 +1,5 @@
 use Rattle.std.proofs.Common.{◌+◌, ◌∙◌, sym, ap, ◌&&◌, drop}
-use Rattle.solv_core.specs.OnePackage.{say_one_in}
+use Rattle.solv_core.specs.Examples.OnePackage.{say_one_in}
 use Rattle.solv_core.proofs.Others.{say_next}
 use Rattle.solv_core.proofs.tests.say_one_in.Goals as goal
 

@@ -1,5 +1,5 @@
 use Rattle.std.proofs.Common.{◌≡◌, drop}
-use Rattle.solv_core.specs.OnePackage.{say_one_in}
+use Rattle.solv_core.specs.Examples.OnePackage.{say_one_in}
 use Rattle.solv_core.proofs.tests.say_one_in.Given as goal
 
 abbrev pub invariant-loop-rule : goal.invariant-loop-rule

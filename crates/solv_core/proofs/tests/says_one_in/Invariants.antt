@@ -1,5 +1,5 @@
 use Rattle.std.proofs.Common.{◌≡◌, drop, if◌then◌else◌}
-use Rattle.solv_core.specs.OnePackage.{says_none_in, says_one_in}
+use Rattle.solv_core.specs.Examples.OnePackage.{says_none_in, says_one_in}
 use Rattle.solv_core.proofs.tests.says_one_in.Given as goal
 
 abbrev pub invariant-loop-lit : goal.invariant-loop-lit

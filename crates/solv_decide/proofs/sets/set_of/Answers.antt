@@ -1,6 +1,7 @@
 use Rattle.std.proofs.Common.{List, ◌∷◌, sym, ap, ◌∙◌, subst}
 use Rattle.std.specs.Prelude.{ℕ, flat_map}
-use Rattle.solv_decide.specs.Sets.{pack_of, IsSetOf}
+use Rattle.solv_decide.specs.Inner.Sets.{pack_of}
+use Rattle.solv_decide.specs.Sets.{IsSetOf}
 use Rattle.solv_decide.proofs.SetOf.{set_is, set_if}
 use Rattle.solv_decide.proofs.sets.set_of.Goals as goal
 

@@ -1,5 +1,5 @@
 use Rattle.std.proofs.Common.{length, ◌-◌, ◌≡◌, ◌+◌, ◌≤◌, drop}
-use Rattle.solv_deps.specs.Words.{blanks}
+use Rattle.solv_deps.specs.Inner.Words.{blanks}
 use Rattle.solv_deps.proofs.lexer.count_blanks.Given as goal
 
 abbrev pub invariant-loop-i : goal.invariant-loop-i

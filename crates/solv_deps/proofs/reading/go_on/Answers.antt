@@ -1,6 +1,6 @@
 use Rattle.std.proofs.Common.{sym, length, nat_lt}
-use Rattle.solv_deps.specs.Drafts.{said}
-use Rattle.solv_deps.specs.Points.{rule_in, rules_in}
+use Rattle.solv_deps.specs.Inner.Drafts.{said}
+use Rattle.solv_deps.specs.Inner.Points.{rule_in, rules_in}
 use Rattle.solv_deps.proofs.Points.{without_middle}
 use Rattle.solv_deps.proofs.reading.go_on.Goals as goal
 

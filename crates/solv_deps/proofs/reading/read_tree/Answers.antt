@@ -2,7 +2,7 @@ use Rattle.std.proofs.Common.{◌≡◌, ℕ, List, Result, subst}
 use Rattle.std.specs.Prelude.{IfOk, IfErr, Err}
 use Rattle.solv_base.specs.Dependency.{Dep}
 use Rattle.solv_deps.specs.declared.fault.DepFault.{DepFault}
-use Rattle.solv_deps.specs.Points.{Ends}
+use Rattle.solv_deps.specs.Inner.Points.{Ends}
 use Rattle.solv_deps.proofs.Points.{goes_first, goes_last}
 use Rattle.solv_deps.proofs.reading.read_tree.Goals as goal
 

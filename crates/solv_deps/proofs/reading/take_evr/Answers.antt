@@ -1,6 +1,6 @@
 use Rattle.std.proofs.Common.{◌∙◌, sym}
-use Rattle.solv_deps.specs.Drafts.{said}
-use Rattle.solv_deps.specs.Points.{rule_hand, hands}
+use Rattle.solv_deps.specs.Inner.Drafts.{said}
+use Rattle.solv_deps.specs.Inner.Points.{rule_hand, hands}
 use Rattle.solv_deps.proofs.Points.{stands_operator, evr_entered}
 use Rattle.solv_deps.proofs.reading.take_evr.Goals as goal
 

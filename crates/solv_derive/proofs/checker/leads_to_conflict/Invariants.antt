@@ -1,6 +1,6 @@
 use Rattle.std.proofs.Common.{◌≡◌, ◌+◌, ◌*◌, List, map, take, drop, length}
 use Rattle.std.specs.Prelude.{ℤ}
-use Rattle.solv_derive.specs.Marks.{Shows}
+use Rattle.solv_derive.specs.Inner.Marks.{Shows}
 use Rattle.solv_derive.specs.Logs.{hint_clause, ends_in_conflict}
 use Rattle.solv_derive.proofs.checker.leads_to_conflict.Given as goal
 

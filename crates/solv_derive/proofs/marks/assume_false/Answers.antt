@@ -1,7 +1,7 @@
 use Rattle.std.proofs.Common.{◌≡◌, ◌∷◌, ◌∙◌, ap, subst, take, map, get_or, arith}
 use Rattle.std.specs.Prelude.{ℤ, pos, neg_ℤ}
 use Rattle.std.proofs.lemmas.List.{get_or_read}
-use Rattle.solv_derive.specs.Marks.{Shows}
+use Rattle.solv_derive.specs.Inner.Marks.{Shows}
 use Rattle.solv_derive.proofs.Tables.{shows_next}
 use Rattle.solv_derive.proofs.marks.assume_false.Goals as goal
 

@@ -1,6 +1,6 @@
 use Rattle.std.proofs.Common.{take, map}
 use Rattle.std.specs.Prelude.{neg_ℤ}
-use Rattle.solv_derive.specs.Marks.{Shows}
+use Rattle.solv_derive.specs.Inner.Marks.{Shows}
 use Rattle.solv_derive.proofs.marks.assume_false.Given as goal
 
 abbrev pub invariant-loop-lit : goal.invariant-loop-lit

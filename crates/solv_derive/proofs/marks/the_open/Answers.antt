@@ -1,7 +1,7 @@
 use Rattle.std.proofs.Common.{◌≡◌, ◌+◌, ◌∙◌, ap, sym, drop, get_or, arith, false}
 use Rattle.std.specs.Prelude.{ℤ, pos, neg_ℤ}
 use Rattle.std.proofs.lemmas.List.{get_or_read, at_drop_all}
-use Rattle.solv_derive.specs.Marks.{is_marked}
+use Rattle.solv_derive.specs.Inner.Marks.{is_marked}
 use Rattle.solv_derive.proofs.Tables.{none_open, open_next, open_so_far, second_open}
 use Rattle.solv_derive.proofs.marks.the_open.Goals as goal
 

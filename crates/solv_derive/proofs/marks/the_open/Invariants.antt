@@ -1,5 +1,5 @@
 use Rattle.std.proofs.Common.{◌≡◌, drop, None}
-use Rattle.solv_derive.specs.Marks.{is_marked}
+use Rattle.solv_derive.specs.Inner.Marks.{is_marked}
 use Rattle.solv_derive.proofs.Tables.{open_so_far}
 use Rattle.solv_derive.proofs.marks.the_open.Given as goal
 

@@ -5,7 +5,7 @@ use Rattle.solv_pool.specs.Catalog.{catalog_of}
 use Rattle.solv_pool.specs.HardRules.{job_rules, rule_of_job}
 use Rattle.solv_pool.specs.Selections.{selection}
 use Rattle.solv_pool.specs.TaskBelonging.{choice_fits}
-use Rattle.solv_jobs.specs.Putting.{IsPut}
+use Rattle.solv_jobs.specs.Inner.Putting.{IsPut}
 use Rattle.solv_jobs.proofs.ruling.job_rules.Given as goal
 
 abbrev pub invariant-loop-number : goal.invariant-loop-number

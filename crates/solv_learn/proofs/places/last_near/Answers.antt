@@ -1,7 +1,7 @@
 use Rattle.std.proofs.Common.{◌≡◌, ◌≤◌, ◌<◌, ℕ, ◌+◌, ◌*◌, ◌/◌, ◌%◌, ◌∙◌, false, subst, eqb, arith, get_or, Some, None}
 use Rattle.std.specs.Int.{bit_at}
-use Rattle.solv_trail.specs.Numbers.{has}
-use Rattle.solv_learn.specs.Places.{IsLast}
+use Rattle.solv_trail.specs.Inner.Numbers.{has}
+use Rattle.solv_learn.specs.Inner.Places.{IsLast}
 use Rattle.solv_learn.proofs.Lasts.{none_of_word, last_of_word, below_top, above_top}
 use Rattle.solv_learn.proofs.places.last_near.Goals as goal
 use Rattle.solv_learn.proofs.places.last_near.Goals.{After-highest}

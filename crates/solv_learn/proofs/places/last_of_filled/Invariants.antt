@@ -1,5 +1,5 @@
 use Rattle.std.proofs.Common.{◌≡◌, ℕ, ◌≤◌, ◌<◌, ◌*◌, false}
-use Rattle.solv_trail.specs.Numbers.{has}
+use Rattle.solv_trail.specs.Inner.Numbers.{has}
 use Rattle.solv_learn.proofs.places.last_of_filled.Given as goal
 
 abbrev pub invariant-loop-place : goal.invariant-loop-place

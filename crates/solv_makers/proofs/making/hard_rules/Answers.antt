@@ -5,7 +5,7 @@ use Rattle.solv_pool.specs.RuleMeaning.{HardRule}
 use Rattle.solv_pool.specs.HardRules.{package_rules, infarch_rules, update_rules, feature_rules, job_rules, best_job_rules, best_update_rules, hard_rules_by}
 use Rattle.solv_pool.specs.declared.hard_rules.Rules.{Rules}
 use Rattle.solv_rules.specs.Books.{read_rules, is_bookable}
-use Rattle.solv_rules.specs.Making.{IsReady}
+use Rattle.solv_rules.specs.Inner.Making.{IsReady}
 use Rattle.solv_makers.proofs.Reading.{first_reads, all_read}
 use Rattle.solv_makers.proofs.Bookables.{all_bookable}
 use Rattle.solv_makers.proofs.making.hard_rules.Goals as goal

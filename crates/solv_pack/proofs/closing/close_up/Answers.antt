@@ -1,8 +1,8 @@
 use Rattle.std.proofs.Common.{◌≡◌, ◌<◌, ◌+◌, ◌∷◌, ◌∙◌, ap, true, false, drop, length, get_or, refl, sym, arith}
 use Rattle.std.proofs.lemmas.List.{drop_more, length-set, length-map}
 use Rattle.solv_pack.specs.declared.place.Place.{Place}
-use Rattle.solv_pack.specs.Packing.{kept}
-use Rattle.solv_pack.specs.Layout.{words_of, rooms_of, rules_in}
+use Rattle.solv_pack.specs.Inner.Packing.{kept}
+use Rattle.solv_pack.specs.Inner.Layout.{words_of, rooms_of, rules_in}
 use Rattle.solv_pack.proofs.Blocks.{words_few}
 use Rattle.solv_pack.proofs.ClosedUp.{next_inside, next_point, closing_past, closing_kept}
 use Rattle.solv_pack.proofs.closing.close_up.Goals as goal

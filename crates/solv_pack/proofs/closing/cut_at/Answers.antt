@@ -1,6 +1,6 @@
 use Rattle.std.proofs.Common.{◌∙◌, ap, sym, take}
 use Rattle.std.specs.Prelude.{slice_set}
-use Rattle.solv_pack.specs.Layout.{words_of}
+use Rattle.solv_pack.specs.Inner.Layout.{words_of}
 use Rattle.solv_pack.proofs.Blocks.{words_set, block_is, rooms_set}
 use Rattle.solv_pack.proofs.closing.cut_at.Goals as goal
 

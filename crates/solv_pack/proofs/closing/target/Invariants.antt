@@ -1,6 +1,6 @@
 use Rattle.std.proofs.Common.{◌≡◌, ◌≤◌, ◌-◌}
-use Rattle.solv_pack.specs.Layout.{words_of}
-use Rattle.solv_pack.specs.Moving.{IsPoint}
+use Rattle.solv_pack.specs.Inner.Layout.{words_of}
+use Rattle.solv_pack.specs.Inner.Moving.{IsPoint}
 use Rattle.solv_pack.proofs.closing.target.Given as goal
 
 abbrev pub invariant-loop-at : goal.invariant-loop-at

@@ -2,7 +2,7 @@ use Rattle.std.proofs.Common.{◌≡◌, ◌+◌, ◌∙◌, ap, sym, ◌++◌, 
 use Rattle.std.specs.Prelude.{slice_set}
 use Rattle.std.specs.List.{take-map}
 use Rattle.std.proofs.VecSteps.Gaps.{all_new}
-use Rattle.solv_pack.specs.Layout.{words_of, block_at}
+use Rattle.solv_pack.specs.Inner.Layout.{words_of, block_at}
 use Rattle.solv_pack.proofs.closing.trim.Goals as goal
 
 pub returns-then-block-len-clause-words : goal.returns-then-block-len-clause-words

@@ -1,7 +1,7 @@
 use Rattle.std.proofs.Common.{◌≡◌, ◌∙◌, ap, sym, ◌++◌, take, drop, length, arith}
 use Rattle.std.proofs.VecSteps.Gaps.{all_new}
 use Rattle.std.proofs.lemmas.List.{length-map}
-use Rattle.solv_pack.specs.Layout.{words_of}
+use Rattle.solv_pack.specs.Inner.Layout.{words_of}
 use Rattle.solv_pack.proofs.Blocks.{words_few}
 use Rattle.solv_pack.proofs.Changes.{IsAdded, added}
 use Rattle.solv_pack.proofs.memory.add_rule.Goals as goal

@@ -1,8 +1,8 @@
 use Rattle.std.proofs.Common.{◌≡◌, ◌+◌, ◌∙◌, ap, ◌++◌, take, drop, length}
 use Rattle.std.specs.Prelude.{slice_set}
 use Rattle.std.proofs.VecSteps.Gaps.{all_new}
-use Rattle.solv_pack.specs.Packing.{kept}
-use Rattle.solv_pack.specs.Layout.{words_of, rules_in, AreInside, block_at}
+use Rattle.solv_pack.specs.Inner.Packing.{kept}
+use Rattle.solv_pack.specs.Inner.Layout.{words_of, rules_in, AreInside, block_at}
 use Rattle.solv_pack.proofs.Changes.{all_kept}
 use Rattle.solv_pack.proofs.memory.keep_rules.Goals as goal
 

@@ -3,7 +3,7 @@ use Rattle.std.specs.Prelude.{ℤ, Bool}
 use Rattle.solv_pool.specs.Propagation.{is_fact}
 use Rattle.solv_questions.specs.Questions.{Query}
 use Rattle.solv_plan.specs.Trees.{tree_due}
-use Rattle.solv_plan.specs.Choosing.{tree_query}
+use Rattle.solv_plan.specs.Inner.Choosing.{tree_query}
 use Rattle.solv_plan.proofs.Joining.{met_asks, unmet_asks, named}
 use Rattle.solv_plan.proofs.TreeAsks.{chosen_possible}
 use Rattle.solv_plan.proofs.choosing.ask_tree.Goals as goal

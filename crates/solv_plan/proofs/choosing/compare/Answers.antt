@@ -1,7 +1,7 @@
 use Rattle.std.proofs.Common.{ℕ, List, sym, ◌∙◌}
 use Rattle.solv_pool.specs.Propagation.{is_fact}
 use Rattle.solv_plan.specs.Trees.{tree_due}
-use Rattle.solv_plan.specs.Choosing.{front_cmp, middle_cmp, back_cmp, choosing_cmp}
+use Rattle.solv_plan.specs.Inner.Choosing.{front_cmp, middle_cmp, back_cmp, choosing_cmp}
 use Rattle.solv_plan.proofs.Compared.{compared, all_equal, middle_decides, front_decides}
 use Rattle.solv_plan.proofs.choosing.compare.Goals as goal
 

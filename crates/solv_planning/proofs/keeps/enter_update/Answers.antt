@@ -1,5 +1,5 @@
 use Rattle.std.proofs.Common.{get_or, arith}
-use Rattle.solv_planning.specs.Rows.{add_to_pack}
+use Rattle.solv_planning.specs.Inner.Rows.{add_to_pack}
 use Rattle.solv_planning.proofs.Tables.{written, not_written}
 use Rattle.solv_pool.specs.RuleMeaning.{update}
 use Rattle.solv_planning.proofs.Lines.{update_elsewhere, update_here}

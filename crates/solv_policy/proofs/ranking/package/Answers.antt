@@ -1,7 +1,8 @@
 use Rattle.std.proofs.Common.{◌-◌, length}
 use Rattle.solv_pool.specs.Belonging.{fits}
-use Rattle.solv_policy.proofs.Places.{all_at, repo_below}
+use Rattle.solv_policy.proofs.Places.{repo_below}
 use Rattle.solv_policy.proofs.ranking.package.Goals as goal
+use Rattle.solv_list.proofs.Lists.{all_at}
 
 pub returns-clause-stored : goal.returns-clause-stored
 returns-clause-stored c =

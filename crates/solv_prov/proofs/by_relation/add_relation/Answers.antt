@@ -1,12 +1,12 @@
 use Rattle.std.proofs.Common.{refl, length, arith, ◌<◌}
 use Rattle.solv_pool.specs.Catalog.{Catalog}
 use Rattle.std.proofs.lemmas.List.{append-nil}
-use Rattle.solv_prov.proofs.Outcomes.{ok_from}
 use Rattle.solv_base.specs.Dependency.{plain, versioned}
 use Rattle.solv_pool.specs.Catalog.{catalog_of}
 use Rattle.solv_prov.specs.Index.{providers_of}
 use Rattle.solv_prov.proofs.Relations.{first_list, second_list, closed_many, or_list, with_list, without_list, first_below, second_below, IsOther, capability_providers, capability_named, capability_is, simple_within, versioned_within, other_providers, other_named, named_by-none}
 use Rattle.solv_prov.proofs.by_relation.add_relation.Goals as goal
+use Rattle.solv_list.proofs.Answers.{where_done}
 
 pub returns-in-Simple-clause-providers : goal.returns-in-Simple-clause-providers
 returns-in-Simple-clause-providers c =
@@ -36,7 +36,7 @@ returns-in-Versioned-clause-named c =
 
 pub returns-in-Namespace-clause-named : goal.returns-in-Namespace-clause-named
 returns-in-Namespace-clause-named c =
-    ok_from c.add_distinct.result _
+    where_done c.add_distinct.result _
     (rw (named_by-none (catalog_of c.args.task.now) c.args.id (capability_is (catalog_of c.args.task.now) c.args.id _ c.in-Namespace.ensures.node c.in-Namespace.ensures.tree), append-nil) refl)
 
 pub returns-in_default : goal.returns-in_default
@@ -69,7 +69,7 @@ returns-in-Or-clause-providers c =
 
 pub returns-in-Or-clause-named : goal.returns-in-Or-clause-named
 returns-in-Or-clause-named c =
-    ok_from c.add_merged.result _
+    where_done c.add_merged.result _
     (rw (named_by-none (catalog_of c.args.task.now) c.args.id (capability_is (catalog_of c.args.task.now) c.args.id _ c.in-Or.ensures.node c.in-Or.ensures.tree), append-nil) refl)
 
 pub add_merged-requires-in-With-clause-first : goal.add_merged-requires-in-With-clause-first
@@ -94,7 +94,7 @@ returns-in-With-clause-providers c =
 
 pub returns-in-With-clause-named : goal.returns-in-With-clause-named
 returns-in-With-clause-named c =
-    ok_from c.add_merged-in-With.result _
+    where_done c.add_merged-in-With.result _
     (rw (named_by-none (catalog_of c.args.task.now) c.args.id (capability_is (catalog_of c.args.task.now) c.args.id _ c.in-With.ensures.node c.in-With.ensures.tree), append-nil) refl)
 
 pub add_merged-requires-in-Without-clause-first : goal.add_merged-requires-in-Without-clause-first
@@ -119,5 +119,5 @@ returns-in-Without-clause-providers c =
 
 pub returns-in-Without-clause-named : goal.returns-in-Without-clause-named
 returns-in-Without-clause-named c =
-    ok_from c.add_merged-in-Without.result _
+    where_done c.add_merged-in-Without.result _
     (rw (named_by-none (catalog_of c.args.task.now) c.args.id (capability_is (catalog_of c.args.task.now) c.args.id _ c.in-Without.ensures.node c.in-Without.ensures.tree), append-nil) refl)

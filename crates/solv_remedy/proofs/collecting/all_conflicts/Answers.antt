@@ -1,5 +1,5 @@
 use Rattle.std.proofs.Common.{◌+◌, ◌*◌, arith}
-use Rattle.solv_remedy.specs.Conflicts.{droppable_count}
+use Rattle.solv_remedy.specs.Inner.Conflicts.{droppable_count}
 use Rattle.solv_remedy.proofs.Ledgers.{runs_then}
 use Rattle.solv_remedy.proofs.collecting.all_conflicts.Goals as goal
 

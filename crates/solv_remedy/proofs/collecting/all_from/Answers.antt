@@ -2,9 +2,9 @@ use Rattle.std.proofs.Common.{◌≡◌, ◌<◌, ◌+◌, ◌*◌, ◌∙◌, �
 use Rattle.solv_pool.specs.Words.{is_among}
 use Rattle.solv_core.specs.Cores.{CoreOf}
 use Rattle.solv_questions.specs.Questions.{Request}
-use Rattle.solv_remedy.specs.Runs.{is_spent}
-use Rattle.solv_remedy.specs.Trying.{IsLogOf, IsSetUp}
-use Rattle.solv_remedy.specs.Conflicts.{droppable_count, listed_of, is_spent_rest, AreSettled, IsRest, IsClashIn}
+use Rattle.solv_remedy.specs.Inner.Runs.{is_spent}
+use Rattle.solv_remedy.specs.Inner.Trying.{IsLogOf, IsSetUp}
+use Rattle.solv_remedy.specs.Inner.Conflicts.{droppable_count, listed_of, is_spent_rest, AreSettled, IsRest, IsClashIn}
 use Rattle.solv_remedy.specs.declared.collecting.Rest.{Rest}
 use Rattle.solv_remedy.proofs.Bounded.{next_within, one_more}
 use Rattle.solv_remedy.proofs.Ledgers.{runs_then, unspent_by}

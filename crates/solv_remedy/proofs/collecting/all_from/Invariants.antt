@@ -1,9 +1,9 @@
 use Rattle.std.proofs.Common.{◌≡◌, ◌≤◌, ◌+◌, ◌-◌, ◌*◌, ℕ, true, false, length}
 use Rattle.solv_pool.specs.Words.{is_among}
 use Rattle.solv_questions.specs.Questions.{Request}
-use Rattle.solv_remedy.specs.Runs.{HasRuns}
-use Rattle.solv_remedy.specs.Trying.{IsLogOf, IsSetUp}
-use Rattle.solv_remedy.specs.Conflicts.{droppable_count, listed_of, AreApart, IsRuleList, AreSettled}
+use Rattle.solv_remedy.specs.Inner.Runs.{HasRuns}
+use Rattle.solv_remedy.specs.Inner.Trying.{IsLogOf, IsSetUp}
+use Rattle.solv_remedy.specs.Inner.Conflicts.{droppable_count, listed_of, AreApart, IsRuleList, AreSettled}
 use Rattle.solv_remedy.proofs.collecting.all_from.Given as goal
 
 abbrev pub invariant-loop-conflicts : goal.invariant-loop-conflicts

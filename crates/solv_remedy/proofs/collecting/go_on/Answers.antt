@@ -4,9 +4,9 @@ use Rattle.std.specs.Option.{IfSome}
 use Rattle.std.specs.Prelude.{Option}
 use Rattle.solv_pool.specs.Words.{is_among}
 use Rattle.solv_questions.specs.Questions.{Request}
-use Rattle.solv_remedy.specs.Runs.{is_spent}
-use Rattle.solv_remedy.specs.Trying.{is_off_in, IsLogOf, IsSetUp}
-use Rattle.solv_remedy.specs.Conflicts.{droppable_count, listed_of, AreApart, IsRuleList, IsSettledAmong, AreSettled}
+use Rattle.solv_remedy.specs.Inner.Runs.{is_spent}
+use Rattle.solv_remedy.specs.Inner.Trying.{is_off_in, IsLogOf, IsSetUp}
+use Rattle.solv_remedy.specs.Inner.Conflicts.{droppable_count, listed_of, AreApart, IsRuleList, IsSettledAmong, AreSettled}
 use Rattle.solv_remedy.specs.declared.smallest.Conflict.{Conflict}
 use Rattle.solv_remedy.proofs.Alone.{has_droppable}
 use Rattle.solv_remedy.proofs.Beside.{apart_put, count_put, droppable_put, long_put, settled_put}

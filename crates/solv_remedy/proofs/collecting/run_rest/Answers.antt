@@ -3,7 +3,7 @@ use Rattle.solv_derive.specs.Leaves.{leaves}
 use Rattle.solv_trail.specs.Asked.{is_enabled}
 use Rattle.solv_core.specs.declared.verdicts.Verdict.{Verdict}
 use Rattle.solv_decide.specs.Deciding.{IsDecided}
-use Rattle.solv_remedy.specs.Conflicts.{listed_of}
+use Rattle.solv_remedy.specs.Inner.Conflicts.{listed_of}
 use Rattle.solv_remedy.proofs.Tried.{owners_within}
 use Rattle.solv_remedy.proofs.Trimmed.{fixed_rest, list_of_log, rest_found, rest_clash}
 use Rattle.solv_remedy.proofs.collecting.run_rest.Goals as goal

@@ -1,6 +1,6 @@
 use Rattle.std.proofs.Common.{Option, subst}
 use Rattle.std.specs.Option.{IfSome}
-use Rattle.solv_remedy.specs.Trying.{IsSmallestAmong}
+use Rattle.solv_remedy.specs.Inner.Trying.{IsSmallestAmong}
 use Rattle.solv_remedy.specs.declared.smallest.Conflict.{Conflict}
 use Rattle.solv_remedy.proofs.collecting.settle.Goals as goal
 

@@ -2,10 +2,10 @@ use Rattle.std.proofs.Common.{◌≡◌, ◌∙◌, ◌+◌, ◌++◌, ◌∷◌
 use Rattle.std.specs.Prelude.{◌==◌, filter}
 use Rattle.solv_pool.specs.Words.{is_among}
 use Rattle.solv_core.specs.Cores.{CoreOf}
-use Rattle.solv_remedy.specs.Runs.{HasRuns}
-use Rattle.solv_remedy.specs.Trying.{IsSetUp}
+use Rattle.solv_remedy.specs.Inner.Runs.{HasRuns}
+use Rattle.solv_remedy.specs.Inner.Trying.{IsSetUp}
 use Rattle.solv_questions.specs.Questions.{Request}
-use Rattle.solv_remedy.specs.Dropping.{IsStep, IsFoundOver, is_spent_step}
+use Rattle.solv_remedy.specs.Inner.Dropping.{IsStep, IsFoundOver, is_spent_step}
 use Rattle.solv_remedy.specs.declared.dropping.Dropping.{Dropping}
 use Rattle.solv_remedy.proofs.Ledgers.{runs_none, runs_more, runs_then, unspent_by}
 use Rattle.solv_remedy.proofs.Dropped.{all_kept, shorter, filter_more, still_apart, dropped_more, length_more}

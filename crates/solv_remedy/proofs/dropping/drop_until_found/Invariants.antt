@@ -1,7 +1,7 @@
 use Rattle.std.proofs.Common.{◌≡◌, ◌+◌, ◌≤◌, ℕ, true, false, not, length}
 use Rattle.std.specs.Prelude.{filter}
 use Rattle.solv_pool.specs.Words.{is_among}
-use Rattle.solv_remedy.specs.Runs.{HasRuns}
+use Rattle.solv_remedy.specs.Inner.Runs.{HasRuns}
 use Rattle.solv_remedy.proofs.dropping.drop_until_found.Given as goal
 
 abbrev pub invariant-loop-dropped : goal.invariant-loop-dropped

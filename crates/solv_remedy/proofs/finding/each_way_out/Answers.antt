@@ -2,7 +2,7 @@ use Rattle.std.proofs.Common.{◌≡◌, ◌∙◌, ◌∷◌, [], ℕ, List, sy
 use Rattle.std.specs.List.{AllZip}
 use Rattle.std.specs.Option.{IfSome}
 use Rattle.std.specs.Prelude.{IfOk, slice_index}
-use Rattle.solv_remedy.specs.WaysOut.{IsWayOut}
+use Rattle.solv_remedy.specs.Inner.WaysOut.{IsWayOut}
 use Rattle.solv_remedy.proofs.Ranging.{one_alone}
 use Rattle.solv_remedy.proofs.finding.each_way_out.Goals as goal
 

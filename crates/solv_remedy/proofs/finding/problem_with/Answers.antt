@@ -1,7 +1,7 @@
 use Rattle.std.proofs.Common.{◌∙◌, List, Option, sym, ap, subst}
 use Rattle.std.specs.List.{AllZip}
 use Rattle.std.specs.Option.{IfSome}
-use Rattle.solv_remedy.specs.WaysOut.{IsWayOut}
+use Rattle.solv_remedy.specs.Inner.WaysOut.{IsWayOut}
 use Rattle.solv_remedy.specs.declared.problems.Solution.{Solution}
 use Rattle.solv_derive.specs.Leaves.{leaves}
 use Rattle.solv_remedy.specs.Problems.{owning}

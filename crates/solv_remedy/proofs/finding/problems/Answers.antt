@@ -6,9 +6,9 @@ use Rattle.solv_questions.specs.Questions.{Request}
 use Rattle.solv_rules.specs.Books.{read_rules}
 use Rattle.solv_remedy.specs.Problems.{owning}
 use Rattle.solv_remedy.specs.Remedies.{IsMadeFor, most_runs}
-use Rattle.solv_remedy.specs.Runs.{HasRuns}
-use Rattle.solv_remedy.specs.Conflicts.{droppable_count}
-use Rattle.solv_remedy.specs.Trying.{is_off_in, IsLogOf, IsSetUp}
+use Rattle.solv_remedy.specs.Inner.Runs.{HasRuns}
+use Rattle.solv_remedy.specs.Inner.Conflicts.{droppable_count}
+use Rattle.solv_remedy.specs.Inner.Trying.{is_off_in, IsLogOf, IsSetUp}
 use Rattle.solv_remedy.proofs.Ranging.{count_is}
 use Rattle.solv_remedy.proofs.Trimmed.{list_of_log, log_of}
 use Rattle.solv_remedy.proofs.finding.problems.Goals as goal

@@ -6,10 +6,10 @@ use Rattle.std.proofs.lemmas.Option.{slice_get_read}
 use Rattle.solv_pool.specs.Words.{is_among}
 use Rattle.solv_core.specs.Cores.{CoreOf}
 use Rattle.solv_questions.specs.Questions.{Request}
-use Rattle.solv_remedy.specs.Dropping.{IsFoundOn}
-use Rattle.solv_remedy.specs.Trying.{is_off_in, IsSetUp}
-use Rattle.solv_remedy.specs.Conflicts.{listed_of, IsSettled, AreSettled}
-use Rattle.solv_remedy.specs.WaysOut.{IsConflictAmong, IsProblemOf}
+use Rattle.solv_remedy.specs.Inner.Dropping.{IsFoundOn}
+use Rattle.solv_remedy.specs.Inner.Trying.{is_off_in, IsSetUp}
+use Rattle.solv_remedy.specs.Inner.Conflicts.{listed_of, IsSettled, AreSettled}
+use Rattle.solv_remedy.specs.Inner.WaysOut.{IsConflictAmong, IsProblemOf}
 use Rattle.solv_remedy.specs.declared.problems.Problem.{Problem}
 use Rattle.solv_remedy.specs.declared.smallest.Conflict.{Conflict}
 use Rattle.solv_remedy.proofs.Bounded.{more_within}

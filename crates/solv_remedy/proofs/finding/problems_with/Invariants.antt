@@ -2,11 +2,11 @@ use Rattle.std.proofs.Common.{◌≡◌, ◌≤◌, ◌+◌, ◌*◌, not, lengt
 use Rattle.std.specs.List.{AllZip}
 use Rattle.solv_pool.specs.Words.{is_among}
 use Rattle.solv_questions.specs.Questions.{Request}
-use Rattle.solv_remedy.specs.Runs.{HasRuns}
-use Rattle.solv_remedy.specs.Trying.{IsSetUp}
-use Rattle.solv_remedy.specs.Dropping.{IsFoundOn}
-use Rattle.solv_remedy.specs.Conflicts.{listed_of, AreSettled}
-use Rattle.solv_remedy.specs.WaysOut.{IsProblemOf}
+use Rattle.solv_remedy.specs.Inner.Runs.{HasRuns}
+use Rattle.solv_remedy.specs.Inner.Trying.{IsSetUp}
+use Rattle.solv_remedy.specs.Inner.Dropping.{IsFoundOn}
+use Rattle.solv_remedy.specs.Inner.Conflicts.{listed_of, AreSettled}
+use Rattle.solv_remedy.specs.Inner.WaysOut.{IsProblemOf}
 use Rattle.solv_remedy.proofs.finding.problems_with.Given as goal
 
 abbrev pub invariant-loop-conflict : goal.invariant-loop-conflict

@@ -3,14 +3,14 @@ use Rattle.std.specs.Option.{IfSome}
 use Rattle.solv_pool.specs.Words.{is_among}
 use Rattle.solv_core.specs.Cores.{CoreOf}
 use Rattle.solv_questions.specs.Questions.{Request}
-use Rattle.solv_remedy.specs.Dropping.{IsFoundOn}
-use Rattle.solv_remedy.specs.Trying.{IsSetUp}
-use Rattle.solv_remedy.specs.Conflicts.{listed_of, droppable_count, AreSettled}
+use Rattle.solv_remedy.specs.Inner.Dropping.{IsFoundOn}
+use Rattle.solv_remedy.specs.Inner.Trying.{IsSetUp}
+use Rattle.solv_remedy.specs.Inner.Conflicts.{listed_of, droppable_count, AreSettled}
 use Rattle.solv_remedy.specs.declared.smallest.Conflict.{Conflict}
 use Rattle.solv_remedy.specs.Remedies.{most_runs}
-use Rattle.solv_remedy.specs.Runs.{HasRuns}
-use Rattle.solv_remedy.specs.Conflicts.{AreAll}
-use Rattle.solv_remedy.specs.Trying.{IsLogOf}
+use Rattle.solv_remedy.specs.Inner.Runs.{HasRuns}
+use Rattle.solv_remedy.specs.Inner.Conflicts.{AreAll}
+use Rattle.solv_remedy.specs.Inner.Trying.{IsLogOf}
 use Rattle.solv_remedy.specs.declared.collecting.Collected.{Collected}
 use Rattle.solv_remedy.proofs.Bounded.{bounded}
 use Rattle.solv_remedy.proofs.Ledgers.{runs_then}

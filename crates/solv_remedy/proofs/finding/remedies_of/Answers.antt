@@ -2,13 +2,13 @@ use Rattle.std.proofs.Common.{◌≡◌, ◌≤◌, ◌+◌, ◌*◌, ℕ, List,
 use Rattle.std.specs.List.{AllZip}
 use Rattle.std.specs.Option.{IfSome}
 use Rattle.solv_pool.specs.Words.{is_among}
-use Rattle.solv_remedy.specs.Dropping.{IsFoundOn}
-use Rattle.solv_remedy.specs.Conflicts.{listed_of, droppable_count, AreSettled}
-use Rattle.solv_remedy.specs.WaysOut.{IsProblemOf}
+use Rattle.solv_remedy.specs.Inner.Dropping.{IsFoundOn}
+use Rattle.solv_remedy.specs.Inner.Conflicts.{listed_of, droppable_count, AreSettled}
+use Rattle.solv_remedy.specs.Inner.WaysOut.{IsProblemOf}
 use Rattle.solv_remedy.specs.declared.problems.Problem.{Problem}
 use Rattle.solv_remedy.specs.declared.smallest.Conflict.{Conflict}
 use Rattle.solv_remedy.specs.Remedies.{IsGoodList}
-use Rattle.solv_remedy.specs.Runs.{HasRuns}
+use Rattle.solv_remedy.specs.Inner.Runs.{HasRuns}
 use Rattle.solv_remedy.proofs.Bounded.{mul_le}
 use Rattle.solv_remedy.proofs.Good.{good_list}
 use Rattle.solv_remedy.proofs.Ledgers.{runs_none, runs_within}

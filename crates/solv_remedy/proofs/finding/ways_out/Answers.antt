@@ -5,16 +5,16 @@ use Rattle.std.specs.Prelude.{is_none, slice_index}
 use Rattle.solv_pool.specs.Words.{is_among}
 use Rattle.solv_core.specs.Cores.{CoreOf}
 use Rattle.solv_questions.specs.Questions.{Request}
-use Rattle.solv_remedy.specs.Trying.{IsSetUp}
-use Rattle.solv_remedy.specs.WaysOut.{IsConflictAmong, IsWayOut}
+use Rattle.solv_remedy.specs.Inner.Trying.{IsSetUp}
+use Rattle.solv_remedy.specs.Inner.WaysOut.{IsConflictAmong, IsWayOut}
 use Rattle.solv_remedy.specs.declared.problems.Solution.{Solution}
 use Rattle.solv_remedy.proofs.Back.{front}
 use Rattle.solv_remedy.proofs.Bounded.{next_within, one_more}
 use Rattle.solv_remedy.proofs.Ledgers.{runs_then, unspent_by}
-use Rattle.solv_remedy.proofs.Ranging.{among_index}
 use Rattle.solv_remedy.proofs.Stepping.{zip_push, take_all}
 use Rattle.solv_remedy.proofs.finding.ways_out.Goals as goal
 use Rattle.solv_remedy.proofs.finding.ways_out.Goals.{In_ok-push-in-Some}
+use Rattle.solv_pool.proofs.Among.{among_index}
 
 pub way_out-requires-clause-set_up : goal.way_out-requires-clause-set_up
 way_out-requires-clause-set_up c =

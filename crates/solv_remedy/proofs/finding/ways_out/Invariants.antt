@@ -1,9 +1,9 @@
 use Rattle.std.proofs.Common.{◌≡◌, ◌≤◌, ◌+◌, ◌*◌, ℕ, List, length, take}
 use Rattle.std.specs.List.{AllZip}
 use Rattle.solv_questions.specs.Questions.{Request}
-use Rattle.solv_remedy.specs.Runs.{HasRuns}
-use Rattle.solv_remedy.specs.Trying.{IsSetUp}
-use Rattle.solv_remedy.specs.WaysOut.{IsConflictAmong, IsWayOut}
+use Rattle.solv_remedy.specs.Inner.Runs.{HasRuns}
+use Rattle.solv_remedy.specs.Inner.Trying.{IsSetUp}
+use Rattle.solv_remedy.specs.Inner.WaysOut.{IsConflictAmong, IsWayOut}
 use Rattle.solv_remedy.proofs.finding.ways_out.Given as goal
 
 abbrev pub invariant-loop-rule : goal.invariant-loop-rule

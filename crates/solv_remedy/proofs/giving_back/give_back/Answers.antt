@@ -4,12 +4,12 @@ use Rattle.solv_pool.specs.Words.{is_among}
 use Rattle.solv_core.specs.Cores.{CoreOf}
 use Rattle.solv_core.specs.declared.verdicts.Trail.{Trail}
 use Rattle.solv_questions.specs.Questions.{Request}
-use Rattle.solv_remedy.specs.Dropping.{is_on, IsFoundOver}
-use Rattle.solv_remedy.specs.GivingBack.{is_spent_try, IsTry, IsRefutedOn, AreKept, kept_rules}
-use Rattle.solv_remedy.specs.Trying.{IsSetUp}
+use Rattle.solv_remedy.specs.Inner.Dropping.{is_on, IsFoundOver}
+use Rattle.solv_remedy.specs.Inner.GivingBack.{is_spent_try, IsTry, IsRefutedOn, AreKept, kept_rules}
+use Rattle.solv_remedy.specs.Inner.Trying.{IsSetUp}
 use Rattle.solv_remedy.specs.declared.giving_back.Try.{Try}
 use Rattle.solv_core.specs.declared.refuting.RefutedRule.{RefutedRule}
-use Rattle.solv_remedy.specs.Runs.{HasRuns}
+use Rattle.solv_remedy.specs.Inner.Runs.{HasRuns}
 use Rattle.solv_remedy.proofs.Ledgers.{runs_more, runs_then, runs_within, unspent_by}
 use Rattle.solv_remedy.proofs.Back.{kept_wider, kept_more, given_same, kept_same, among_front, rules_more, front, given_back}
 use Rattle.solv_remedy.proofs.giving_back.give_back.Goals as goal

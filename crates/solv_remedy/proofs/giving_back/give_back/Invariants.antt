@@ -1,10 +1,10 @@
 use Rattle.std.proofs.Common.{◌≡◌, ◌≤◌, ◌||◌, ℕ, take, length}
 use Rattle.solv_pool.specs.Words.{is_among}
 use Rattle.solv_questions.specs.Questions.{Request}
-use Rattle.solv_remedy.specs.Dropping.{IsFoundOver}
-use Rattle.solv_remedy.specs.GivingBack.{AreKept, kept_rules}
-use Rattle.solv_remedy.specs.Runs.{HasRuns}
-use Rattle.solv_remedy.specs.Trying.{IsSetUp}
+use Rattle.solv_remedy.specs.Inner.Dropping.{IsFoundOver}
+use Rattle.solv_remedy.specs.Inner.GivingBack.{AreKept, kept_rules}
+use Rattle.solv_remedy.specs.Inner.Runs.{HasRuns}
+use Rattle.solv_remedy.specs.Inner.Trying.{IsSetUp}
 use Rattle.solv_remedy.proofs.giving_back.give_back.Given as goal
 
 -- what is said for the request at hand

@@ -1,5 +1,5 @@
 use Rattle.std.proofs.Common.{List, refl, sym, subst, length}
-use Rattle.solv_core.specs.Contradictions.{IsWhatRefutes, AreRefuted}
+use Rattle.solv_core.specs.Inner.Contradictions.{IsWhatRefutes, AreRefuted}
 use Rattle.solv_core.specs.declared.refuting.Contradiction.{Contradiction}
 use Rattle.solv_core.specs.declared.refuting.RefutedRule.{RefutedRule}
 use Rattle.solv_remedy.proofs.Tried.{owners_within}

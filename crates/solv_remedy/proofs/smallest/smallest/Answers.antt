@@ -1,7 +1,7 @@
 use Rattle.std.proofs.Common.{◌≡◌, ℕ, List, subst, rules}
 use Rattle.std.specs.Option.{IfSome}
 use Rattle.std.specs.Prelude.{IfOk}
-use Rattle.solv_remedy.specs.Trying.{IsSmallestAmong}
+use Rattle.solv_remedy.specs.Inner.Trying.{IsSmallestAmong}
 use Rattle.solv_remedy.proofs.Settled.{smallest_if}
 use Rattle.solv_remedy.proofs.smallest.smallest.Goals as goal
 

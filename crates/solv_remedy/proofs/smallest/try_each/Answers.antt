@@ -3,9 +3,9 @@ use Rattle.std.specs.Prelude.{slice_index, is_none}
 use Rattle.std.specs.Option.{IfSome}
 use Rattle.solv_pool.specs.Words.{is_among}
 use Rattle.solv_core.specs.Cores.{CoreOf}
-use Rattle.solv_remedy.specs.Trying.{IsLogOf, IsSetUp, IsTriedOff, AreTriedOff}
+use Rattle.solv_remedy.specs.Inner.Trying.{IsLogOf, IsSetUp, IsTriedOff, AreTriedOff}
 use Rattle.solv_remedy.specs.declared.smallest.Conflict.{Conflict}
-use Rattle.solv_remedy.specs.Runs.{HasRuns}
+use Rattle.solv_remedy.specs.Inner.Runs.{HasRuns}
 use Rattle.solv_remedy.proofs.Settled.{tried_none, tried_gone, tried_next}
 use Rattle.solv_remedy.proofs.Ledgers.{runs_none, runs_more, runs_then, runs_within, unspent_by}
 use Rattle.solv_remedy.proofs.smallest.try_each.Goals as goal

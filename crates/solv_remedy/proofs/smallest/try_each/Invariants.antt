@@ -1,7 +1,7 @@
 use Rattle.std.proofs.Common.{◌≡◌, ◌≤◌, length}
 use Rattle.solv_questions.specs.Questions.{Request}
-use Rattle.solv_remedy.specs.Trying.{IsLogOf, IsSetUp, AreTriedOff}
-use Rattle.solv_remedy.specs.Runs.{HasRuns}
+use Rattle.solv_remedy.specs.Inner.Trying.{IsLogOf, IsSetUp, AreTriedOff}
+use Rattle.solv_remedy.specs.Inner.Runs.{HasRuns}
 use Rattle.solv_remedy.proofs.smallest.try_each.Given as goal
 
 abbrev pub invariant-loop-rule : goal.invariant-loop-rule

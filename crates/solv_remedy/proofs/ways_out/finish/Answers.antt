@@ -1,7 +1,7 @@
 use Rattle.std.proofs.Common.{◌≡◌, ℕ, List, Option, subst, rules}
 use Rattle.std.specs.Option.{IfSome}
-use Rattle.solv_remedy.specs.Dropping.{IsFoundOver}
-use Rattle.solv_remedy.specs.GivingBack.{IsGivenBack}
+use Rattle.solv_remedy.specs.Inner.Dropping.{IsFoundOver}
+use Rattle.solv_remedy.specs.Inner.GivingBack.{IsGivenBack}
 use Rattle.solv_remedy.specs.declared.giving_back.GivenBack.{GivenBack}
 use Rattle.solv_remedy.proofs.ways_out.finish.Goals as goal
 

@@ -1,7 +1,7 @@
 use Rattle.std.proofs.Common.{◌≡◌, []}
 use Rattle.std.specs.Vec.Iter.{into_iter_items, into_iter_len}
 use Rattle.std.proofs.Common.{length}
-use Rattle.solv_remedy.specs.WaysOut.{put_all}
+use Rattle.solv_remedy.specs.Inner.WaysOut.{put_all}
 use Rattle.solv_remedy.proofs.ways_out.in_order.Given as goal
 
 abbrev pub invariant-loop-one : goal.invariant-loop-one

@@ -1,6 +1,6 @@
 use Rattle.std.proofs.Common.{◌≡◌, drop}
 use Rattle.solv_pool.specs.Words.{is_among}
-use Rattle.solv_remedy.specs.GivingBack.{kept_rules}
+use Rattle.solv_remedy.specs.Inner.GivingBack.{kept_rules}
 use Rattle.solv_remedy.proofs.ways_out.is_refuted.Given as goal
 
 abbrev pub invariant-loop-one : goal.invariant-loop-one

@@ -1,5 +1,5 @@
 use Rattle.std.proofs.Common.{◌≡◌, ◌+◌, drop}
-use Rattle.solv_remedy.specs.WaysOut.{place_among}
+use Rattle.solv_remedy.specs.Inner.WaysOut.{place_among}
 use Rattle.solv_remedy.proofs.ways_out.place_for.Given as goal
 
 abbrev pub invariant-loop-place : goal.invariant-loop-place

@@ -4,10 +4,10 @@ use Rattle.std.specs.Prelude.{filter, IfOk}
 use Rattle.solv_pool.specs.Words.{is_among}
 use Rattle.solv_core.specs.Cores.{CoreOf}
 use Rattle.solv_questions.specs.Questions.{Request}
-use Rattle.solv_remedy.specs.Dropping.{IsRemaining}
-use Rattle.solv_remedy.specs.GivingBack.{AreKept, kept_rules}
-use Rattle.solv_remedy.specs.Trying.{IsSetUp}
-use Rattle.solv_remedy.specs.WaysOut.{AreLookedAt, IsConflictAmong, IsWayOut}
+use Rattle.solv_remedy.specs.Inner.Dropping.{IsRemaining}
+use Rattle.solv_remedy.specs.Inner.GivingBack.{AreKept, kept_rules}
+use Rattle.solv_remedy.specs.Inner.Trying.{IsSetUp}
+use Rattle.solv_remedy.specs.Inner.WaysOut.{AreLookedAt, IsConflictAmong, IsWayOut}
 use Rattle.solv_remedy.specs.declared.dropping.Remaining.{Remaining}
 use Rattle.solv_remedy.proofs.Dropped.{still_apart, no_longer}
 use Rattle.solv_remedy.proofs.Leaving.{looked_among, left_among}

@@ -1,7 +1,7 @@
 use Rattle.std.proofs.Common.{◌≡◌, ◌++◌, drop, not}
 use Rattle.std.specs.Prelude.{filter}
 use Rattle.solv_pool.specs.Words.{is_among}
-use Rattle.solv_remedy.specs.GivingBack.{kept_rules}
+use Rattle.solv_remedy.specs.Inner.GivingBack.{kept_rules}
 use Rattle.solv_remedy.proofs.ways_out.without_refuted.Given as goal
 
 abbrev pub invariant-loop-rule : goal.invariant-loop-rule

@@ -1,8 +1,8 @@
 use Rattle.std.proofs.Common.{◌≡◌, ◌∙◌, ◌+◌, ◌<◌, ◌++◌, ◌∷◌, [], ap, length, drop, sym}
 use Rattle.solv_pool.specs.Clauses.{kept, in_numbers}
 use Rattle.std.specs.Prelude.{flat_map}
-use Rattle.solv_rich.specs.Counts.{ends_behind, HasAppended}
-use Rattle.solv_rich.specs.Expansions.{clauses_in}
+use Rattle.solv_rich.specs.Inner.Counts.{ends_behind, HasAppended}
+use Rattle.solv_rich.specs.Inner.Expansions.{clauses_in}
 use Rattle.solv_rich.proofs.Numbered.{there_is, below_count}
 use Rattle.solv_rich.proofs.Appended.{drop_at, kept_more, lits_left, ends_left, kept_chain}
 use Rattle.solv_rich.proofs.appending.append_all.Goals as goal

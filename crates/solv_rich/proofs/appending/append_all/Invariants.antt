@@ -1,8 +1,8 @@
 use Rattle.std.proofs.Common.{◌≡◌, ◌++◌, drop, take, length}
 use Rattle.std.specs.Prelude.{flat_map}
 use Rattle.solv_pool.specs.Clauses.{kept, in_numbers}
-use Rattle.solv_rich.specs.Counts.{ends_behind}
-use Rattle.solv_rich.specs.Expansions.{clauses_in}
+use Rattle.solv_rich.specs.Inner.Counts.{ends_behind}
+use Rattle.solv_rich.specs.Inner.Expansions.{clauses_in}
 use Rattle.solv_rich.proofs.appending.append_all.Given as goal
 
 abbrev pub invariant-loop-number : goal.invariant-loop-number

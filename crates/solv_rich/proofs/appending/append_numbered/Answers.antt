@@ -1,7 +1,7 @@
 use Rattle.std.proofs.Common.{◌≡◌, ◌∙◌, ◌++◌, ap, map}
 use Rattle.std.specs.List.{list_all}
-use Rattle.solv_rich.specs.Expansions.{clauses_in, literal_of}
-use Rattle.solv_rich.specs.Shortening.{has_number}
+use Rattle.solv_rich.specs.Inner.Expansions.{clauses_in, literal_of}
+use Rattle.solv_rich.specs.Inner.Shortening.{has_number}
 use Rattle.solv_rich.proofs.Numbered.{there_is}
 use Rattle.solv_rich.proofs.Appended.{all_at}
 use Rattle.solv_rich.proofs.appending.append_numbered.Goals as goal

@@ -2,7 +2,7 @@ use Rattle.std.proofs.Common.{◌∙◌, ap, length}
 use Rattle.std.specs.List.{list_all}
 use Rattle.solv_pool.specs.Catalog.{Catalog, catalog_of, dependency}
 use Rattle.solv_pool.proofs.Counts.{length-clauses_of}
-use Rattle.solv_rich.specs.Shortening.{has_number}
+use Rattle.solv_rich.specs.Inner.Shortening.{has_number}
 use Rattle.solv_rich.proofs.Appended.{numbered}
 use Rattle.solv_rich.proofs.appending.append_rich.Goals as goal
 

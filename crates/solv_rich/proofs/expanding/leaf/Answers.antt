@@ -3,8 +3,8 @@ use Rattle.std.specs.Prelude.{filter}
 use Rattle.solv_pool.specs.Catalog.{Catalog, catalog_of, dependency, members}
 use Rattle.solv_pool.specs.Clauses.{Clause}
 use Rattle.solv_pool.specs.Holding.{package_meets}
-use Rattle.solv_rich.specs.Expansions.{IsExpansion}
-use Rattle.solv_rich.specs.Singles.{without}
+use Rattle.solv_rich.specs.Inner.Expansions.{IsExpansion}
+use Rattle.solv_rich.specs.Inner.Singles.{without}
 use Rattle.solv_rich.proofs.Around.{leaf_is}
 use Rattle.solv_rich.proofs.Rising.{rising_filter, members_rise}
 use Rattle.solv_rich.proofs.expanding.leaf.Goals as goal

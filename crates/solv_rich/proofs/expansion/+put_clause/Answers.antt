@@ -4,7 +4,7 @@ use Rattle.std.proofs.lemmas.List.{map_push}
 use Rattle.std.proofs.lemmas.Option.{slice_get-map}
 use Rattle.solv_pool.specs.Clauses.{Clause, times, is_out}
 use Rattle.solv_rich.specs.Counts.{saturated}
-use Rattle.solv_rich.specs.Expansions.{clauses_in, are_counted, literal_of}
+use Rattle.solv_rich.specs.Inner.Expansions.{clauses_in, are_counted, literal_of}
 use Rattle.solv_rich.proofs.Numbered.{joined_front, joined_back, there_is}
 use Rattle.solv_rich.proofs.Counted.{count_at}
 use Rattle.solv_rich.proofs.expansion.+put_clause.Goals as goal

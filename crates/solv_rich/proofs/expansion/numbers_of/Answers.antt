@@ -1,4 +1,4 @@
-use Rattle.solv_rich.specs.Expansions.{clauses_in}
+use Rattle.solv_rich.specs.Inner.Expansions.{clauses_in}
 use Rattle.solv_rich.proofs.Numbered.{crosses}
 use Rattle.solv_rich.proofs.Counted.{crossed_is}
 use Rattle.solv_rich.proofs.expansion.numbers_of.Goals as goal

@@ -1,6 +1,6 @@
 use Rattle.std.proofs.Common.{◌≡◌, ◌++◌, drop, map}
 use Rattle.solv_pool.specs.Clauses.{is_in}
-use Rattle.solv_rich.specs.Expansions.{literal_of}
+use Rattle.solv_rich.specs.Inner.Expansions.{literal_of}
 use Rattle.solv_rich.proofs.expansion.put_ins.Given as goal
 
 abbrev pub invariant-loop-pack : goal.invariant-loop-pack

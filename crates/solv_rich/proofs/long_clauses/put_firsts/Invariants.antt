@@ -1,9 +1,9 @@
 use Rattle.std.proofs.Common.{◌≡◌, ◌++◌, [], true, drop, take, map, length}
 use Rattle.std.specs.List.{list_all}
 use Rattle.solv_pool.specs.Clauses.{number_of}
-use Rattle.solv_rich.specs.Expansions.{literal_of}
-use Rattle.solv_rich.specs.LongClauses.{IsSetOf}
-use Rattle.solv_rich.specs.Shortening.{has_number, each_first}
+use Rattle.solv_rich.specs.Inner.Expansions.{literal_of}
+use Rattle.solv_rich.specs.Inner.LongClauses.{IsSetOf}
+use Rattle.solv_rich.specs.Inner.Shortening.{has_number, each_first}
 use Rattle.solv_rich.proofs.long_clauses.put_firsts.Given as goal
 
 abbrev pub invariant-loop-each : goal.invariant-loop-each

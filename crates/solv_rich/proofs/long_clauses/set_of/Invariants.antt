@@ -1,6 +1,6 @@
 use Rattle.std.proofs.Common.{take, map}
-use Rattle.solv_rich.specs.Expansions.{literal_of}
-use Rattle.solv_rich.specs.LongClauses.{IsSetOf}
+use Rattle.solv_rich.specs.Inner.Expansions.{literal_of}
+use Rattle.solv_rich.specs.Inner.LongClauses.{IsSetOf}
 use Rattle.solv_rich.proofs.long_clauses.set_of.Given as goal
 
 abbrev pub invariant-loop-each : goal.invariant-loop-each

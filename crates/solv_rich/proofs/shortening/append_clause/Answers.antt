@@ -1,7 +1,7 @@
 use Rattle.std.proofs.Common.{◌≡◌, ◌∙◌, sym, map, length, false, [], rules}
 use Rattle.solv_pool.specs.Clauses.{is_always_true, number_of}
-use Rattle.solv_rich.specs.Expansions.{literal_of}
-use Rattle.solv_rich.specs.Shortening.{each_first}
+use Rattle.solv_rich.specs.Inner.Expansions.{literal_of}
+use Rattle.solv_rich.specs.Inner.Shortening.{each_first}
 use Rattle.solv_rich.proofs.Appended.{kept_one, one_appended}
 use Rattle.solv_rich.proofs.shortening.append_clause.Goals as goal
 

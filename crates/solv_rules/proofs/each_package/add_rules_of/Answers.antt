@@ -4,7 +4,7 @@ use Rattle.solv_base.specs.Dependency.{plain}
 use Rattle.solv_pool.specs.Catalog.{catalog_of, packages}
 use Rattle.solv_pool.specs.HardRules.{not_installable_rules, rules_asked_by}
 use Rattle.solv_pool.specs.Providing.{is_named}
-use Rattle.solv_rules.specs.Making.{Puts, requirements_of, all_conflicts_of, obsoletions_of, namesakes_of}
+use Rattle.solv_rules.specs.Inner.Making.{Puts, requirements_of, all_conflicts_of, obsoletions_of, namesakes_of}
 use Rattle.solv_rules.proofs.Meeting.{packages_within}
 use Rattle.solv_rules.proofs.Packages.{asked_is}
 use Rattle.solv_rules.proofs.Putting.{IsLeft, turn, broken, last, left_first}

@@ -1,6 +1,6 @@
 use Rattle.std.proofs.Common.{◌++◌, rules}
 use Rattle.solv_pool.specs.Catalog.{catalog_of}
-use Rattle.solv_rules.specs.Making.{conflicts_of, rich_conflicts_of}
+use Rattle.solv_rules.specs.Inner.Making.{conflicts_of, rich_conflicts_of}
 use Rattle.solv_rules.proofs.Putting.{turn, broken, last, left_start}
 use Rattle.solv_rules.proofs.making.add_all_conflicts.Goals as goal
 

@@ -4,7 +4,7 @@ use Rattle.solv_base.specs.Dependency.{package_wise}
 use Rattle.solv_pool.specs.Catalog.{Catalog, catalog_of, dependency, members}
 use Rattle.solv_pool.specs.Holding.{package_meets}
 use Rattle.solv_pool.specs.RuleMeaning.{HardRule, con}
-use Rattle.solv_rules.specs.Making.{Puts, against, conflicts_of}
+use Rattle.solv_rules.specs.Inner.Making.{Puts, against, conflicts_of}
 use Rattle.solv_rules.proofs.Meeting.{members_within}
 use Rattle.solv_rules.proofs.Packages.{conflict_alone, no_conflict_alone}
 use Rattle.solv_rules.proofs.Putting.{puts_nothing}

@@ -2,10 +2,10 @@ use Rattle.std.proofs.Common.{[], ◌∷◌, ◌+◌, ◌≡◌, ◌++◌, ◌�
 use Rattle.std.proofs.lemmas.List.{drop_more, drop_all}
 use Rattle.solv_pool.specs.Catalog.{catalog_of}
 use Rattle.solv_pool.specs.RuleMeaning.{con}
-use Rattle.solv_rules.specs.Making.{is_counted_other, against}
-use Rattle.solv_rules.proofs.Meeting.{all_behind}
+use Rattle.solv_rules.specs.Inner.Making.{is_counted_other, against}
 use Rattle.solv_rules.proofs.Putting.{IsLeft, puts_all, turn, broken, first_of, left_as}
 use Rattle.solv_rules.proofs.making.add_conflict_each.Goals as goal
+use Rattle.solv_list.proofs.Lists.{all_behind}
 
 pub returns-in_err-add_conflict_against : goal.returns-in_err-add_conflict_against
 returns-in_err-add_conflict_against c =

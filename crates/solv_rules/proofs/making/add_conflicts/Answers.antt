@@ -1,11 +1,11 @@
 use Rattle.std.proofs.Common.{[], ◌∷◌, ◌+◌, ◌≡◌, ◌++◌, ◌∙◌, drop, length, nat_lt, sym, ap, arith, rules}
 use Rattle.std.proofs.lemmas.List.{drop_more, drop_all}
 use Rattle.solv_pool.specs.Catalog.{catalog_of}
-use Rattle.solv_rules.specs.Making.{conflicts_of}
-use Rattle.solv_rules.proofs.Meeting.{all_behind}
+use Rattle.solv_rules.specs.Inner.Making.{conflicts_of}
 use Rattle.solv_rules.proofs.Packages.{conflicts_first}
 use Rattle.solv_rules.proofs.Putting.{IsLeft, puts_all, turn, broken, left_as}
 use Rattle.solv_rules.proofs.making.add_conflicts.Goals as goal
+use Rattle.solv_list.proofs.Lists.{all_behind}
 
 pub returns-in_err-add_conflict : goal.returns-in_err-add_conflict
 returns-in_err-add_conflict c =

@@ -1,6 +1,6 @@
 use Rattle.std.proofs.Common.{[], ◌∷◌, rules}
 use Rattle.solv_pool.specs.Catalog.{catalog_of}
-use Rattle.solv_rules.specs.Making.{namesakes_of}
+use Rattle.solv_rules.specs.Inner.Making.{namesakes_of}
 use Rattle.solv_rules.proofs.Putting.{puts_none}
 use Rattle.solv_rules.proofs.making.add_namesake.Goals as goal
 

@@ -2,10 +2,10 @@ use Rattle.std.proofs.Common.{[], ◌∷◌, ◌+◌, ◌≡◌, ◌++◌, ◌�
 use Rattle.std.proofs.lemmas.List.{drop_more, drop_all}
 use Rattle.solv_pool.specs.Catalog.{catalog_of}
 use Rattle.solv_pool.specs.RuleMeaning.{same}
-use Rattle.solv_rules.specs.Making.{is_barred, namesakes_of}
-use Rattle.solv_rules.proofs.Meeting.{all_behind}
+use Rattle.solv_rules.specs.Inner.Making.{is_barred, namesakes_of}
 use Rattle.solv_rules.proofs.Putting.{IsLeft, puts_all, turn, broken, first_of, left_as}
 use Rattle.solv_rules.proofs.making.add_namesakes.Goals as goal
+use Rattle.solv_list.proofs.Lists.{all_behind}
 
 pub returns-in_err-add_namesake : goal.returns-in_err-add_namesake
 returns-in_err-add_namesake c =

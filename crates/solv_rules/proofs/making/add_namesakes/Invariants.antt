@@ -1,7 +1,7 @@
 use Rattle.std.proofs.Common.{◌≡◌, true, drop, length, nat_le}
 use Rattle.std.specs.List.{list_all}
 use Rattle.solv_pool.specs.Catalog.{catalog_of}
-use Rattle.solv_rules.specs.Making.{namesakes_of}
+use Rattle.solv_rules.specs.Inner.Making.{namesakes_of}
 use Rattle.solv_rules.proofs.Putting.{IsLeft}
 use Rattle.solv_rules.proofs.making.add_namesakes.Given as goal
 

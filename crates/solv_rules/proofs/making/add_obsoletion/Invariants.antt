@@ -2,7 +2,7 @@ use Rattle.std.proofs.Common.{◌≡◌, true, drop, length, nat_le}
 use Rattle.std.specs.List.{list_all}
 use Rattle.solv_pool.specs.Catalog.{catalog_of}
 use Rattle.solv_pool.specs.RuleMeaning.{obs}
-use Rattle.solv_rules.specs.Making.{against}
+use Rattle.solv_rules.specs.Inner.Making.{against}
 use Rattle.solv_rules.proofs.Putting.{IsLeft}
 use Rattle.solv_rules.proofs.making.add_obsoletion.Given as goal
 

@@ -1,7 +1,7 @@
 use Rattle.std.proofs.Common.{[], ◌∷◌, rules}
 use Rattle.solv_pool.specs.Catalog.{catalog_of}
 use Rattle.solv_pool.specs.RuleMeaning.{obs}
-use Rattle.solv_rules.specs.Making.{against}
+use Rattle.solv_rules.specs.Inner.Making.{against}
 use Rattle.solv_rules.proofs.Putting.{puts_none}
 use Rattle.solv_rules.proofs.making.add_obsoletion_against.Goals as goal
 

@@ -4,10 +4,11 @@ use Rattle.std.proofs.lemmas.List.{drop_more, drop_all}
 use Rattle.solv_pool.specs.Catalog.{catalog_of, packages}
 use Rattle.solv_pool.specs.Providing.{covers}
 use Rattle.solv_pool.specs.RuleMeaning.{obs}
-use Rattle.solv_rules.specs.Making.{against, obsoletions_of}
-use Rattle.solv_rules.proofs.Meeting.{packages_within, all_behind}
+use Rattle.solv_rules.specs.Inner.Making.{against, obsoletions_of}
+use Rattle.solv_rules.proofs.Meeting.{packages_within}
 use Rattle.solv_rules.proofs.Putting.{IsLeft, puts_all, turn, broken, left_as}
 use Rattle.solv_rules.proofs.making.add_obsoletions.Goals as goal
+use Rattle.solv_list.proofs.Lists.{all_behind}
 
 pub add_obsoletion-requires : goal.add_obsoletion-requires
 add_obsoletion-requires c =

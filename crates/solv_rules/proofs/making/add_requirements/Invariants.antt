@@ -1,7 +1,7 @@
 use Rattle.std.proofs.Common.{◌≡◌, true, drop, length, nat_lt}
 use Rattle.std.specs.List.{list_all}
 use Rattle.solv_pool.specs.Catalog.{catalog_of}
-use Rattle.solv_rules.specs.Making.{requirements_of}
+use Rattle.solv_rules.specs.Inner.Making.{requirements_of}
 use Rattle.solv_rules.proofs.Putting.{IsLeft}
 use Rattle.solv_rules.proofs.making.add_requirements.Given as goal
 

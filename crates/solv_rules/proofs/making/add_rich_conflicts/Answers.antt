@@ -2,10 +2,10 @@ use Rattle.std.proofs.Common.{[], ◌∷◌, ◌+◌, ◌≡◌, ◌++◌, ◌�
 use Rattle.std.proofs.lemmas.List.{drop_more, drop_all}
 use Rattle.solv_pool.specs.Catalog.{catalog_of}
 use Rattle.solv_pool.specs.RuleMeaning.{rich_con}
-use Rattle.solv_rules.specs.Making.{rich_conflicts_of, rich_conflict_holds}
-use Rattle.solv_rules.proofs.Meeting.{all_behind}
+use Rattle.solv_rules.specs.Inner.Making.{rich_conflicts_of, rich_conflict_holds}
 use Rattle.solv_rules.proofs.Putting.{IsLeft, puts_all, turn, broken, first_of, left_as}
 use Rattle.solv_rules.proofs.making.add_rich_conflicts.Goals as goal
+use Rattle.solv_list.proofs.Lists.{all_behind}
 
 pub returns-in_err-add_rich_conflict : goal.returns-in_err-add_rich_conflict
 returns-in_err-add_rich_conflict c =

@@ -5,66 +5,67 @@ use Rattle.solv_pool.specs.Catalog.{catalog_of, dependency, members, packages}
 use Rattle.solv_pool.specs.Clauses.{dependency_clauses, guarded}
 use Rattle.solv_pool.specs.RuleMeaning.{set_at}
 use Rattle.solv_rules.specs.Books.{is_held_at, rises}
-use Rattle.solv_rules.specs.Drafting.{Takes, form_numbers, is_number, literals_by}
+use Rattle.solv_rules.specs.Inner.Drafting.{Takes, form_numbers, is_number, literals_by}
 use Rattle.solv_rules.specs.declared.forms.Form.TheVariants.{Requirement, Conflict}
 use Rattle.solv_rules.proofs.Appended.{rule_takes}
 use Rattle.solv_rules.proofs.RuleWords.{each_by}
-use Rattle.solv_rules.proofs.FormWords.{first_true, second_true, some_pack, pack_number, pack_numbers, packs_held, member_low, held_is}
+use Rattle.solv_rules.proofs.FormWords.{some_pack, pack_number, pack_numbers, packs_held, member_low, held_is}
 use Rattle.solv_rules.proofs.making_book.add_form.Goals as goal
+use Rattle.solv_list.proofs.Booleans.{first_of_both, second_of_both}
 
 pub is_out-requires : goal.is_out-requires
 is_out-requires c = pack_number (catalog_of c.args.task.now) c.marks_each.ensures.packages_fit c.in-Out.pack (rw c.in-Out.is at c.requires.fits)
 
 pub add_requirement-requires-clause-held : goal.add_requirement-requires-clause-held
-add_requirement-requires-clause-held c = held_is (catalog_of c.args.task.now) true c.in-Requirement.dep (second_true (is_among (packages (catalog_of c.args.task.now)) c.in-Requirement.pack) (is_held_at (catalog_of c.args.task.now) true c.in-Requirement.dep) (rw c.in-Requirement.is at c.requires.fits))
+add_requirement-requires-clause-held c = held_is (catalog_of c.args.task.now) true c.in-Requirement.dep (second_of_both (is_among (packages (catalog_of c.args.task.now)) c.in-Requirement.pack) (is_held_at (catalog_of c.args.task.now) true c.in-Requirement.dep) (rw c.in-Requirement.is at c.requires.fits))
 
 pub add_requirement-requires-clause-number : goal.add_requirement-requires-clause-number
-add_requirement-requires-clause-number c = pack_number (catalog_of c.args.task.now) c.marks_each.ensures.packages_fit c.in-Requirement.pack (first_true _ (is_held_at (catalog_of c.args.task.now) true c.in-Requirement.dep) (rw c.in-Requirement.is at c.requires.fits))
+add_requirement-requires-clause-number c = pack_number (catalog_of c.args.task.now) c.marks_each.ensures.packages_fit c.in-Requirement.pack (first_of_both _ (is_held_at (catalog_of c.args.task.now) true c.in-Requirement.dep) (rw c.in-Requirement.is at c.requires.fits))
 
 pub add_requirement-requires-clause-few : goal.add_requirement-requires-clause-few
 add_requirement-requires-clause-few c =
-    let packed : is_among (packages (catalog_of c.args.task.now)) c.in-Requirement.pack ≡ true = first_true _ (is_held_at (catalog_of c.args.task.now) true c.in-Requirement.dep) (rw c.in-Requirement.is at c.requires.fits) in
+    let packed : is_among (packages (catalog_of c.args.task.now)) c.in-Requirement.pack ≡ true = first_of_both _ (is_held_at (catalog_of c.args.task.now) true c.in-Requirement.dep) (rw c.in-Requirement.is at c.requires.fits) in
     let numbers : form_numbers (catalog_of c.args.task.now) c.args.sets.now (Requirement c.in-Requirement.pack c.in-Requirement.dep) ≡ guarded c.in-Requirement.pack (dependency_clauses (catalog_of c.args.task.now) None true (dependency (catalog_of c.args.task.now) c.in-Requirement.dep)) =
     (c.rules_guard_dependencies.ensures (catalog_of c.args.task.now) c.in-Requirement.pack c.in-Requirement.dep (some_pack (catalog_of c.args.task.now) c.marks_each.ensures.packages_fit c.in-Requirement.pack packed)).requirement in
     rw numbers at (rw c.in-Requirement.is at c.requires.few)
 
 pub returns-in-Requirement : goal.returns-in-Requirement
 returns-in-Requirement c =
-    let packed : is_among (packages (catalog_of c.args.task.now)) c.in-Requirement.pack ≡ true = first_true _ (is_held_at (catalog_of c.args.task.now) true c.in-Requirement.dep) (rw c.in-Requirement.is at c.requires.fits) in
+    let packed : is_among (packages (catalog_of c.args.task.now)) c.in-Requirement.pack ≡ true = first_of_both _ (is_held_at (catalog_of c.args.task.now) true c.in-Requirement.dep) (rw c.in-Requirement.is at c.requires.fits) in
     let numbers : form_numbers (catalog_of c.args.task.now) c.args.sets.now (Requirement c.in-Requirement.pack c.in-Requirement.dep) ≡ guarded c.in-Requirement.pack (dependency_clauses (catalog_of c.args.task.now) None true (dependency (catalog_of c.args.task.now) c.in-Requirement.dep)) =
     (c.rules_guard_dependencies.ensures (catalog_of c.args.task.now) c.in-Requirement.pack c.in-Requirement.dep (some_pack (catalog_of c.args.task.now) c.marks_each.ensures.packages_fit c.in-Requirement.pack packed)).requirement in
     rw (c.in-Requirement.is, numbers) c.add_requirement.ensures
 
 pub add_conflict-requires-clause-held : goal.add_conflict-requires-clause-held
-add_conflict-requires-clause-held c = held_is (catalog_of c.args.task.now) false c.in-Conflict.dep (second_true (is_among (packages (catalog_of c.args.task.now)) c.in-Conflict.pack) (is_held_at (catalog_of c.args.task.now) false c.in-Conflict.dep) (rw c.in-Conflict.is at c.requires.fits))
+add_conflict-requires-clause-held c = held_is (catalog_of c.args.task.now) false c.in-Conflict.dep (second_of_both (is_among (packages (catalog_of c.args.task.now)) c.in-Conflict.pack) (is_held_at (catalog_of c.args.task.now) false c.in-Conflict.dep) (rw c.in-Conflict.is at c.requires.fits))
 
 pub add_conflict-requires-clause-number : goal.add_conflict-requires-clause-number
-add_conflict-requires-clause-number c = pack_number (catalog_of c.args.task.now) c.marks_each.ensures.packages_fit c.in-Conflict.pack (first_true _ (is_held_at (catalog_of c.args.task.now) false c.in-Conflict.dep) (rw c.in-Conflict.is at c.requires.fits))
+add_conflict-requires-clause-number c = pack_number (catalog_of c.args.task.now) c.marks_each.ensures.packages_fit c.in-Conflict.pack (first_of_both _ (is_held_at (catalog_of c.args.task.now) false c.in-Conflict.dep) (rw c.in-Conflict.is at c.requires.fits))
 
 pub add_conflict-requires-clause-few : goal.add_conflict-requires-clause-few
 add_conflict-requires-clause-few c =
-    let packed : is_among (packages (catalog_of c.args.task.now)) c.in-Conflict.pack ≡ true = first_true _ (is_held_at (catalog_of c.args.task.now) false c.in-Conflict.dep) (rw c.in-Conflict.is at c.requires.fits) in
+    let packed : is_among (packages (catalog_of c.args.task.now)) c.in-Conflict.pack ≡ true = first_of_both _ (is_held_at (catalog_of c.args.task.now) false c.in-Conflict.dep) (rw c.in-Conflict.is at c.requires.fits) in
     let numbers : form_numbers (catalog_of c.args.task.now) c.args.sets.now (Conflict c.in-Conflict.pack c.in-Conflict.dep) ≡ guarded c.in-Conflict.pack (dependency_clauses (catalog_of c.args.task.now) (Some c.in-Conflict.pack) false (dependency (catalog_of c.args.task.now) c.in-Conflict.dep)) =
     (c.rules_guard_dependencies.ensures (catalog_of c.args.task.now) c.in-Conflict.pack c.in-Conflict.dep (some_pack (catalog_of c.args.task.now) c.marks_each.ensures.packages_fit c.in-Conflict.pack packed)).conflict in
     rw numbers at (rw c.in-Conflict.is at c.requires.few)
 
 pub returns-in-Conflict : goal.returns-in-Conflict
 returns-in-Conflict c =
-    let packed : is_among (packages (catalog_of c.args.task.now)) c.in-Conflict.pack ≡ true = first_true _ (is_held_at (catalog_of c.args.task.now) false c.in-Conflict.dep) (rw c.in-Conflict.is at c.requires.fits) in
+    let packed : is_among (packages (catalog_of c.args.task.now)) c.in-Conflict.pack ≡ true = first_of_both _ (is_held_at (catalog_of c.args.task.now) false c.in-Conflict.dep) (rw c.in-Conflict.is at c.requires.fits) in
     let numbers : form_numbers (catalog_of c.args.task.now) c.args.sets.now (Conflict c.in-Conflict.pack c.in-Conflict.dep) ≡ guarded c.in-Conflict.pack (dependency_clauses (catalog_of c.args.task.now) (Some c.in-Conflict.pack) false (dependency (catalog_of c.args.task.now) c.in-Conflict.dep)) =
     (c.rules_guard_dependencies.ensures (catalog_of c.args.task.now) c.in-Conflict.pack c.in-Conflict.dep (some_pack (catalog_of c.args.task.now) c.marks_each.ensures.packages_fit c.in-Conflict.pack packed)).conflict in
     rw (c.in-Conflict.is, numbers) c.add_conflict.ensures
 
 pub add_pair-requires-clause-number : goal.add_pair-requires-clause-number
-add_pair-requires-clause-number c = pack_number (catalog_of c.args.task.now) c.marks_each.ensures.packages_fit c.in-Pair.pack (first_true _ (is_among (members (catalog_of c.args.task.now)) c.in-Pair.other) (rw c.in-Pair.is at c.requires.fits))
+add_pair-requires-clause-number c = pack_number (catalog_of c.args.task.now) c.marks_each.ensures.packages_fit c.in-Pair.pack (first_of_both _ (is_among (members (catalog_of c.args.task.now)) c.in-Pair.other) (rw c.in-Pair.is at c.requires.fits))
 
 pub add_pair-requires-clause-other : goal.add_pair-requires-clause-other
-add_pair-requires-clause-other c = member_low (catalog_of c.args.task.now) c.marks_each.ensures.packages_fit c.in-Pair.other (second_true (is_among (packages (catalog_of c.args.task.now)) c.in-Pair.pack) (is_among (members (catalog_of c.args.task.now)) c.in-Pair.other) (rw c.in-Pair.is at c.requires.fits))
+add_pair-requires-clause-other c = member_low (catalog_of c.args.task.now) c.marks_each.ensures.packages_fit c.in-Pair.other (second_of_both (is_among (packages (catalog_of c.args.task.now)) c.in-Pair.pack) (is_among (members (catalog_of c.args.task.now)) c.in-Pair.other) (rw c.in-Pair.is at c.requires.fits))
 
 pub add_some-requires-clause-numbers : goal.add_some-requires-clause-numbers
 add_some-requires-clause-numbers c =
     rw c.set_of.ensures
-    (pack_numbers (catalog_of c.args.task.now) c.marks_each.ensures.packages_fit (set_at c.args.sets.now c.in-OneOf.set) (first_true _ (rises 1 (set_at c.args.sets.now c.in-OneOf.set)) (rw c.in-OneOf.is at c.requires.fits)))
+    (pack_numbers (catalog_of c.args.task.now) c.marks_each.ensures.packages_fit (set_at c.args.sets.now c.in-OneOf.set) (first_of_both _ (rises 1 (set_at c.args.sets.now c.in-OneOf.set)) (rw c.in-OneOf.is at c.requires.fits)))
 
 pub add_each-requires-clause-numbers : goal.add_each-requires-clause-numbers
 add_each-requires-clause-numbers c = rw c.set_of-in-Each.ensures (pack_numbers (catalog_of c.args.task.now) c.marks_each.ensures.packages_fit (set_at c.args.sets.now c.in-Each.set) (rw c.in-Each.is at c.requires.fits))

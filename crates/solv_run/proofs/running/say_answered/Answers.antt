@@ -1,7 +1,7 @@
-use Rattle.solv_run.proofs.Reported.{ok_map}
 use Rattle.solv_run.proofs.Said.{said_answer}
 use Rattle.solv_run.proofs.Forming.{asks_formed}
 use Rattle.solv_run.proofs.running.say_answered.Goals as goal
+use Rattle.solv_list.proofs.Answers.{ok_map}
 
 pub answer-requires-clause-formed : goal.answer-requires-clause-formed
 answer-requires-clause-formed g c = asks_formed c.args.script.now.task c.requires.forms c.requires.unconditional

@@ -1,7 +1,7 @@
 use Rattle.std.proofs.Common.{◌∙◌}
-use Rattle.solv_run.proofs.Reported.{ok_map}
 use Rattle.solv_run.proofs.Said.{said_limit}
 use Rattle.solv_run.proofs.running.say_limit.Goals as goal
+use Rattle.solv_list.proofs.Answers.{ok_map}
 
 pub returns : goal.returns
 returns g c =

@@ -1,7 +1,7 @@
-use Rattle.solv_run.proofs.Reported.{ok_map}
 use Rattle.solv_run.proofs.Fetched.{if_wanting, front_read, front_ended}
 use Rattle.solv_run.proofs.Said.{bytes_read, bytes_ended, front_lent}
 use Rattle.solv_run.proofs.top.run_bytes.Goals as goal
+use Rattle.solv_list.proofs.Answers.{ok_map}
 
 pub returns-in-Ok-clause-run : goal.returns-in-Ok-clause-run
 returns-in-Ok-clause-run g c =

@@ -2,8 +2,8 @@ use Rattle.std.proofs.Common.{◌∙◌, sym, ap, refl}
 use Rattle.std.specs.Option.{option_copied}
 use Rattle.solv_run.specs.Cases.{asked_script}
 use Rattle.solv_run.proofs.Fetched.{run_fetched, run_usage, run_not_read, if_wanting, wanting_from, wanting_fetched, wanting_none}
-use Rattle.solv_run.proofs.Reported.{ok_map}
 use Rattle.solv_run.proofs.top.run_words.Goals as goal
+use Rattle.solv_list.proofs.Answers.{ok_map}
 
 pub returns-in_default-clause-run : goal.returns-in_default-clause-run
 returns-in_default-clause-run g c =

@@ -1,5 +1,5 @@
 use Rattle.std.proofs.Common.{◌≡◌, ◌++◌, map, take, drop}
-use Rattle.solv_tags.specs.TagReading.{also_pre_id}
+use Rattle.solv_tags.specs.Inner.TagReading.{also_pre_id}
 use Rattle.solv_tags.proofs.entries.mark_needs.Given as goal
 
 abbrev pub invariant-loop-need : goal.invariant-loop-need

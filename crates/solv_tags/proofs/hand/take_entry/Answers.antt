@@ -1,5 +1,6 @@
-use Rattle.solv_tags.proofs.HandLines.{on_ok, if_err, other_read, other_ended}
+use Rattle.solv_tags.proofs.HandLines.{other_read, other_ended}
 use Rattle.solv_tags.proofs.hand.take_entry.Goals as goal
+use Rattle.solv_list.proofs.Answers.{if_err, on_ok}
 
 pub returns-in_default : goal.returns-in_default
 returns-in_default c =

@@ -1,5 +1,5 @@
 use Rattle.std.proofs.Common.{length}
-use Rattle.solv_tags.specs.Testtags.{testtags_file}
+use Rattle.solv_tags.specs.Inner.Testtags.{testtags_file}
 use Rattle.solv_tags.proofs.EntriesFormed.{file_formed}
 use Rattle.solv_tags.proofs.FormsById.{taken_formed, taken_free}
 use Rattle.solv_tags.proofs.testtags.read_testtags.Goals as goal

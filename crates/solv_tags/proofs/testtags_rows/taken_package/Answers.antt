@@ -1,6 +1,6 @@
 use Rattle.std.specs.Prelude.{[], ◌∷◌, refl}
 use Rattle.solv_base.specs.Pool.{text_tree}
-use Rattle.solv_tags.specs.TesttagsExamples.{one_package}
+use Rattle.solv_tags.specs.Examples.TesttagsExamples.{one_package}
 use Rattle.solv_tags.proofs.testtags_rows.taken_package.Goals as goal
 
 pub returns : goal.returns

@@ -1,6 +1,6 @@
 use Rattle.std.proofs.Common.{◌≡◌, ◌∙◌, ◌*◌, ◌+◌, sym, ap, not, ◌&&◌, get_or, eqb}
 use Rattle.std.specs.Int.{bit_at}
-use Rattle.solv_trail.specs.Numbers.{has}
+use Rattle.solv_trail.specs.Inner.Numbers.{has}
 use Rattle.solv_trail.proofs.Bits.{without, has_at}
 use Rattle.solv_trail.proofs.numbers.beside.Goals as goal
 

@@ -1,6 +1,6 @@
 use Rattle.std.proofs.Common.{rules, ◌≤◌, ◌<◌, ◌*◌, ◌&&◌, not, ℕ, Bool, length, inl, inr, arith, ap}
 use Rattle.std.proofs.lemmas.Bool.{cases_lt}
-use Rattle.solv_trail.specs.Numbers.{has}
+use Rattle.solv_trail.specs.Inner.Numbers.{has}
 use Rattle.solv_trail.proofs.Bits.{none_in_word, first_in_word, has_past}
 use Rattle.solv_trail.proofs.numbers.first_from.Goals as goal
 

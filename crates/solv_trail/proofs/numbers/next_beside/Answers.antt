@@ -1,9 +1,10 @@
 use Rattle.std.proofs.Common.{rules, ◌≡◌, ◌≤◌, ◌<◌, ◌+◌, ◌*◌, ◌/◌, ◌%◌, ◌&&◌, not, ℕ, Bool, false, inl, inr, arith}
 use Rattle.std.specs.Prelude.{Option, None, Some}
 use Rattle.std.proofs.lemmas.Bool.{cases_lt}
-use Rattle.solv_trail.specs.Numbers.{has, IsFirst}
-use Rattle.solv_trail.proofs.Bits.{none_in_word, first_in_word, has_small, and_left}
+use Rattle.solv_trail.specs.Inner.Numbers.{has, IsFirst}
+use Rattle.solv_trail.proofs.Bits.{none_in_word, first_in_word, has_small}
 use Rattle.solv_trail.proofs.numbers.next_beside.Goals as goal
+use Rattle.solv_list.proofs.Booleans.{first_of_both}
 
 pub overflow_add-result : goal.overflow_add-result
 overflow_add-result c =
@@ -36,4 +37,4 @@ returns-in-Some-clause-small c =
     let test : ℕ → Bool = λ k. has c.args.words.now k && not (has c.args.other.now k) in
     let n : ℕ = c.args.from / 64 * 64 + c.in-Some.bit in
     let first = first_in_word test (c.args.from / 64) c.beside.result c.beside.ensures (c.args.from % 64) c.in-Some.bit c.in-Some.ensures.within c.in-Some.ensures.first in
-    has_small c.args.words.now n c.requires (and_left (has c.args.words.now n) (not (has c.args.other.now n)) first.1)
+    has_small c.args.words.now n c.requires (first_of_both (has c.args.words.now n) (not (has c.args.other.now n)) first.1)

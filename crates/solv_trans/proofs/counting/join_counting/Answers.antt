@@ -1,12 +1,12 @@
 use Rattle.std.proofs.Common.{◌≡◌, ◌+◌, ◌++◌, ◌∷◌, [], ◌∙◌, ◌&&◌, ◌||◌, not, ap, length, arith, add-one}
 use Rattle.std.specs.Prelude.{◌==◌, slice_index}
 use Rattle.std.specs.List.{range_with_len}
-use Rattle.solv_graph.specs.Graphs.{edge_to}
-use Rattle.solv_trans.specs.Joining.{apart}
-use Rattle.solv_trans.proofs.Lists.{range_more}
+use Rattle.solv_graph.specs.Inner.Graphs.{edge_to}
+use Rattle.solv_trans.specs.Inner.Joining.{apart}
 use Rattle.solv_trans.proofs.Joined.{adds_none, adds_more, adds_same}
 use Rattle.solv_trans.proofs.Apart.{row_apart, all_apart}
 use Rattle.solv_trans.proofs.counting.join_counting.Goals as goal
+use Rattle.solv_list.proofs.Lists.{range_more}
 
 pub loop-from-init : goal.loop-from-init
 loop-from-init c = adds_none (λ p a b. p == a && apart c.args.classes.now.marks c.args.graph.now a b) c.args.counting.now

@@ -1,7 +1,7 @@
 use Rattle.std.proofs.Common.{◌&&◌}
 use Rattle.std.specs.Prelude.{◌==◌}
 use Rattle.std.specs.List.{range_with_len}
-use Rattle.solv_trans.specs.Joining.{Adds, apart}
+use Rattle.solv_trans.specs.Inner.Joining.{Adds, apart}
 use Rattle.solv_trans.proofs.counting.join_counting.Given as goal
 
 abbrev pub invariant-loop-from : goal.invariant-loop-from

@@ -1,6 +1,6 @@
 use Rattle.std.proofs.Common.{take, ◌&&◌, not}
 use Rattle.std.specs.Prelude.{◌==◌, slice_index}
-use Rattle.solv_trans.specs.Joining.{Adds}
+use Rattle.solv_trans.specs.Inner.Joining.{Adds}
 use Rattle.solv_trans.proofs.counting.join_row.Given as goal
 
 abbrev pub invariant-loop-to : goal.invariant-loop-to

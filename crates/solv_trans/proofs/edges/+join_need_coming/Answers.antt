@@ -4,7 +4,7 @@ use Rattle.std.specs.List.{list_all}
 use Rattle.solv_pool.specs.Catalog.{Catalog, catalog_of, dependency, members}
 use Rattle.solv_pool.specs.Holding.{package_meets}
 use Rattle.solv_pool.specs.Parts.{parts}
-use Rattle.solv_trans.specs.Joining.{is_marked, Joins, from_one, to_coming, unsettled}
+use Rattle.solv_trans.specs.Inner.Joining.{is_marked, Joins, from_one, to_coming, unsettled}
 use Rattle.solv_trans.proofs.Joined.{joins_same}
 use Rattle.solv_trans.proofs.Asking.{comes_pack}
 use Rattle.solv_trans.proofs.Owned.{providers_below, coming_same, coming_operand, coming_both}

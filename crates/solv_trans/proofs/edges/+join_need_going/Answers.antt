@@ -4,7 +4,7 @@ use Rattle.std.specs.List.{list_all}
 use Rattle.solv_pool.specs.Catalog.{Catalog, catalog_of, dependency, members}
 use Rattle.solv_pool.specs.Holding.{package_meets}
 use Rattle.solv_pool.specs.Parts.{parts}
-use Rattle.solv_trans.specs.Joining.{Joins, to_one, from_going}
+use Rattle.solv_trans.specs.Inner.Joining.{Joins, to_one, from_going}
 use Rattle.solv_trans.proofs.Joined.{joins_same}
 use Rattle.solv_trans.proofs.Owned.{providers_below, going_same, going_operand, going_both}
 use Rattle.solv_trans.proofs.edges.+join_need_going.Goals as goal

@@ -1,7 +1,7 @@
 use Rattle.std.proofs.Common.{◌∙◌, ◌||◌, ap, true, arith}
 use Rattle.std.specs.List.{list_any}
 use Rattle.solv_pool.specs.Catalog.{catalog_of, packages}
-use Rattle.solv_trans.specs.Joining.{is_marked, owned_by}
+use Rattle.solv_trans.specs.Inner.Joining.{is_marked, owned_by}
 use Rattle.solv_trans.proofs.Owned.{all_owned}
 use Rattle.solv_trans.proofs.edges.edges_of.Goals as goal
 

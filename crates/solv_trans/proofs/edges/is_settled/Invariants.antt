@@ -1,7 +1,7 @@
 use Rattle.std.proofs.Common.{◌≡◌, false, take}
 use Rattle.std.specs.List.{list_any}
 use Rattle.solv_pool.specs.Catalog.{catalog_of}
-use Rattle.solv_trans.specs.Joining.{is_marked, settles}
+use Rattle.solv_trans.specs.Inner.Joining.{is_marked, settles}
 use Rattle.solv_trans.proofs.edges.is_settled.Given as goal
 
 abbrev pub invariant-loop-other : goal.invariant-loop-other

@@ -1,5 +1,5 @@
 use Rattle.std.proofs.Common.{take}
-use Rattle.solv_trans.specs.Joining.{Joins, from_one}
+use Rattle.solv_trans.specs.Inner.Joining.{Joins, from_one}
 use Rattle.solv_trans.proofs.edges.join_all_from.Given as goal
 
 abbrev pub invariant-loop-other : goal.invariant-loop-other

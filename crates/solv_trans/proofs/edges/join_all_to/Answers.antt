@@ -1,5 +1,5 @@
 use Rattle.std.proofs.Common.{◌<◌, ◌∷◌, [], take, length, arith}
-use Rattle.solv_trans.specs.Joining.{to_one}
+use Rattle.solv_trans.specs.Inner.Joining.{to_one}
 use Rattle.solv_trans.proofs.Lists.{take_next}
 use Rattle.solv_trans.proofs.Joined.{joins_more}
 use Rattle.solv_trans.proofs.edges.join_all_to.Goals as goal

@@ -1,5 +1,5 @@
 use Rattle.std.proofs.Common.{take}
-use Rattle.solv_trans.specs.Joining.{Joins, to_one}
+use Rattle.solv_trans.specs.Inner.Joining.{Joins, to_one}
 use Rattle.solv_trans.proofs.edges.join_all_to.Given as goal
 
 abbrev pub invariant-loop-other : goal.invariant-loop-other

@@ -1,6 +1,6 @@
 use Rattle.std.proofs.Common.{take}
 use Rattle.solv_pool.specs.Catalog.{catalog_of}
-use Rattle.solv_trans.specs.Joining.{is_marked, Joins, to_coming}
+use Rattle.solv_trans.specs.Inner.Joining.{is_marked, Joins, to_coming}
 use Rattle.solv_trans.proofs.edges.join_coming.Given as goal
 
 abbrev pub invariant-loop-need : goal.invariant-loop-need

@@ -1,6 +1,6 @@
 use Rattle.std.proofs.Common.{◌≡◌, take, ℕ, Bool, length}
 use Rattle.solv_pool.specs.Catalog.{catalog_of}
-use Rattle.solv_trans.specs.Joining.{AreTurns, Joins, from_going}
+use Rattle.solv_trans.specs.Inner.Joining.{AreTurns, Joins, from_going}
 use Rattle.solv_trans.proofs.edges.join_going.Given as goal
 
 abbrev pub invariant-loop-need : goal.invariant-loop-need

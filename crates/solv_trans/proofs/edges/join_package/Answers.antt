@@ -1,8 +1,8 @@
 use Rattle.std.proofs.Common.{◌≡◌, ◌∙◌, ◌∷◌, [], sym, rules}
 use Rattle.solv_pool.specs.Catalog.{catalog_of}
-use Rattle.solv_graph.specs.Orders.{turn_at}
+use Rattle.solv_graph.specs.Inner.Orders.{turn_at}
 use Rattle.solv_graph.specs.declared.orders.Turn.TheVariants.{Never}
-use Rattle.solv_trans.specs.Joining.{is_marked, owned_by}
+use Rattle.solv_trans.specs.Inner.Joining.{is_marked, owned_by}
 use Rattle.solv_trans.proofs.Joined.{joins_none, joins_same}
 use Rattle.solv_trans.proofs.Owned.{never_moves, nothing_owned}
 use Rattle.solv_trans.proofs.edges.join_package.Goals as goal

@@ -1,10 +1,10 @@
 use Rattle.std.proofs.Common.{◌≡◌, ◌+◌, ◌++◌, ◌∷◌, [], ◌∙◌, ap, length, arith, add-one}
 use Rattle.std.specs.List.{range_with_len}
 use Rattle.solv_pool.specs.Catalog.{catalog_of}
-use Rattle.solv_trans.specs.Joining.{is_marked, owned_by}
-use Rattle.solv_trans.proofs.Lists.{range_more}
+use Rattle.solv_trans.specs.Inner.Joining.{is_marked, owned_by}
 use Rattle.solv_trans.proofs.Joined.{joins_none, joins_more}
 use Rattle.solv_trans.proofs.edges.join_packages.Goals as goal
+use Rattle.solv_list.proofs.Lists.{range_more}
 
 pub loop-before-init : goal.loop-before-init
 loop-before-init c = joins_none (owned_by (catalog_of c.args.task.now) (is_marked c.args.in_set.now)) c.args.edges.now

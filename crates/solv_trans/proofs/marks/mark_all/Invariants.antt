@@ -1,6 +1,6 @@
 use Rattle.std.proofs.Common.{◌≡◌, ℕ, ◌<◌, take, length}
 use Rattle.solv_pool.specs.Words.{is_among}
-use Rattle.solv_trans.specs.Joining.{is_marked}
+use Rattle.solv_trans.specs.Inner.Joining.{is_marked}
 use Rattle.solv_trans.proofs.marks.mark_all.Given as goal
 
 abbrev pub invariant-loop-pack : goal.invariant-loop-pack

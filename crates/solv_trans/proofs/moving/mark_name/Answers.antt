@@ -1,7 +1,7 @@
 use Rattle.std.proofs.Common.{◌≡◌, ◌<◌, ◌-◌, true, length, arith, rules}
 use Rattle.solv_pool.specs.Catalog.{catalog_of}
 use Rattle.solv_trans.specs.Moving.{comes}
-use Rattle.solv_trans.specs.Joining.{is_marked}
+use Rattle.solv_trans.specs.Inner.Joining.{is_marked}
 use Rattle.solv_trans.proofs.Asking.{name_below, package_is}
 use Rattle.solv_trans.proofs.Marked.{name_marked}
 use Rattle.solv_trans.proofs.moving.mark_name.Goals as goal

@@ -1,7 +1,7 @@
 use Rattle.std.proofs.Common.{◌≡◌, ◌||◌, ◌-◌, ◌+◌, ℕ, length}
 use Rattle.std.specs.List.{list_any, range_with_len}
 use Rattle.solv_pool.specs.Catalog.{catalog_of, packages}
-use Rattle.solv_trans.specs.Joining.{is_marked, comes_named}
+use Rattle.solv_trans.specs.Inner.Joining.{is_marked, comes_named}
 use Rattle.solv_trans.proofs.moving.mark_names.Given as goal
 
 abbrev pub invariant-loop-before : goal.invariant-loop-before

@@ -1,7 +1,7 @@
 use Rattle.std.proofs.Common.{◌≡◌, ◌<◌, ℕ, length}
-use Rattle.solv_graph.specs.Orders.{turn_at}
+use Rattle.solv_graph.specs.Inner.Orders.{turn_at}
 use Rattle.solv_pool.specs.Catalog.{catalog_of}
-use Rattle.solv_trans.specs.Joining.{is_marked, turn_of}
+use Rattle.solv_trans.specs.Inner.Joining.{is_marked, turn_of}
 use Rattle.solv_trans.proofs.moving.turns_by_names.Given as goal
 
 abbrev pub invariant-loop-pack : goal.invariant-loop-pack

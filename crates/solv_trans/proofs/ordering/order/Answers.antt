@@ -4,7 +4,7 @@ use Rattle.solv_pool.specs.Words.{is_among}
 use Rattle.solv_trans.specs.Moving.{goes, is_part}
 use Rattle.solv_trans.specs.Edges.{edge, pre_edge}
 use Rattle.solv_trans.specs.Orders.{IsOrdered}
-use Rattle.solv_trans.specs.Joining.{is_marked}
+use Rattle.solv_trans.specs.Inner.Joining.{is_marked}
 use Rattle.solv_trans.proofs.Whole.{table_is}
 use Rattle.solv_trans.proofs.ordering.order.Goals as goal
 

@@ -2,7 +2,7 @@ use Rattle.std.proofs.Common.{◌&&◌, not}
 use Rattle.solv_pool.specs.Catalog.{catalog_of, is_installed}
 use Rattle.solv_pool.specs.HardRules.{is_inferior}
 use Rattle.solv_pool.specs.RuleMeaning.{infarch}
-use Rattle.solv_jobs.specs.Putting.{IsPut}
+use Rattle.solv_jobs.specs.Inner.Putting.{IsPut}
 use Rattle.solv_updates.proofs.Puts.{rules_from}
 use Rattle.solv_updates.proofs.architectures.add_all_inferior.Given as goal
 

@@ -1,7 +1,7 @@
 use Rattle.std.proofs.Common.{◌∙◌, ap}
 use Rattle.std.specs.Prelude.{filter}
 use Rattle.solv_pool.specs.Catalog.{catalog_of}
-use Rattle.solv_updates.specs.Replacing.{is_wanted}
+use Rattle.solv_updates.specs.Inner.Replacing.{is_wanted}
 use Rattle.solv_updates.proofs.Near.{candidates_are}
 use Rattle.solv_updates.proofs.replacing.candidates.Goals as goal
 

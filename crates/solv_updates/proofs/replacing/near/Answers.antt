@@ -3,7 +3,7 @@ use Rattle.std.specs.Prelude.{filter}
 use Rattle.solv_base.specs.Dependency.{plain}
 use Rattle.solv_pool.specs.Catalog.{catalog_of, packages}
 use Rattle.solv_pool.specs.Providing.{is_named, obsoletes}
-use Rattle.solv_updates.specs.Replacing.{is_near}
+use Rattle.solv_updates.specs.Inner.Replacing.{is_near}
 use Rattle.solv_updates.proofs.Near.{near_are, near_itself, packs_of}
 use Rattle.solv_updates.proofs.replacing.near.Goals as goal
 

@@ -1,10 +1,11 @@
 use Rattle.std.proofs.Common.{◌≡◌, ◌∷◌, ◌+◌, ◌∙◌, length, drop, sym}
 use Rattle.solv_pool.specs.Catalog.{catalog_of}
 use Rattle.solv_pool.specs.TaskBelonging.{is_pack}
-use Rattle.solv_updates.specs.Replacing.{is_wanted}
-use Rattle.solv_updates.proofs.Near.{place_of, this_turn, first_turn, rest_turn, kept_turn, passed_turn}
+use Rattle.solv_updates.specs.Inner.Replacing.{is_wanted}
+use Rattle.solv_updates.proofs.Near.{place_of}
 use Rattle.solv_updates.proofs.replacing.wanted_of.Goals as goal
 use Rattle.solv_updates.proofs.replacing.wanted_of.Goals.{then-is_wanted+in_ok-push, else-is_wanted}
+use Rattle.solv_list.proofs.Lists.{first_turn, kept_turn, passed_turn, rest_turn, this_turn}
 
 pub is_wanted-requires-clause-other : goal.is_wanted-requires-clause-other
 is_wanted-requires-clause-other c =

@@ -3,7 +3,7 @@ use Rattle.std.specs.Prelude.{filter}
 use Rattle.std.specs.List.{list_all}
 use Rattle.solv_pool.specs.Catalog.{catalog_of}
 use Rattle.solv_pool.specs.TaskBelonging.{is_pack}
-use Rattle.solv_updates.specs.Replacing.{is_wanted}
+use Rattle.solv_updates.specs.Inner.Replacing.{is_wanted}
 use Rattle.solv_updates.proofs.replacing.wanted_of.Given as goal
 
 abbrev pub invariant-loop-other : goal.invariant-loop-other

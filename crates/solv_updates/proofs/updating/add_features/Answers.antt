@@ -1,8 +1,9 @@
 use Rattle.solv_pool.specs.Catalog.{catalog_of}
 use Rattle.solv_pool.specs.HardRules.{is_kept, feature_candidates}
 use Rattle.solv_pool.specs.RuleMeaning.{feature}
-use Rattle.solv_updates.proofs.Puts.{nothing_put, put_package, put_some, put_all, rules_from}
+use Rattle.solv_updates.proofs.Puts.{put_package, put_some, put_all, rules_from}
 use Rattle.solv_updates.proofs.updating.add_features.Goals as goal
+use Rattle.solv_jobs.proofs.Puts.{nothing_put}
 
 pub loop-number-init : goal.loop-number-init
 loop-number-init c =

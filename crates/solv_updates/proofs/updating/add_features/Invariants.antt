@@ -1,7 +1,7 @@
 use Rattle.solv_pool.specs.Catalog.{catalog_of}
 use Rattle.solv_pool.specs.HardRules.{is_kept, feature_candidates}
 use Rattle.solv_pool.specs.RuleMeaning.{feature}
-use Rattle.solv_jobs.specs.Putting.{IsPut}
+use Rattle.solv_jobs.specs.Inner.Putting.{IsPut}
 use Rattle.solv_updates.proofs.Puts.{rules_from}
 use Rattle.solv_updates.proofs.updating.add_features.Given as goal
 

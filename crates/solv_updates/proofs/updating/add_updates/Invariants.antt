@@ -2,7 +2,7 @@ use Rattle.std.proofs.Common.{◌&&◌}
 use Rattle.solv_pool.specs.Catalog.{catalog_of}
 use Rattle.solv_pool.specs.HardRules.{is_kept, has_update_rule, update_candidates}
 use Rattle.solv_pool.specs.RuleMeaning.{update}
-use Rattle.solv_jobs.specs.Putting.{IsPut}
+use Rattle.solv_jobs.specs.Inner.Putting.{IsPut}
 use Rattle.solv_updates.proofs.Puts.{rules_from}
 use Rattle.solv_updates.proofs.updating.add_updates.Given as goal
 

@@ -1,5 +1,5 @@
 use Rattle.std.proofs.Common.{◌≡◌, ℕ, subst, arith, length}
-use Rattle.solv_watch.specs.Watching.{AreChainedTo}
+use Rattle.solv_watch.specs.Inner.Watching.{AreChainedTo}
 use Rattle.solv_watch.proofs.Chained.{all_chained}
 use Rattle.solv_watch.proofs.chaining.chain_all.Goals as goal
 

@@ -1,5 +1,5 @@
 use Rattle.std.proofs.Common.{◌≡◌, ◌≤◌, ◌*◌, length, take, vec_capacity}
-use Rattle.solv_watch.specs.Watching.{AreChainedTo, AreNarrow}
+use Rattle.solv_watch.specs.Inner.Watching.{AreChainedTo, AreNarrow}
 use Rattle.solv_watch.proofs.chaining.chain_all.Given as goal
 
 abbrev pub invariant-loop-rule : goal.invariant-loop-rule

@@ -2,16 +2,16 @@ use Rattle.std.proofs.Common.{◌≡◌, ◌<◌, ◌≤◌, ◌+◌, ◌*◌, t
 use Rattle.std.specs.Prelude.{ℤ, pos}
 use Rattle.std.proofs.lemmas.List.{get_or_read}
 use Rattle.solv_pool.specs.Propagation.{is_fact}
-use Rattle.solv_pack.specs.Literals.{place_of}
+use Rattle.solv_pack.specs.Inner.Literals.{place_of}
 use Rattle.solv_derive.specs.Range.{names_package, is_over}
 use Rattle.solv_derive.proofs.Facts.{all_member}
-use Rattle.solv_trail.proofs.Growth.{rule_over}
-use Rattle.solv_watch.specs.Spares.{AreTwoOf}
+use Rattle.solv_watch.specs.Inner.Spares.{AreTwoOf}
 use Rattle.solv_watch.proofs.Pairs.{of_others}
-use Rattle.solv_watch.proofs.Walks.{place_within}
 use Rattle.solv_watch.proofs.Chained.{first_two, narrow_none}
 use Rattle.solv_watch.proofs.chaining.chain_rule.Goals as goal
 use Rattle.solv_watch.proofs.chaining.chain_rule.Goals.{After-index-clause-1}
+use Rattle.solv_derive.proofs.Hints.{clause_over}
+use Rattle.solv_derive.proofs.Tables.{place_within}
 
 wide : (c : After-index-clause-1) → 2 ≤ length c.lits-clause.result.now
 wide c = omega arith
@@ -25,7 +25,7 @@ two c =
 
 near : (c : After-index-clause-1) (l : ℤ) → is_fact c.lits-clause.result.now l ≡ true → place_of l < length c.args.chains.now.heads.items
 near c l h =
-    let over : is_over c.args.packages c.lits-clause.result.now ≡ true = rule_over c.args.packages c.args.rules.now.rules c.args.rule c.lits-clause.result.now c.requires.over c.lits-clause.ensures.held in
+    let over : is_over c.args.packages c.lits-clause.result.now ≡ true = clause_over c.args.packages c.args.rules.now.rules c.args.rule c.lits-clause.result.now c.requires.over c.lits-clause.ensures.held in
     let p : place_of l < 2 * c.args.packages + 2 = place_within c.args.packages l (all_member (names_package c.args.packages) c.lits-clause.result.now over l h) in
     omega (arith, c.requires.chained.room)
 

@@ -1,5 +1,5 @@
 use Rattle.std.proofs.Common.{◌≡◌, length}
-use Rattle.solv_watch.specs.Watching.{AreHeadsFrom}
+use Rattle.solv_watch.specs.Inner.Watching.{AreHeadsFrom}
 use Rattle.solv_watch.proofs.chaining.clear_heads.Given as goal
 
 abbrev pub invariant-loop-lit : goal.invariant-loop-lit

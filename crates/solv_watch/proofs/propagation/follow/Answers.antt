@@ -1,7 +1,8 @@
 use Rattle.std.proofs.Common.{◌≡◌, ℕ, List, ◌++◌, refl, sym, ◌∙◌, subst, arith, length, take, ◌<◌, ◌≤◌, ◌+◌}
 use Rattle.std.specs.Prelude.{ℤ}
-use Rattle.solv_trail.specs.Propagated.{in_use, IsGrown, clash}
-use Rattle.solv_watch.specs.Watching.{IsPart, AreChained, AreGuards, AreGuardsAtChoices, Each, IsKeptAtChoices, IsKeptUpto, always}
+use Rattle.solv_trail.specs.Propagated.{in_use}
+use Rattle.solv_trail.specs.Inner.Propagated.{IsGrown, clash}
+use Rattle.solv_watch.specs.Inner.Watching.{IsPart, AreChained, AreGuards, AreGuardsAtChoices, Each, IsKeptAtChoices, IsKeptUpto, always}
 use Rattle.solv_watch.proofs.Keeping.{part_book, part_learnt, learnt_used, grown_then, held_kept, held_narrow, held_choices, held_moved, over_behind, done}
 use Rattle.solv_watch.proofs.propagation.follow.Goals as goal
 use Rattle.solv_watch.proofs.propagation.follow.Goals.{After-walk_in, After-walk_in-in-loop-at}

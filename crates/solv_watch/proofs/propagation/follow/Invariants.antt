@@ -1,6 +1,7 @@
 use Rattle.std.proofs.Common.{◌≡◌, ◌≤◌, ◌-◌, ◌++◌, length}
-use Rattle.solv_trail.specs.Propagated.{in_use, IsGrown}
-use Rattle.solv_watch.specs.Watching.{AreChained, IsKeptAtChoices, IsKeptUpto, always}
+use Rattle.solv_trail.specs.Propagated.{in_use}
+use Rattle.solv_trail.specs.Inner.Propagated.{IsGrown}
+use Rattle.solv_watch.specs.Inner.Watching.{AreChained, IsKeptAtChoices, IsKeptUpto, always}
 use Rattle.solv_watch.proofs.propagation.follow.Given as goal
 
 abbrev pub invariant-loop-at : goal.invariant-loop-at

@@ -1,10 +1,12 @@
 use Rattle.std.proofs.Common.{◌≡◌, ℕ, List, ◌++◌, refl, sym, subst, arith, length, ◌≤◌, ◌-◌}
 use Rattle.std.specs.Prelude.{ℤ}
-use Rattle.solv_trail.specs.Propagated.{in_use, IsGrown, clash}
-use Rattle.solv_watch.specs.Watching.{always, IsKeptUpto, AreChained}
-use Rattle.solv_watch.proofs.Keeping.{part_book, grown_then, held_kept, held_choices, held_guards, get_front}
+use Rattle.solv_trail.specs.Propagated.{in_use}
+use Rattle.solv_trail.specs.Inner.Propagated.{IsGrown, clash}
+use Rattle.solv_watch.specs.Inner.Watching.{always, IsKeptUpto, AreChained}
+use Rattle.solv_watch.proofs.Keeping.{part_book, grown_then, held_kept, held_choices, held_guards}
 use Rattle.solv_watch.proofs.propagation.propagate.Goals as goal
 use Rattle.solv_watch.proofs.propagation.propagate.Goals.{After-begin, After-follow}
+use Rattle.solv_list.proofs.Lists.{get_front_again}
 
 first : (c : After-begin) → IsGrown (c.args.book.now.rules ++ c.args.learnt.now.rules) (in_use c.args.owners.now c.args.enabled.now) c.args.known.now c.begin.new.known
 first c = c.begin.ensures.grown (c.args.book.now.rules ++ c.args.learnt.now.rules) (in_use c.args.owners.now c.args.enabled.now) (part_book c.args.book.now.rules c.args.learnt.now.rules (in_use c.args.owners.now c.args.enabled.now))
@@ -15,7 +17,7 @@ returns-in-Some-clause-grown c = first (goal.at.returns-in-Some-clause-grown c).
 pub returns-in-Some-clause-done : goal.returns-in-Some-clause-done
 returns-in-Some-clause-done c =
     let m = c.in-Some.ensures.clash in
-    clash c.in-Some.rule m.0 (record { found = get_front c.args.book.now.rules c.args.learnt.now.rules c.in-Some.rule m.0 m.1.found; on = m.1.on }) m.2
+    clash c.in-Some.rule m.0 (record { found = get_front_again c.args.book.now.rules c.args.learnt.now.rules c.in-Some.rule m.0 m.1.found; on = m.1.on }) m.2
 
 pub returns-in-Some-clause-kept : goal.returns-in-Some-clause-kept
 returns-in-Some-clause-kept c =

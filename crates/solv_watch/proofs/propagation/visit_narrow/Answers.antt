@@ -7,13 +7,15 @@ use Rattle.solv_derive.specs.Forced.{forced}
 use Rattle.solv_derive.specs.Range.{names_package, is_over}
 use Rattle.solv_derive.proofs.Facts.{all_member, known_here}
 use Rattle.solv_derive.proofs.Tables.{names_neg}
-use Rattle.solv_trail.specs.Held.{Held}
-use Rattle.solv_trail.specs.Propagated.{in_use, IsUsed, IsGrown}
-use Rattle.solv_trail.proofs.Growth.{rule_over, grown_self, grown_push}
+use Rattle.solv_trail.specs.Inner.Held.{Held}
+use Rattle.solv_trail.specs.Propagated.{in_use}
+use Rattle.solv_trail.specs.Inner.Propagated.{IsUsed, IsGrown}
+use Rattle.solv_trail.proofs.Growth.{grown_self, grown_push}
 use Rattle.solv_watch.proofs.Walks.{used_among}
 use Rattle.solv_watch.proofs.Keeping.{lone_is, lone_forces}
 use Rattle.solv_watch.proofs.propagation.visit_narrow.Goals as goal
 use Rattle.solv_watch.proofs.propagation.visit_narrow.Goals.{After-index-clause-0}
+use Rattle.solv_derive.proofs.Hints.{clause_over}
 
 one : (c : After-index-clause-0) → c.lits-clause.result.now ≡ c.index-clause-0.result ∷ []
 one c =
@@ -23,7 +25,7 @@ one c =
 
 named : (c : After-index-clause-0) → names_package c.args.known.now.count c.index-clause-0.result ≡ true
 named c =
-    let over : is_over c.args.known.now.count c.lits-clause.result.now ≡ true = rule_over c.args.known.now.count c.args.rules.now.rules c.args.rule c.lits-clause.result.now c.requires.over c.lits-clause.ensures.held in
+    let over : is_over c.args.known.now.count c.lits-clause.result.now ≡ true = clause_over c.args.known.now.count c.args.rules.now.rules c.args.rule c.lits-clause.result.now c.requires.over c.lits-clause.ensures.held in
     let P : List ℤ → Type 0 = λ xs. is_fact xs c.index-clause-0.result ≡ true in
     all_member (names_package c.args.known.now.count) c.lits-clause.result.now over c.index-clause-0.result (subst P (sym (one c)) (known_here c.index-clause-0.result []))
 

@@ -4,14 +4,14 @@ use Rattle.std.proofs.lemmas.Bool.{false≢true}
 use Rattle.solv_derive.specs.Range.{names_package, is_over}
 use Rattle.solv_derive.proofs.Facts.{all_member}
 use Rattle.solv_derive.proofs.Tables.{names_neg}
-use Rattle.solv_trail.proofs.Growth.{rule_over}
-use Rattle.solv_watch.specs.Watching.{stays, falsified, forces, moves}
+use Rattle.solv_watch.specs.Inner.Watching.{stays, falsified, forces, moves}
 use Rattle.solv_watch.proofs.Pairs.{spare_found, none_spare, lone_false, lone_forced}
 use Rattle.solv_watch.proofs.walking.look.Goals as goal
 use Rattle.solv_watch.proofs.walking.look.Goals.{After-keep_apart}
+use Rattle.solv_derive.proofs.Hints.{clause_over}
 
 over : (c : After-keep_apart) → is_over c.args.known.now.count c.lits-clause.result.now ≡ true
-over c = rule_over c.args.known.now.count c.args.rules.now.rules c.args.rule c.lits-clause.result.now c.requires.over c.lits-clause.ensures.held
+over c = clause_over c.args.known.now.count c.args.rules.now.rules c.args.rule c.lits-clause.result.now c.requires.over c.lits-clause.ensures.held
 
 named : (c : After-keep_apart) → names_package c.args.known.now.count c.args.beside ≡ true
 named c = all_member (names_package c.args.known.now.count) c.lits-clause.result.now (over c) c.args.beside (c.requires.beside c.lits-clause.result.now c.lits-clause.ensures.held)

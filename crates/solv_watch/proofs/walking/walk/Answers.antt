@@ -2,21 +2,22 @@ use Rattle.std.proofs.Common.{◌≡◌, ℕ, Bool, true, List, [], ◌∷◌, �
 use Rattle.std.specs.Prelude.{ℤ, pos, neg_ℤ, slice_get}
 use Rattle.std.proofs.lemmas.List.{get_or_read, length_push}
 use Rattle.solv_pool.specs.Propagation.{is_fact}
-use Rattle.solv_pack.specs.Literals.{place_of}
-use Rattle.solv_pack.specs.Packing.{no_link}
+use Rattle.solv_pack.specs.Inner.Literals.{place_of}
+use Rattle.solv_pack.specs.Inner.Packing.{no_link}
 use Rattle.solv_derive.specs.Range.{names_package, is_over}
 use Rattle.solv_derive.proofs.Facts.{neg-neg, all_member, forces_from, forced_member, open_parts}
-use Rattle.solv_derive.proofs.Tables.{names_neg}
-use Rattle.solv_derive.proofs.Hints.{forced_over}
-use Rattle.solv_trail.specs.Held.{Held}
-use Rattle.solv_trail.specs.Propagated.{in_use, IsUsed, IsGrown}
-use Rattle.solv_trail.proofs.Growth.{rule_over, grown_self, grown_push}
-use Rattle.solv_watch.specs.Chains.{other, heads_past, links_past}
-use Rattle.solv_watch.specs.Spares.{AreTwoOf}
-use Rattle.solv_watch.specs.Watching.{literal_of, IsPart, Looked}
+use Rattle.solv_derive.proofs.Tables.{names_neg, place_within}
+use Rattle.solv_derive.proofs.Hints.{forced_over, clause_over}
+use Rattle.solv_trail.specs.Inner.Held.{Held}
+use Rattle.solv_trail.specs.Propagated.{in_use}
+use Rattle.solv_trail.specs.Inner.Propagated.{IsUsed, IsGrown}
+use Rattle.solv_trail.proofs.Growth.{grown_self, grown_push}
+use Rattle.solv_watch.specs.Inner.Chains.{other, heads_past, links_past}
+use Rattle.solv_watch.specs.Inner.Spares.{AreTwoOf}
+use Rattle.solv_watch.specs.Inner.Watching.{literal_of, IsPart, Looked}
 use Rattle.solv_watch.specs.declared.walking.Visit.TheVariants.{Stays, Falsified, Forces, Moves}
 use Rattle.solv_watch.proofs.Pairs.{of_others}
-use Rattle.solv_watch.proofs.Walks.{IsWalk, walk_at, walk_start, walk_end, walk_past, walk_moved, walk_more, walk_beside, walk_last, looked_stays, looked_false, looked_forces, looked_moves, place_within, used_among, beside_few, beside_within, rule_within, pushed_known}
+use Rattle.solv_watch.proofs.Walks.{IsWalk, walk_at, walk_start, walk_end, walk_past, walk_moved, walk_more, walk_beside, walk_last, looked_stays, looked_false, looked_forces, looked_moves, used_among, beside_few, beside_within, rule_within, pushed_known}
 use Rattle.solv_watch.proofs.walking.walk.Goals as goal
 use Rattle.solv_watch.proofs.walking.walk.Goals.{After-index-watched-beside, After-link_of-next}
 
@@ -78,7 +79,7 @@ pub rewatch-requires-clause-to : goal.rewatch-requires-clause-to
 rewatch-requires-clause-to c =
     let l : Looked c.args.rules.now.rules (in_use c.args.owners.now c.args.enabled.now) c.loop-watch.known.lits (c.loop-watch.watch / 2) c.index-watched-beside.result (Moves c.in-Moves.to) = (let P : List (List ℤ) → Type 0 = λ rs. Looked rs (in_use c.args.owners.now c.args.enabled.now) c.loop-watch.known.lits (c.loop-watch.watch / 2) c.index-watched-beside.result (Moves c.in-Moves.to) in subst P c.loop-watch.invariant.rules c.in-Moves.ensures) in
     let m = looked_moves l in
-    let over : is_over c.args.known.now.count m.0 ≡ true = rule_over c.args.known.now.count c.args.rules.now.rules (c.loop-watch.watch / 2) m.0 c.requires.over m.1.found in
+    let over : is_over c.args.known.now.count m.0 ≡ true = clause_over c.args.known.now.count c.args.rules.now.rules (c.loop-watch.watch / 2) m.0 c.requires.over m.1.found in
     let named : names_package c.args.known.now.count c.in-Moves.to ≡ true = all_member (names_package c.args.known.now.count) m.0 over c.in-Moves.to (of_others c.index-watched-beside.result c.in-Moves.to m.0 m.2.first) in
     let small : place_of c.in-Moves.to < 2 * c.args.known.now.count + 2 = place_within c.args.known.now.count c.in-Moves.to named in
     omega (arith, c.loop-watch.invariant.walk.room)
@@ -87,7 +88,7 @@ pub push-requires-clause-over : goal.push-requires-clause-over
 push-requires-clause-over c =
     let l : Looked c.args.rules.now.rules (in_use c.args.owners.now c.args.enabled.now) c.loop-watch.known.lits (c.loop-watch.watch / 2) c.index-watched-beside.result Forces = (let P : List (List ℤ) → Type 0 = λ rs. Looked rs (in_use c.args.owners.now c.args.enabled.now) c.loop-watch.known.lits (c.loop-watch.watch / 2) c.index-watched-beside.result Forces in subst P c.loop-watch.invariant.rules c.in-Forces.ensures) in
     let m = looked_forces l in
-    let over : is_over c.args.known.now.count m.0 ≡ true = rule_over c.args.known.now.count c.args.rules.now.rules (c.loop-watch.watch / 2) m.0 c.requires.over m.1.found in
+    let over : is_over c.args.known.now.count m.0 ≡ true = clause_over c.args.known.now.count c.args.rules.now.rules (c.loop-watch.watch / 2) m.0 c.requires.over m.1.found in
     rw (c.loop-watch.invariant.count) (forced_over c.args.known.now.count (is_fact c.loop-watch.known.lits) m.0 c.index-watched-beside.result over m.2)
 
 pub push-requires-clause-unknown : goal.push-requires-clause-unknown
@@ -174,7 +175,7 @@ loop-watch-smaller c =
     let m = looked_moves l in
     let beside : c.index-watched-beside.result ≡ literal_of c.loop-watch.watched (other c.loop-watch.watch) = beside_is (goal.at.loop-watch-smaller c).After-index-watched-beside in
     let Q : ℤ → Type 0 = λ b. AreTwoOf c.in-Moves.to b m.0 in
-    let over : is_over c.args.known.now.count m.0 ≡ true = rule_over c.args.known.now.count c.args.rules.now.rules (c.loop-watch.watch / 2) m.0 c.requires.over m.1.found in
+    let over : is_over c.args.known.now.count m.0 ≡ true = clause_over c.args.known.now.count c.args.rules.now.rules (c.loop-watch.watch / 2) m.0 c.requires.over m.1.found in
     let named : names_package c.args.known.now.count c.in-Moves.to ≡ true = all_member (names_package c.args.known.now.count) m.0 over c.in-Moves.to (of_others c.index-watched-beside.result c.in-Moves.to m.0 m.2.first) in
     let small : place_of c.in-Moves.to < 2 * c.args.known.now.count + 2 = place_within c.args.known.now.count c.in-Moves.to named in
     let w = walk_moved c.args.known.now.count c.args.rules.now.rules (in_use c.args.owners.now c.args.enabled.now) c.loop-watch.heads c.loop-watch.rules.links c.loop-watch.watched c.loop-watch.known.lits c.loop-watch.known.marks c.args.at c.place-place.result c.loop-watch.last c.loop-watch.watch c.in-Moves.to m.0 c.loop-watch.invariant.walk c.loop-watch-test.true (record { apart = c.keep_apart.ensures.apart }) m.3 (omega (arith, c.loop-watch.invariant.walk.room)) m.1.found (subst Q beside m.2) in
@@ -187,7 +188,7 @@ loop-watch-preserved c =
     let m = looked_moves l in
     let beside : c.index-watched-beside.result ≡ literal_of c.loop-watch.watched (other c.loop-watch.watch) = beside_is (goal.at.loop-watch-preserved c).After-index-watched-beside in
     let Q : ℤ → Type 0 = λ b. AreTwoOf c.in-Moves.to b m.0 in
-    let over : is_over c.args.known.now.count m.0 ≡ true = rule_over c.args.known.now.count c.args.rules.now.rules (c.loop-watch.watch / 2) m.0 c.requires.over m.1.found in
+    let over : is_over c.args.known.now.count m.0 ≡ true = clause_over c.args.known.now.count c.args.rules.now.rules (c.loop-watch.watch / 2) m.0 c.requires.over m.1.found in
     let named : names_package c.args.known.now.count c.in-Moves.to ≡ true = all_member (names_package c.args.known.now.count) m.0 over c.in-Moves.to (of_others c.index-watched-beside.result c.in-Moves.to m.0 m.2.first) in
     let small : place_of c.in-Moves.to < 2 * c.args.known.now.count + 2 = place_within c.args.known.now.count c.in-Moves.to named in
     let w = walk_moved c.args.known.now.count c.args.rules.now.rules (in_use c.args.owners.now c.args.enabled.now) c.loop-watch.heads c.loop-watch.rules.links c.loop-watch.watched c.loop-watch.known.lits c.loop-watch.known.marks c.args.at c.place-place.result c.loop-watch.last c.loop-watch.watch c.in-Moves.to m.0 c.loop-watch.invariant.walk c.loop-watch-test.true (record { apart = c.keep_apart.ensures.apart }) m.3 (omega (arith, c.loop-watch.invariant.walk.room)) m.1.found (subst Q beside m.2) in

@@ -1,12 +1,14 @@
 use Rattle.std.proofs.Common.{◌≡◌, ◌∙◌, sym, length, ◌++◌, ◌∷◌, [], ◌<◌, false, arith}
 use Rattle.std.proofs.lemmas.Grind.{common_steps}
-use Rattle.solv_base.specs.Pool.{is_name, texts_of, most}
-use Rattle.solv_base.proofs.Places.{if_ok, at_end}
+use Rattle.solv_base.specs.Pool.{is_name, most}
+use Rattle.solv_base.specs.Inner.Pool.{texts_of}
+use Rattle.solv_base.proofs.Places.{if_ok}
 use Rattle.solv_base.proofs.Names.{id_of_new, length-texts}
 use Rattle.solv_base.proofs.Growth.{Grows-name}
 use Rattle.solv_base.proofs.Pools.{name_at, IsPool-name}
 use Rattle.solv_base.proofs.interning.Pool.intern.Goals as goal
 use Rattle.solv_base.proofs.interning.Pool.intern.Goals.{In-Some, Else-is_err}
+use Rattle.solv_list.proofs.Lists.{at_end}
 
 pub returns-in-Some-clause-text : goal.returns-in-Some-clause-text
 returns-in-Some-clause-text c =

@@ -4,13 +4,15 @@ use Rattle.std.proofs.lemmas.Grind.{common_steps}
 use Rattle.indexmap.proofs.CallerLemmas.{Contains-list_any}
 use Rattle.indexmap.specs.IndexSet.{insert_key}
 use Rattle.solv_base.specs.contracts.relation.DepNodePartialEq.TheImpl.{eq-value}
-use Rattle.solv_base.specs.Pool.{IsPool, most, texts_of, uses_below}
-use Rattle.solv_base.proofs.Places.{if_ok, at_end, place_found, position_first}
+use Rattle.solv_base.specs.Pool.{IsPool, most}
+use Rattle.solv_base.specs.Inner.Pool.{texts_of, uses_below}
+use Rattle.solv_base.proofs.Places.{if_ok, place_found, position_first}
 use Rattle.solv_base.proofs.Growth.{text_tree-is}
 use Rattle.solv_base.proofs.Trees.{tree-is}
 use Rattle.solv_base.proofs.Pools.{same_relation, IsPool-node, Grows-node, tree_of_new, text_tree_of_new}
 use Rattle.solv_base.proofs.interning.Pool.relation.Goals as goal
 use Rattle.solv_base.proofs.interning.Pool.relation.Goals.{In-Some, Else-is_err}
+use Rattle.solv_list.proofs.Lists.{at_end}
 
 held : (c : In-Some) → Contains c.args.self.now.nodes c.args.node
 held c = rw (← c.self.view_is) (Contains-list_any eq-value.it same_relation c.self.inside.relations.keys c.args.node (sym c.in-Some.ensures.found))

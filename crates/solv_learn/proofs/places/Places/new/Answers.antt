@@ -2,7 +2,7 @@ use Rattle.std.proofs.Common.{◌≡◌, ◌+◌, ◌/◌, ℕ, length, false, a
 use Rattle.std.specs.Prelude.{replicate}
 use Rattle.std.proofs.lemmas.Bool.{false≢true}
 use Rattle.std.proofs.lemmas.List.{length-replicate}
-use Rattle.solv_trail.specs.Numbers.{has}
+use Rattle.solv_trail.specs.Inner.Numbers.{has}
 use Rattle.solv_trail.proofs.Bits.{has_none}
 use Rattle.solv_learn.proofs.places.Places.new.Goals as goal
 use Rattle.solv_learn.proofs.places.Places.new.Goals.{In_ok-words}

@@ -1,6 +1,6 @@
 use Rattle.std.proofs.Common.{ℕ, ◌+◌, ◌∙◌, arith}
 use Rattle.std.specs.Prelude.{reverse}
-use Rattle.solv_learn.specs.Marks.{has, has_place}
+use Rattle.solv_learn.specs.Inner.Marks.{has, has_place}
 use Rattle.solv_learn.proofs.Refuting.{refutes_skip}
 use Rattle.solv_learn.proofs.search.Search.below.Goals as goal
 

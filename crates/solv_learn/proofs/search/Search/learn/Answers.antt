@@ -2,9 +2,9 @@ use Rattle.std.proofs.Common.{◌≡◌, ◌≤◌, ◌-◌, ◌∙◌, ◌++◌
 use Rattle.std.specs.Prelude.{ℤ, neg_ℤ, reverse}
 use Rattle.solv_pool.specs.Propagation.{is_fact}
 use Rattle.solv_derive.specs.Forced.{is_falsified}
-use Rattle.solv_learn.specs.Learning.{IsLearnt}
-use Rattle.solv_learn.specs.Marks.{has}
-use Rattle.solv_learn.specs.Refuting.{Refutes}
+use Rattle.solv_learn.specs.Inner.Learning.{IsLearnt}
+use Rattle.solv_learn.specs.Inner.Marks.{has}
+use Rattle.solv_learn.specs.Inner.Refuting.{Refutes}
 use Rattle.solv_learn.proofs.Learnt.{learnt_is, found_late, rest_in, loose, jumps, some_rule, first_used, first_to_last}
 use Rattle.solv_learn.proofs.search.Search.learn.Goals as goal
 use Rattle.solv_learn.proofs.search.Search.learn.Goals.{After-mark_at-last, After-lit_at-unique}

@@ -1,7 +1,7 @@
 use Rattle.std.proofs.Common.{◌≡◌, ◌∙◌, ◌++◌, ◌∷◌, [], sym, subst, arith}
 use Rattle.std.specs.Prelude.{ℤ, List}
-use Rattle.solv_learn.specs.Collecting.{IsCollected, HavePlaces}
-use Rattle.solv_learn.specs.Marks.{has, has_place}
+use Rattle.solv_learn.specs.Inner.Collecting.{IsCollected, HavePlaces}
+use Rattle.solv_learn.specs.Inner.Marks.{has, has_place}
 use Rattle.solv_learn.proofs.Collected.{IsAdded, places_more, collected_late, collected_between, collected_early}
 use Rattle.solv_learn.proofs.search.Search.mark.Goals as goal
 use Rattle.solv_learn.proofs.search.Search.mark.Goals.{After-insert}

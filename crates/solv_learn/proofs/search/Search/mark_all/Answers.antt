@@ -1,8 +1,8 @@
 use Rattle.std.proofs.Common.{◌≡◌, ◌∙◌, ◌++◌, ◌∷◌, [], ◌+◌, take, get_or, sym, ap, subst, arith, List}
 use Rattle.std.specs.Prelude.{ℤ, pos}
 use Rattle.std.proofs.lemmas.List.{take_more, get_or_read}
-use Rattle.solv_learn.specs.Collecting.{HasMarked}
-use Rattle.solv_learn.specs.Marks.{has}
+use Rattle.solv_learn.specs.Inner.Collecting.{HasMarked}
+use Rattle.solv_learn.specs.Inner.Marks.{has}
 use Rattle.solv_learn.proofs.Collected.{marked_more}
 use Rattle.solv_learn.proofs.search.Search.mark_all.Goals as goal
 

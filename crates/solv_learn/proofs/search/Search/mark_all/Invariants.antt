@@ -1,6 +1,6 @@
 use Rattle.std.proofs.Common.{◌≡◌, ◌≤◌, take, length}
-use Rattle.solv_learn.specs.Collecting.{IsCollected, HasMarked, HavePlaces}
-use Rattle.solv_learn.specs.Marks.{has, has_place}
+use Rattle.solv_learn.specs.Inner.Collecting.{IsCollected, HasMarked, HavePlaces}
+use Rattle.solv_learn.specs.Inner.Marks.{has, has_place}
 use Rattle.solv_learn.proofs.search.Search.mark_all.Given as goal
 
 abbrev pub invariant-loop-lit : goal.invariant-loop-lit

@@ -1,7 +1,7 @@
 use Rattle.std.proofs.Common.{◌++◌, ℕ, false, length, refl, sym, subst}
 use Rattle.std.specs.Prelude.{reverse}
-use Rattle.solv_learn.specs.Marks.{has}
-use Rattle.solv_learn.specs.Refuting.{Refutes}
+use Rattle.solv_learn.specs.Inner.Marks.{has}
+use Rattle.solv_learn.specs.Inner.Refuting.{Refutes}
 use Rattle.solv_learn.proofs.Learnt.{refuted_is, first_used}
 use Rattle.solv_learn.proofs.search.Search.refute.Goals as goal
 

@@ -1,11 +1,11 @@
 use Rattle.std.proofs.Common.{◌≡◌, ◌<◌, ◌∙◌, ◌++◌, ◌∷◌, [], List, length, take, get_or, sym, ap, subst, Some, true, arith, ℕ}
 use Rattle.std.specs.Prelude.{ℤ, pos, slice_get, reverse}
 use Rattle.solv_derive.specs.Forced.{forced}
-use Rattle.solv_trail.proofs.Growth.{rule_over}
-use Rattle.solv_learn.specs.Marks.{has}
+use Rattle.solv_learn.specs.Inner.Marks.{has}
 use Rattle.solv_learn.proofs.Steps.{HasReason, reason_of, get_within, same_clause, step_passes, step_resolves, hints_used}
 use Rattle.solv_learn.proofs.search.Search.resolve.Goals as goal
 use Rattle.solv_learn.proofs.search.Search.resolve.Goals.{After-reason_at-rule, Start}
+use Rattle.solv_derive.proofs.Hints.{clause_over}
 
 reason : (c : Start) → HasReason (c.args.book.now.rules ++ c.args.learnt.now.rules) (λ r. true) c.args.known.now c.args.place
 reason c = reason_of (c.args.book.now.rules ++ c.args.learnt.now.rules) (λ r. true) c.args.known.now c.args.place c.requires.reasoned c.requires.place c.requires.no_choice
@@ -28,7 +28,7 @@ pub lits_of-requires : goal.lits_of-requires
 lits_of-requires c = inside (goal.at.lits_of-requires c).After-reason_at-rule
 
 pub mark_all-requires-clause-over : goal.mark_all-requires-clause-over
-mark_all-requires-clause-over c = rule_over c.args.known.now.count (c.args.book.now.rules ++ c.args.learnt.now.rules) c.reason_at-rule.result c.lits_of.result.now c.requires.over c.lits_of.ensures
+mark_all-requires-clause-over c = clause_over c.args.known.now.count (c.args.book.now.rules ++ c.args.learnt.now.rules) c.reason_at-rule.result c.lits_of.result.now c.requires.over c.lits_of.ensures
 
 pub returns-clause-refutes : goal.returns-clause-refutes
 returns-clause-refutes c = λ look kept finds loose before.

@@ -3,14 +3,14 @@ use Rattle.std.proofs.lemmas.Bool.{false≢true}
 use Rattle.solv_pool.specs.Propagation.{is_fact, is_refuted}
 use Rattle.solv_derive.specs.Forced.{is_falsified}
 use Rattle.solv_derive.proofs.Facts.{all_member}
-use Rattle.solv_trail.proofs.Growth.{rule_over}
-use Rattle.solv_learn.specs.Marks.{has}
-use Rattle.solv_learn.specs.Refuting.{hint_for}
+use Rattle.solv_learn.specs.Inner.Marks.{has}
+use Rattle.solv_learn.specs.Inner.Refuting.{hint_for}
 use Rattle.solv_learn.proofs.Steps.{start_refutes, same_clause}
 use Rattle.solv_learn.proofs.search.Search.start.Goals as goal
+use Rattle.solv_derive.proofs.Hints.{clause_over}
 
 pub mark_all-requires-clause-over : goal.mark_all-requires-clause-over
-mark_all-requires-clause-over c = rule_over c.args.known.now.count (c.args.book.now.rules ++ c.args.learnt.now.rules) c.args.rule c.lits_of.result.now c.requires.over c.lits_of.ensures
+mark_all-requires-clause-over c = clause_over c.args.known.now.count (c.args.book.now.rules ++ c.args.learnt.now.rules) c.args.rule c.lits_of.result.now c.requires.over c.lits_of.ensures
 
 pub returns-clause-refutes : goal.returns-clause-refutes
 returns-clause-refutes c = λ look kept finds.

@@ -1,7 +1,7 @@
 use Rattle.std.proofs.Common.{◌≡◌, ℕ, ◌+◌, ◌-◌, ◌∙◌, false, refl, subst, arith}
 use Rattle.std.specs.Prelude.{reverse}
-use Rattle.solv_learn.specs.Marks.{has}
-use Rattle.solv_learn.specs.Refuting.{Refutes}
+use Rattle.solv_learn.specs.Inner.Marks.{has}
+use Rattle.solv_learn.specs.Inner.Refuting.{Refutes}
 use Rattle.solv_learn.proofs.search.Search.to_unique.Goals as goal
 
 pub loop-self-preserved : goal.loop-self-preserved

@@ -2,10 +2,10 @@ use Rattle.std.proofs.Common.{◌≡◌, ℕ, ◌<◌, ◌≤◌, ◌++◌, Bool
 use Rattle.std.specs.Prelude.{ℤ, Option, reverse}
 use Rattle.std.specs.List.{list_all}
 use Rattle.solv_derive.specs.declared.logs.Hint.{Hint}
-use Rattle.solv_trail.specs.Propagated.{IsReasoned}
-use Rattle.solv_learn.specs.Collecting.{IsCollected, HavePlaces}
-use Rattle.solv_learn.specs.Marks.{has, has_place}
-use Rattle.solv_learn.specs.Refuting.{Refutes, Finds, is_in_use}
+use Rattle.solv_trail.specs.Inner.Propagated.{IsReasoned}
+use Rattle.solv_learn.specs.Inner.Collecting.{IsCollected, HavePlaces}
+use Rattle.solv_learn.specs.Inner.Marks.{has, has_place}
+use Rattle.solv_learn.specs.Inner.Refuting.{Refutes, Finds, is_in_use}
 use Rattle.solv_learn.proofs.search.Search.to_unique.Given as goal
 
 abbrev pub invariant-loop-self : goal.invariant-loop-self

@@ -1,6 +1,6 @@
 use Rattle.std.proofs.Common.{◌∙◌, ap, arith}
 use Rattle.std.proofs.lemmas.List.{length-map}
-use Rattle.solv_pack.specs.Layout.{words_of}
+use Rattle.solv_pack.specs.Inner.Layout.{words_of}
 use Rattle.solv_pack.proofs.Changes.{all_grown}
 use Rattle.solv_pack.proofs.memory.RuleMem.reserve.Goals as goal
 

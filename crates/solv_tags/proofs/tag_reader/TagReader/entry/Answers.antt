@@ -1,9 +1,9 @@
 use Rattle.std.proofs.Common.{◌≡◌, refl, rules}
 use Rattle.solv_tags.specs.declared.tag.Tag.TheVariants.{Pkg}
-use Rattle.solv_tags.specs.TagReading.{tagged_of}
-use Rattle.solv_tags.proofs.HandLines.{on_ok, if_err}
+use Rattle.solv_tags.specs.Inner.TagReading.{tagged_of}
 use Rattle.solv_tags.proofs.ReaderLines.{entry_other, entry_read}
 use Rattle.solv_tags.proofs.tag_reader.TagReader.entry.Goals as goal
+use Rattle.solv_list.proofs.Answers.{if_err, on_ok}
 
 pub returns-clause-ok : goal.returns-clause-ok
 returns-clause-ok c =

@@ -3,7 +3,7 @@ use Rattle.std.specs.Prelude.{◌&&◌}
 use Rattle.std.specs.Str.{bytes_eq}
 use Rattle.std.proofs.lemmas.Bool.Decides.{nat_tests}
 use Rattle.solv_tags.specs.Headings.{closing_sign, is_heading, letters, trimmed}
-use Rattle.solv_tags.specs.TagReading.{tagged_of}
+use Rattle.solv_tags.specs.Inner.TagReading.{tagged_of}
 use Rattle.solv_tags.proofs.ReaderLines.{inside_entry}
 use Rattle.solv_tags.proofs.tag_reader.TagReader.inside.Goals as goal
 

@@ -1,9 +1,9 @@
 use Rattle.std.proofs.Common.{◌≡◌, false, true}
 use Rattle.solv_tags.specs.Headings.{entry_sign, opening_sign, is_heading}
-use Rattle.solv_tags.specs.TagReading.{tagged_of}
-use Rattle.solv_tags.proofs.HandLines.{if_err}
+use Rattle.solv_tags.specs.Inner.TagReading.{tagged_of}
 use Rattle.solv_tags.proofs.ReaderLines.{on_both, outside_entry, open_read, open_ended}
 use Rattle.solv_tags.proofs.tag_reader.TagReader.outside.Goals as goal
+use Rattle.solv_list.proofs.Answers.{if_err}
 
 pub returns-then-is_heading-clause-refused : goal.returns-then-is_heading-clause-refused
 returns-then-is_heading-clause-refused c =

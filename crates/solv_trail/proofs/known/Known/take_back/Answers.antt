@@ -1,6 +1,6 @@
 use Rattle.std.proofs.Common.{◌≤◌, ◌<◌, ◌≡◌, ◌∙◌, ◌+◌, ◌-◌, ◌++◌, ◌∷◌, [], arith, vec_len, length, refl, ℕ, sym, ap, subst, take, get_or}
 use Rattle.std.proofs.lemmas.List.{take_all, get_or-take, length-take-le, length_push}
-use Rattle.solv_trail.specs.Held.{IsHeld, AreIn}
+use Rattle.solv_trail.specs.Inner.Held.{IsHeld, AreIn}
 use Rattle.solv_trail.proofs.Holding.{held_marks_cut, held_pop, pop_take, last_split}
 use Rattle.solv_trail.proofs.Ins.{one_less_in}
 use Rattle.solv_trail.proofs.known.Known.take_back.Goals as goal

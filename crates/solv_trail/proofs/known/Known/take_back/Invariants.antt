@@ -1,6 +1,6 @@
 use Rattle.std.proofs.Common.{◌≡◌, ℕ, ◌<◌, ◌≤◌, length, take, get_or}
 use Rattle.std.specs.Prelude.{vec_capacity}
-use Rattle.solv_trail.specs.Held.{IsHeld, AreIn}
+use Rattle.solv_trail.specs.Inner.Held.{IsHeld, AreIn}
 use Rattle.solv_trail.proofs.known.Known.take_back.Given as goal
 
 abbrev pub invariant-loop-self : goal.invariant-loop-self

@@ -1,6 +1,6 @@
 use Rattle.std.proofs.Common.{refl, arith, ◌/◌, ◌<◌, ◌*◌, ◌∙◌, length, ap, ◌||◌, eqb}
 use Rattle.std.proofs.lemmas.List.{get_or_read}
-use Rattle.solv_trail.specs.Numbers.{has}
+use Rattle.solv_trail.specs.Inner.Numbers.{has}
 use Rattle.solv_trail.proofs.Bits.{inserted}
 use Rattle.solv_trail.proofs.numbers.NumberSet.insert.Goals as goal
 

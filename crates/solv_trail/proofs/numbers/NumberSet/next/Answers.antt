@@ -1,5 +1,5 @@
 use Rattle.std.proofs.Common.{◌∙◌, ap, not, ◌&&◌, []}
-use Rattle.solv_trail.specs.Numbers.{has}
+use Rattle.solv_trail.specs.Inner.Numbers.{has}
 use Rattle.solv_trail.proofs.Bits.{beside_none, first_of}
 use Rattle.solv_trail.proofs.numbers.NumberSet.next.Goals as goal
 

@@ -1,6 +1,6 @@
 use Rattle.std.proofs.Common.{refl, arith, rules, ◌≡◌, ◌≤◌, ◌<◌, ◌/◌, ◌∙◌, length, ap, not, ◌&&◌, eqb}
 use Rattle.std.proofs.lemmas.List.{get_or_read}
-use Rattle.solv_trail.specs.Numbers.{has}
+use Rattle.solv_trail.specs.Inner.Numbers.{has}
 use Rattle.solv_trail.proofs.Bits.{removed, nothing_removed}
 use Rattle.solv_trail.proofs.numbers.NumberSet.remove.Goals as goal
 

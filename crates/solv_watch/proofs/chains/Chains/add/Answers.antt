@@ -1,8 +1,9 @@
 use Rattle.std.proofs.Common.{◌≡◌, ℕ, List, sym, ap, ◌∙◌, subst, length, set, get_or, length-set, ◌+◌, ◌*◌}
-use Rattle.solv_pack.specs.Literals.{place_of}
-use Rattle.solv_watch.specs.Watching.{AreChainedTo}
-use Rattle.solv_watch.proofs.Chained.{whole_write, added}
+use Rattle.solv_pack.specs.Inner.Literals.{place_of}
+use Rattle.solv_watch.specs.Inner.Watching.{AreChainedTo}
+use Rattle.solv_watch.proofs.Chained.{added}
 use Rattle.solv_watch.proofs.chains.Chains.add.Goals as goal
+use Rattle.solv_list.proofs.Lists.{whole_write}
 
 pub returns-clause-chained : goal.returns-clause-chained
 returns-clause-chained c = λ count clause chained found wide two.

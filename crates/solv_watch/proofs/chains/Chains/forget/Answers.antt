@@ -1,7 +1,8 @@
 use Rattle.std.proofs.Common.{◌≡◌, ℕ, List, [], sym, ap, ◌∙◌, subst, length}
-use Rattle.solv_watch.specs.Watching.{AreChained, AreHeadsFrom}
-use Rattle.solv_watch.proofs.Chained.{whole_write, none_at_all}
+use Rattle.solv_watch.specs.Inner.Watching.{AreChained, AreHeadsFrom}
+use Rattle.solv_watch.proofs.Chained.{none_at_all}
 use Rattle.solv_watch.proofs.chains.Chains.forget.Goals as goal
+use Rattle.solv_list.proofs.Lists.{whole_write}
 
 pub returns : goal.returns
 returns c = record {

@@ -1,9 +1,11 @@
 use Rattle.std.proofs.Common.{Some, sym}
-use Rattle.solv_commands.specs.Borrowed.{command_of}
-use Rattle.solv_script.specs.Readings.{named_of, state_of, line_before}
+use Rattle.solv_commands.specs.Inner.Borrowed.{command_of}
+use Rattle.solv_script.specs.Examples.Readings.{named_of}
+use Rattle.solv_script.specs.Inner.Readings.{state_of, line_before}
 use Rattle.solv_script.specs.Rows.{plain_row}
-use Rattle.solv_script.proofs.FileRows.{on_ok, if_err, command_then, command_given, command_halted}
+use Rattle.solv_script.proofs.FileRows.{command_then, command_given, command_halted}
 use Rattle.solv_script.proofs.whole.reader.Reader.command_row.Goals as goal
+use Rattle.solv_list.proofs.Answers.{if_err, on_ok}
 
 pub returns-in-Ok-Some-clause-given : goal.returns-in-Ok-Some-clause-given
 returns-in-Ok-Some-clause-given g c =

@@ -1,5 +1,5 @@
 use Rattle.std.proofs.Common.{rules}
-use Rattle.solv_script.specs.Readings.{state_of}
+use Rattle.solv_script.specs.Inner.Readings.{state_of}
 use Rattle.solv_script.proofs.RowForms.{task_forms, task_free}
 use Rattle.solv_script.proofs.whole.reader.Reader.finish.Goals as goal
 

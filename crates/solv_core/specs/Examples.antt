@@ -1,0 +1,2 @@
+-- Examples that are computed.
+pub mod OnePackage

@@ -1,0 +1,7 @@
+-- Words of contracts between layers, and what holds inside.
+pub mod Appending
+pub mod Drafts
+pub mod Entering
+pub mod Points
+pub mod Singles
+pub mod Words

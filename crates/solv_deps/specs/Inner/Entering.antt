@@ -1,0 +1,49 @@
+-- Entering a dependency into a pool: texts from left to right, each relation directly after its operands, each once.
+use Rattle.std.specs.Prelude.{ℕ, List, length, Result, Ok, Err, ◌≡◌, ◌<◌}
+use Rattle.solv_base.specs.declared.relation.DepNode.{DepNode}
+use Rattle.solv_base.specs.declared.relation.DepNode.TheVariants.{And, Or, With}
+use Rattle.solv_base.specs.declared.interning.PoolFault.{PoolFault}
+use Rattle.solv_base.specs.declared.interning.PoolFault.TheVariants as PoolFull
+use Rattle.solv_base.specs.Dependency.{Dep}
+use Rattle.solv_base.specs.Pool.{Held, text_tree}
+use Rattle.solv_deps.specs.declared.place.Place.{Place}
+use Rattle.solv_deps.specs.declared.fault.DepFault.{DepFault}
+use Rattle.solv_deps.specs.declared.fault.DepFault.TheVariants.{FullNames, FullRelations, Memory}
+use Rattle.solv_deps.specs.declared.sign.Joint.{Joint}
+use Rattle.solv_deps.specs.declared.sign.Joint.TheVariants.{Both, Either, Jointly}
+use Rattle.solv_deps.specs.Reading.{and_then, dependency}
+use Rattle.solv_deps.specs.Entering.{Entered, dependency_entered}
+
+-- a text at a place, read and then entered: every cause of the text comes before the limits of the pool
+abbrev pub text_read : Place → List ℕ → Held → Result Entered DepFault
+text_read place text held = and_then (dependency place text) (λ d. dependency_entered d held)
+
+-- the dependency is in the pool under this id, and the pool holds what it held and what this entering adds
+pub record IsEntered (d : Dep (List ℕ)) (old new : Held) (id : ℕ) : Type 0 where
+  pub held : dependency_entered d old ≡ Ok (record { id = id; held = new })
+  pub below : id < length new.nodes
+  pub tree : text_tree new id ≡ d
+
+-- a refusal that is not for want of memory is this one
+abbrev pub IsRefusal : {A : Type 0} → DepFault → Result A DepFault → Type 0
+IsRefusal Memory r = Unit {0}
+IsRefusal e r = r ≡ Err e
+
+-- a refusal that is the pool's: a limit, or want of memory
+abbrev pub IsOfPool : DepFault → Type 0
+IsOfPool FullNames = Unit {0}
+IsOfPool FullRelations = Unit {0}
+IsOfPool Memory = Unit {0}
+IsOfPool e = ⊥
+
+-- the refusal that a pool's is
+abbrev pub refusal : PoolFault → DepFault
+refusal PoolFull.FullNames = FullNames
+refusal PoolFull.FullRelations = FullRelations
+refusal PoolFull.Memory = Memory
+
+-- the relation of a chain's operator
+abbrev pub link_node : Joint → ℕ → ℕ → DepNode
+link_node Both a b = And a b
+link_node Either a b = Or a b
+link_node Jointly a b = With a b

@@ -1,0 +1,5 @@
+-- Words of contracts between layers, and what holds inside.
+pub mod Counters
+pub mod Fetches
+pub mod Statuses
+pub mod Writes

@@ -1,0 +1,33 @@
+-- How calls of the outside end, and what counts them.
+use Rattle.std.specs.Prelude.{ℕ, ◌≡◌, Bool, true, false, ⊤}
+use Rattle.solv_io.specs.Counters.{counted, Rose}
+
+-- how a call of the outside ends: with its answer, with a failure, or without memory
+pub data Ending : Type 0 where
+  Answered : Ending
+  Failing : Ending
+  NoMemory : Ending
+
+-- the count of faults rises in a call that fails, and stays in every other
+abbrev pub CountsFaults : Ending → ℕ → ℕ → Type 0
+CountsFaults Answered old new = new ≡ old
+CountsFaults Failing old new = Rose old new
+CountsFaults NoMemory old new = new ≡ old
+
+-- the count of calls: a call that ends without memory has no number
+abbrev pub calls_after : Ending → ℕ → ℕ
+calls_after Answered calls = counted calls
+calls_after Failing calls = counted calls
+calls_after NoMemory calls = calls
+
+-- the count of faults, where each failure counts one
+abbrev pub faults_after : Ending → ℕ → ℕ
+faults_after Answered faults = faults
+faults_after Failing faults = counted faults
+faults_after NoMemory faults = faults
+
+-- a call fails exactly where it is to, except that want of memory may take the place of both ends
+abbrev pub FailsExactly : Ending → Bool → Type 0
+FailsExactly Answered fails = fails ≡ false
+FailsExactly Failing fails = fails ≡ true
+FailsExactly NoMemory fails = ⊤

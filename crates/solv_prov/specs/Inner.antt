@@ -1,0 +1,8 @@
+-- Words of contracts between layers, and what holds inside.
+pub mod Capabilities
+pub mod Gathering
+pub mod Groups
+pub mod Lists
+pub mod Merging
+pub mod PartsBy
+pub mod Relating

@@ -1,0 +1,3 @@
+-- Examples that are computed.
+pub mod Readings
+pub mod ScriptExamples

@@ -1,0 +1,3 @@
+-- Words of contracts between layers, and what holds inside.
+pub mod Joining
+pub mod Readiness
