@@ -2,6 +2,7 @@
 ghost use Rattle.std.specs.Prelude.{◌≡◌, ◌⊎◌, ◌≤◌, ◌+◌, ◌==◌, ◌++◌, ◌∷◌, [], true, length, take, drop, nat_lt, IfOk, IfSome, OnOk, OnErr};
 ghost use Rattle.std.specs.List.{list_all};
 ghost use Rattle.solv_core.specs.Inner.Ledgers.{are_of_run};
+ghost use Rattle.solv_pool.specs.Propagation.{is_fact};
 ghost use Rattle.solv_core.specs.Ledgers.{IsGoodLedger};
 ghost use Rattle.solv_core.specs.Inner.Running.{IsFound, IsRefutation, is_log_over, is_spent_verdict};
 ghost use Rattle.solv_plan.specs.Inner.Plans.{plan_asks};
@@ -81,7 +82,10 @@ impl<'a, K: Planned> Recaller for Recalling<'a, K> {
         let Some(remembered) = memory.take() else {
             return self.phases.next(known, enabled);
         };
-        let Remembered { memory: mut held, of } = remembered;
+        let Remembered {
+            memory: mut held,
+            of,
+        } = remembered;
         let ask = next_recalling(self.phases.plan(), &mut held, known, enabled);
         *memory = Some(Remembered { memory: held, of });
         ask

@@ -1,10 +1,10 @@
-ghost use Rattle.std.specs.Prelude.{◌≡◌, length, IfOk};
+ghost use Rattle.std.specs.Prelude.{◌≡◌, ⊤, length, IfOk};
 ghost use Rattle.solv_watch.specs.Examples.{chain, four, asks_for_one, IsNone};
 
 use crate::*;
 use solv_pack::{Lit, PackFault, RuleMem};
 use solv_pool::PackNo;
-use solv_trail::{Ask, Guide, Known, Question};
+use solv_trail::{Ask, Guide, Known, Question, Recaller};
 use std::alloc::Global;
 use std::test::Fail;
 
@@ -104,6 +104,27 @@ impl Guide for OnePackage {
     }
 
     ghost keeps_law = { λ guide count clauses owners enabled none some. absurd some };
+}
+
+impl Recaller for OnePackage {
+    type Memory = ();
+
+    ghost serves = { λ guide memory lits. ⊤ };
+
+    fn begin(&self, known: &Known) {
+        let _ = known;
+    }
+
+    fn next_recalling(&self, memory: &mut (), known: &Known, enabled: &[bool]) -> Option<Ask> {
+        let _ = memory;
+        self.next(known, enabled)
+    }
+
+    fn end(&self, memory: ()) {
+        memory
+    }
+
+    ghost keeps_serving = { λ guide memory before after grown serves. tt };
 }
 
 /// What is known where package 1 is taken, and whether a rule is falsified.

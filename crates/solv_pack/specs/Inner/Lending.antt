@@ -1,6 +1,5 @@
 -- What a block is once a `&mut` to its words has ended.
 use Rattle.std.specs.Prelude.{List, length, take, drop, ◌++◌}
-
 use base.Fml.{Fml}
 use denote.RattleType.{RattleType}
 use denote.Array.{Array}
