@@ -1,13 +1,14 @@
 //! The way out of a conflict by dropping one of its rules.
-ghost use Rattle.std.specs.Prelude.{◌≡◌, ◌≤◌, ◌+◌, ◌++◌, ◌∷◌, [], ℕ, Bool, List, true, false, not, length, map, filter, is_none, IfOk, OnOk};
+ghost use Rattle.std.specs.Prelude.{◌≡◌, ◌≤◌, ◌<◌, ◌+◌, ◌++◌, ◌∷◌, [], ℕ, Bool, List, true, false, not, length, map, filter, is_none, IfOk, OnOk};
 ghost use Rattle.std.specs.List.{list_all};
 ghost use Rattle.std.specs.Option.{IfSome};
 ghost use Rattle.solv_remedy.specs.Inner.GivingBack.{kept_rules, IsGivenBack};
-ghost use Rattle.solv_rules.specs.Books.{Written};
+ghost use Rattle.solv_rules.specs.Books.{Written, rises};
 ghost use Rattle.solv_core.specs.Cores.{CoreOf};
 ghost use Rattle.solv_decide.specs.Deciding.{Asker};
 ghost use Rattle.solv_remedy.specs.declared.dropping.Remaining.{Remaining as Left};
 ghost use Rattle.solv_pool.specs.Words.{is_among};
+ghost use Rattle.solv_trail.specs.Asked.{is_enabled};
 ghost use Rattle.solv_core.specs.declared.refuting.RefutedRule.{RefutedRule as Refuted};
 ghost use Rattle.solv_questions.specs.Questions.{Request};
 ghost use Rattle.solv_remedy.specs.Inner.Trying.{is_off_in, IsNeeded, IsSetUp};
@@ -20,7 +21,7 @@ use crate::dropping::{Remaining, drop_until_found};
 use crate::giving_back::{GivenBack, give_back};
 use crate::looking::refuted_others;
 use crate::problems::Solution;
-use crate::smallest::Conflict;
+use crate::smallest::{Conflict, is_listed, switch_on};
 use solv_core::{Core, Ledger, RefutedRule, Trail};
 use solv_decide::{Phases, set_of};
 use solv_derive::{Log, Step};
@@ -62,16 +63,17 @@ pub fn copy_of(alloc: Global, log: &Log) -> Result<Log, AllocError>
     })
 }
 
-/// How many stand before the first one that is not lower.
+/// How many stand before the first one that is not lower, where their rules rise. It goes back from the last one, so that rules that come in order
+/// find their places at once.
 fn place_for(list: &[RefutedRule], rule: usize) -> usize
+    requires { rises 0 (kept_rules list.now) ≡ true }
     ensures { result ≡ place_among rule list.now }
 {
-    for (place, one) in list.iter().enumerate() {
-        if one.rule >= rule {
-            return place;
-        }
+    let mut place = list.len();
+    while place > 0 && list[place - 1].rule >= rule {
+        place -= 1;
     }
-    list.len()
+    place
 }
 
 /// Whether the one at a place is of this rule.
@@ -86,6 +88,7 @@ fn is_at(list: &[RefutedRule], place: usize, rule: usize) -> bool
 
 /// Puts a refuted rule in its place, unless it is there.
 fn put(list: &mut Vec<RefutedRule>, one: RefutedRule) -> Result<(), AllocError>
+    requires { rises 0 (kept_rules list.old.items) ≡ true }
     ensures { OnOk result (list.new.items ≡ put_among one list.old.items) }
 {
     let place = place_for(list, one.rule);
@@ -166,32 +169,60 @@ pub fn all_refuted(
     Ok(all)
 }
 
-/// Whether a rule is one of the refuted ones.
-fn is_refuted(refuted: &[RefutedRule], rule: usize) -> bool
-    ensures { result ≡ is_among (kept_rules refuted.now) rule }
+/// The numbers of refuted rules.
+fn numbers_of(alloc: Global, refuted: &[RefutedRule]) -> Result<Vec<usize>, AllocError>
+    ensures { IfOk result (λ numbers. numbers.items ≡ kept_rules refuted.now) }
 {
+    let mut numbers = Vec::new(alloc);
     for one in refuted {
-        if one.rule == rule {
-            return true;
-        }
+        numbers.push(one.rule)?;
     }
-    false
+    Ok(numbers)
 }
 
-/// These rules without the refuted ones.
+/// Whether a rule is one of these, of which the table has all that it has room for.
+fn is_one_of(table: &[bool], these: &[usize], rule: usize) -> bool
+    requires { (k : ℕ) → k < length table.now → is_enabled table.now k ≡ is_among these.now k }
+    ensures { result ≡ is_among these.now rule }
+{
+    match table.get(rule) {
+        Some(flag) => *flag,
+        None => is_listed(these, rule),
+    }
+}
+
+/// Rules without these, of which the table has all that it has room for.
+fn rules_without(
+    alloc: Global,
+    rules: &[usize],
+    table: &[bool],
+    these: &[usize],
+) -> Result<Vec<usize>, AllocError>
+    requires { (k : ℕ) → k < length table.now → is_enabled table.now k ≡ is_among these.now k }
+    ensures { IfOk result (λ left. left.items ≡ filter (λ k. not (is_among these.now k)) rules.now) }
+{
+    let mut left = Vec::new(alloc);
+    for rule in rules {
+        if !is_one_of(table, these, *rule) {
+            left.push(*rule)?;
+        }
+    }
+    Ok(left)
+}
+
+/// These of so many rules without the refuted ones.
 fn without_refuted(
     alloc: Global,
+    count: usize,
     rules: &[usize],
     refuted: &[RefutedRule],
 ) -> Result<Vec<usize>, AllocError>
     ensures { IfOk result (λ left. left.items ≡ filter (λ k. not (is_among (kept_rules refuted.now) k)) rules.now) }
 {
-    let mut left = Vec::new(alloc);
-    for rule in rules {
-        if !is_refuted(refuted, *rule) {
-            left.push(*rule)?;
-        }
-    }
+    let numbers = numbers_of(alloc, refuted)?;
+    let mut table = vec![in alloc; false; count]?;
+    switch_on(table.as_mut_slice(), &numbers);
+    let left = rules_without(alloc, rules, &table, &numbers)?;
     Ok(left)
 }
 
@@ -280,7 +311,7 @@ pub fn way_out(
 {
     let own = conflict.rules.held();
     let looked = refuted_others(alloc, phases, core, book, fixed, own, off, clauses)?;
-    let all = without_refuted(alloc, unlisted, looked.held())?;
+    let all = without_refuted(alloc, fixed.len(), unlisted, looked.held())?;
     match drop_until_found(alloc, phases, core, ledger, book, fixed, own, off, all)? {
         Some(remaining) => finish(
             alloc, phases, core, ledger, book, fixed, conflict, off, remaining, looked,
