@@ -1,11 +1,15 @@
 //! Texts and lines of a task that is written out: each clause is computed from the definitions.
 ghost use Rattle.std.specs.Prelude.{◌≡◌, ◌∷◌, [], map, codes};
 ghost use Rattle.std.specs.List.{range_with_len};
+ghost use Rattle.solv_trail.specs.declared.questions.Question.TheVariants as question;
+ghost use Rattle.solv_pool.specs.Catalog.{catalog_of};
 ghost use Rattle.solv_lines.specs.RuleTexts.{rule_text_at};
+ghost use Rattle.solv_lines.specs.Comparing.{missing_lines};
 ghost use Rattle.solv_lines.specs.LineSets.{line_set};
 ghost use Rattle.solv_lines.specs.Inner.LineSets.{rises};
-ghost use Rattle.solv_lines.specs.Inner.ResultLines.{transaction_lines, outcome_lines};
-ghost use Rattle.solv_lines.specs.Examples.Rows.{spoken, told, made, listing, solved_by, way, said_of, both_kinds, no_kinds};
+ghost use Rattle.solv_lines.specs.Inner.ResultLines.{outcome_lines};
+ghost use Rattle.solv_lines.specs.ResultLines.{seven_digits, question_word, solved_lines};
+ghost use Rattle.solv_lines.specs.Examples.Rows.{spoken, told, made, placed, happened, listing, solved_by, way, said_of, both_kinds, no_kinds, problems_alone, order_alone, reason_alone};
 ghost use Rattle.solv_lines.specs.declared.outcomes.Outcome.TheVariants.{Failed, Spent};
 
 /// The texts of rules of every kind, what is said of a requirement that nothing meets, and of a job that selects nothing, by
@@ -18,13 +22,30 @@ pub fn rows_of_rule_texts()
 /// The lines of an outcome are sorted by bytes, and a line that two rules give is there once; the tenth problem comes
 /// before the second.
 pub fn rows_of_result_lines()
-    ensures changes { line_set (transaction_lines spoken both_kinds made) ≡ codes "change B-1-1.noarch@system C-1-1.noarch@available" ∷ codes "downgrade A-2-1.noarch@available A-1-1.noarch@system" ∷ codes "erase B-1-1.noarch@system" ∷ codes "install P-1-1.i686@available" ∷ codes "obsolete A-1-1.noarch@system C-1-1.noarch@available" ∷ codes "reinstall B-1-1.noarch@system B-1-1.noarch@system" ∷ codes "upgrade A-1-1.noarch@system A-2-1.noarch@available" ∷ [] }
+    ensures changes { line_set (solved_lines (catalog_of spoken) both_kinds made placed happened (0 ∷ 1 ∷ 3 ∷ [])) ≡ codes "change B-1-1.noarch@system C-1-1.noarch@available" ∷ codes "downgrade A-2-1.noarch@available A-1-1.noarch@system" ∷ codes "erase B-1-1.noarch@system" ∷ codes "install P-1-1.i686@available" ∷ codes "obsolete A-1-1.noarch@system C-1-1.noarch@available" ∷ codes "reinstall B-1-1.noarch@system B-1-1.noarch@system" ∷ codes "upgrade A-1-1.noarch@system A-2-1.noarch@available" ∷ [] }
     ensures problem { line_set (outcome_lines spoken told both_kinds (Failed (listing (1 ∷ 8 ∷ 9 ∷ 13 ∷ []) ∷ []))) ≡ codes "problem 1 info conflicting requests" ∷ codes "problem 1 info package B-1-1.noarch@system requires A, but none of the providers can be installed" ∷ codes "problem 1 info problem with installed package B-1-1.noarch@system" ∷ [] }
     ensures problems { line_set (outcome_lines spoken told both_kinds (Failed (listing [] ∷ listing (10 ∷ []) ∷ listing [] ∷ listing [] ∷ listing [] ∷ listing [] ∷ listing [] ∷ listing [] ∷ listing [] ∷ listing (10 ∷ []) ∷ []))) ≡ codes "problem 10 info nothing provides requested nosuch" ∷ codes "problem 2 info nothing provides requested nosuch" ∷ [] }
-    ensures no_changes { transaction_lines spoken no_kinds made ≡ [] }
+    ensures no_changes { solved_lines (catalog_of spoken) problems_alone made placed happened (0 ∷ 1 ∷ 3 ∷ []) ≡ [] }
     ensures no_problems { outcome_lines spoken told no_kinds (Failed (listing (1 ∷ []) ∷ [])) ≡ [] }
     ensures spent { outcome_lines spoken told both_kinds Spent ≡ [] }
     ensures sorted { line_set (codes "b" ∷ codes "a" ∷ codes "ab" ∷ codes "b" ∷ []) ≡ codes "a" ∷ codes "ab" ∷ codes "b" ∷ [] }
+{}
+
+/// The lines of an order, of parts and cycles; and of reasons, of each package that comes and of no other one, by its event.
+pub fn rows_of_orders_and_reasons()
+    ensures order { line_set (solved_lines (catalog_of spoken) order_alone made placed happened (0 ∷ 1 ∷ 3 ∷ 4 ∷ [])) ≡ codes "cycle B-1-1.noarch@system C-1-1.noarch@available A-2-1.noarch@available" ∷ codes "order 0000001 install C-1-1.noarch@available" ∷ codes "order 0000002 install A-2-1.noarch@available" ∷ codes "order 0000003 erase B-1-1.noarch@system" ∷ codes "precycle C-1-1.noarch@available A-2-1.noarch@available" ∷ [] }
+    ensures reasons { line_set (solved_lines (catalog_of spoken) reason_alone made placed happened (0 ∷ 1 ∷ 3 ∷ 4 ∷ 5 ∷ 6 ∷ [])) ≡ codes "reason A-1-1.i686@available recommended" ∷ codes "reason A-2-1.noarch@available follows" ∷ codes "reason C-1-1.noarch@available job" ∷ codes "reason P-1-1.i686@available requires" ∷ [] }
+    ensures words { map question_word (question.BestJob 0 ∷ question.Keep 1 ∷ question.BestUpdate 0 1 ∷ question.Supplements 0 ∷ []) ≡ codes "job" ∷ codes "update" ∷ codes "update" ∷ codes "supplemented" ∷ [] }
+    ensures digits { map seven_digits (1 ∷ 1234567 ∷ 12345678 ∷ []) ≡ codes "0000001" ∷ codes "1234567" ∷ codes "12345678" ∷ [] }
+{}
+
+/// The lines that are wanted and not given, in byte order; with the two exchanged, those that are given and not wanted; a
+/// line that begins another one is another line.
+pub fn rows_of_compared_lines()
+    ensures missing { missing_lines (codes "a" ∷ codes "ab" ∷ codes "c" ∷ codes "d" ∷ []) (codes "ab" ∷ codes "abc" ∷ codes "b" ∷ codes "d" ∷ []) ≡ codes "a" ∷ codes "c" ∷ [] }
+    ensures extra { missing_lines (codes "ab" ∷ codes "abc" ∷ codes "b" ∷ codes "d" ∷ []) (codes "a" ∷ codes "ab" ∷ codes "c" ∷ codes "d" ∷ []) ≡ codes "abc" ∷ codes "b" ∷ [] }
+    ensures none_given { missing_lines (codes "a" ∷ codes "b" ∷ []) [] ≡ codes "a" ∷ codes "b" ∷ [] }
+    ensures the_same { missing_lines (codes "a" ∷ codes "b" ∷ []) (codes "a" ∷ codes "b" ∷ []) ≡ [] }
 {}
 
 /// The texts of solutions, one for each kind of rule that may be dropped: an update rule alone names what may take the

@@ -1,5 +1,5 @@
 -- A task with rules of every kind, small enough to be told by hand.
-use Rattle.std.specs.Prelude.{ℕ, Bool, true, false, List, [], ◌∷◌, Some, None, codes, map, pos}
+use Rattle.std.specs.Prelude.{ℕ, Bool, true, false, List, [], ◌∷◌, Some, None, codes, map, pos, negsuc}
 use Rattle.solv_base.specs.declared.comparison.Cmp.{Cmp}
 use Rattle.solv_base.specs.declared.relation.DepNode.TheVariants.{Simple, Versioned, And}
 use Rattle.solv_pool.specs.RuleMeaning.{rule_with}
@@ -12,9 +12,13 @@ use Rattle.solv_pool.specs.declared.jobs.Choice.{Choice}
 use Rattle.solv_pool.specs.declared.jobs.Choice.TheVariants.{Pkg, Name, All}
 use Rattle.solv_pool.specs.declared.jobs.Job.{Job}
 use Rattle.solv_pool.specs.declared.tasks.Task.{Task}
+use Rattle.solv_trail.specs.declared.questions.Question.TheVariants as question
+use Rattle.solv_core.specs.declared.verdicts.Event.{Event}
+use Rattle.solv_core.specs.declared.verdicts.Event.TheVariants as event
 use Rattle.solv_script.specs.declared.scripts.Kinds.{Kinds}
 use Rattle.solv_changes.specs.declared.kinds.Change.{Change}
 use Rattle.solv_changes.specs.declared.kinds.Change.TheVariants as change
+use Rattle.solv_trans.specs.declared.ordering.Ordered.{Ordered}
 use Rattle.solv_lines.specs.SolutionTexts.{solution_texts}
 use Rattle.solv_lines.specs.declared.outcomes.Found.{Found}
 use Rattle.solv_lines.specs.declared.outcomes.WayOut.{WayOut}
@@ -129,6 +133,24 @@ both_kinds = record { transaction = true; problems = true; order = false; reason
 
 abbrev pub no_kinds : Kinds
 no_kinds = record { transaction = false; problems = false; order = true; reason = true; userinstalled = true; unneeded = true }
+
+-- the lines of problems alone, of an order alone, or of reasons alone
+abbrev pub problems_alone : Kinds
+problems_alone = record { transaction = false; problems = true; order = false; reason = false; userinstalled = true; unneeded = true }
+
+abbrev pub order_alone : Kinds
+order_alone = record { transaction = false; problems = false; order = true; reason = false; userinstalled = false; unneeded = false }
+
+abbrev pub reason_alone : Kinds
+reason_alone = record { transaction = false; problems = false; order = false; reason = true; userinstalled = false; unneeded = false }
+
+-- C and A 2-1 come, and B goes; two cycles
+abbrev pub placed : Ordered
+placed = record { parts = 3 ∷ 4 ∷ 2 ∷ []; pre_cycles = (3 ∷ 4 ∷ []) ∷ []; cycles = (2 ∷ 3 ∷ 4 ∷ []) ∷ [] }
+
+-- A 1-1 is known to be in and B out; C is taken for a job, A 2-1 follows, P is required and A for i686 recommended
+abbrev pub happened : List Event
+happened = event.Known (pos 1) ∷ event.Known (negsuc 1) ∷ event.Took (question.Job 0) 3 ∷ event.Known (pos 4) ∷ event.Took (question.Requires 4 0) 5 ∷ event.Took (question.Recommends 3 0) 6 ∷ []
 
 -- a change of each kind
 abbrev pub made : List Change
