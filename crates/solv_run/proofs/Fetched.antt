@@ -124,8 +124,8 @@ module _ (form : Option (List ℕ)) (whole phase : FilesRun) (file got : List �
   front_asked : HasAskedFrontOf (script_piece file got) phase → HasAskedFront form whole
   front_asked h = asked_more file here.bytes h.names h.fetched here.named (asked_whole h.names h.asked) (are_whole (take (length h.fetched) h.names) h.fetched h.are) (front_whole h.names h.fetched h.due)
 
-  module _ (report : Report) (out err : SinkRun) where
-    of_fault : (f : ScriptFault) → HasEnded (script_piece file got) phase f → IsReportedFault f report out err → IsRun form whole report out err
+  module _ (shows : Bool) (report : Report) (out err : SinkRun) where
+    of_fault : (f : ScriptFault) → HasEnded (script_piece file got) phase f → IsReportedFault f report out err → IsRun shows form whole report out err
     of_fault (fault.Refused where_ line cause) h r = let b : Bad = record { file = where_; line = line; cause = cause } in record {
       due = bad_line_due b;
       is_due = refused file here.bytes h.fetched b here.named (asked_all h.fetched h.has) (sym (here.same_read h.fetched) ∙ h.first_bad);
@@ -148,7 +148,7 @@ module _ (form : Option (List ℕ)) (whole phase : FilesRun) (file got : List �
     script_whole : (script : Script) (fetched : List (List ℕ)) → IsOkAnd (script_read file fetched got) (λ s. IsScriptOf s script) → HasScript file here.bytes fetched script
     script_whole script fetched h = let P : Result State Bad → Type 0 = λ given. IsOkAnd given (λ s. IsScriptOf s script) in subst P (here.same_read fetched) h
 
-    of_bytes : IsRunOfBytes (script_piece file got) phase report out err → IsRun form whole report out err
+    of_bytes : IsRunOfBytes shows (script_piece file got) phase report out err → IsRun shows form whole report out err
     of_bytes (read script h said) = record {
       due = said.due;
       is_due = was_read file here.bytes h.fetched script said.due here.named (asked_all h.fetched h.has) (script_whole script h.fetched h.given) said.is_due;
@@ -216,20 +216,20 @@ nothing (Some b) = ap Some (sym (append-nil b))
 pub wanting_none : (form : Option (List ℕ)) (files : FilesRun) → files.asked_after ≡ files.asked_before → HasAskedFront form files
 wanting_none form files h = asked_none (h ∙ nothing files.asked_before)
 
-pub run_fetched : (form : Option (List ℕ)) (whole phase : FilesRun) (file got : List ℕ) (report : Report) (out err : SinkRun) → form ≡ Some file
+pub run_fetched : (shows : Bool) (form : Option (List ℕ)) (whole phase : FilesRun) (file got : List ℕ) (report : Report) (out err : SinkRun) → form ≡ Some file
     → phase.contents ≡ whole.contents → phase.asked_before ≡ option_map (λ b. b ++ file ∷ []) whole.asked_before → phase.faults_before ≡ whole.faults_before
     → phase.asked_after ≡ whole.asked_after → phase.faults_after ≡ whole.faults_after
     → IfSome whole.contents (λ held. IsSomeAnd (held file) (λ all. got ≡ take 67108865 all))
-    → IsRunOfBytes (script_piece file got) phase report out err → IsRun form whole report out err
-run_fetched form whole phase file got report out err is contents asked faults asked_after faults_after h r =
-    of_bytes form whole phase file got (record { contents = contents; asked = asked; faults = faults; asked_after = asked_after; faults_after = faults_after }) (there form whole file got is h) report out err r
+    → IsRunOfBytes shows (script_piece file got) phase report out err → IsRun shows form whole report out err
+run_fetched shows form whole phase file got report out err is contents asked faults asked_after faults_after h r =
+    of_bytes form whole phase file got (record { contents = contents; asked = asked; faults = faults; asked_after = asked_after; faults_after = faults_after }) (there form whole file got is h) shows report out err r
 
 -- the words are not of the form
-pub run_usage : (form : Option (List ℕ)) (files : FilesRun) (report : Report) (out err : SinkRun) → form ≡ None → files.asked_after ≡ files.asked_before → files.faults_after ≡ files.faults_before
-    → IsReported usage_due report out err → IsRun form files report out err
-run_usage form files report out err none asked calm h = record { due = usage_due; is_due = no_file none (asked ∙ nothing files.asked_before) calm; reported = h }
+pub run_usage : (shows : Bool) (form : Option (List ℕ)) (files : FilesRun) (report : Report) (out err : SinkRun) → form ≡ None → files.asked_after ≡ files.asked_before → files.faults_after ≡ files.faults_before
+    → IsReported usage_due report out err → IsRun shows form files report out err
+run_usage shows form files report out err none asked calm h = record { due = usage_due; is_due = no_file none (asked ∙ nothing files.asked_before) calm; reported = h }
 
 -- the script cannot be read
-pub run_not_read : (form : Option (List ℕ)) (files : FilesRun) (file : List ℕ) (report : Report) (out err : SinkRun) → form ≡ Some file → AskedBesides files (file ∷ []) → Rose files.faults_before files.faults_after
-    → IsReported (read_fault_due file) report out err → IsRun form files report out err
-run_not_read form files file report out err is asked rose h = record { due = read_fault_due file; is_due = not_read file is asked rose; reported = h }
+pub run_not_read : (shows : Bool) (form : Option (List ℕ)) (files : FilesRun) (file : List ℕ) (report : Report) (out err : SinkRun) → form ≡ Some file → AskedBesides files (file ∷ []) → Rose files.faults_before files.faults_after
+    → IsReported (read_fault_due file) report out err → IsRun shows form files report out err
+run_not_read shows form files file report out err is asked rose h = record { due = read_fault_due file; is_due = not_read file is asked rose; reported = h }

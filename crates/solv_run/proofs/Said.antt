@@ -1,5 +1,5 @@
 -- What is said for a script that was read.
-use Rattle.std.proofs.Common.{◌≡◌, ℕ, List, Some, None, subst}
+use Rattle.std.proofs.Common.{◌≡◌, ℕ, Bool, List, Some, None, subst}
 use Rattle.solv_io.specs.declared.status.Status.TheVariants as status
 use Rattle.solv_pool.specs.Catalog.{catalog_of}
 use Rattle.solv_pool.specs.HardRules.{hard_rules}
@@ -17,25 +17,25 @@ use Rattle.solv_run.specs.Inner.Phases.{HasAskedFrontOf, IsRunOfBytes, IsReporte
 use Rattle.solv_run.specs.Runs.{SinkRun, IsReported}
 use Rattle.solv_run.specs.declared.reports.Report.{Report}
 
-pub said_limit : (script : Script) (fault : BookFault) (line : List ℕ) (report : Report) (out err : SinkRun) → first_fault (catalog_of script.task) 0 (hard_rules script.task) ≡ Some fault
-    → line ≡ limit_line script.task fault → IsReported (line_due status.Refused line) report out err → IsSaidFor script report out err
-said_limit script fault line report out err passed same h =
+pub said_limit : (shows : Bool) (script : Script) (fault : BookFault) (line : List ℕ) (report : Report) (out err : SinkRun) → first_fault (catalog_of script.task) 0 (hard_rules script.task) ≡ Some fault
+    → line ≡ limit_line script.task fault → IsReported (line_due status.Refused line) report out err → IsSaidFor shows script report out err
+said_limit shows script fault line report out err passed same h =
     let P : List ℕ → Type 0 = λ l. IsReported (line_due status.Refused l) report out err in
     record { due = limit_due script.task fault; is_due = passes fault passed; reported = subst P same h }
 
-pub said_answer : (script : Script) (answer : Answer) (report : Report) (out err : SinkRun) → first_fault (catalog_of script.task) 0 (hard_rules script.task) ≡ None
-    → IsAnswer script.task budget answer → IsTransactionUnlessChoicesClash script.task answer → IsReported (answer_due script answer) report out err → IsSaidFor script report out err
-said_answer script answer report out err fits is direct h = record { due = answer_due script answer; is_due = answered answer fits is direct; reported = h }
+pub said_answer : (shows : Bool) (script : Script) (answer : Answer) (report : Report) (out err : SinkRun) → first_fault (catalog_of script.task) 0 (hard_rules script.task) ≡ None
+    → IsAnswer script.task budget answer → IsTransactionUnlessChoicesClash script.task answer → IsReported (answer_due shows script answer) report out err → IsSaidFor shows script report out err
+said_answer shows script answer report out err fits is direct h = record { due = answer_due shows script answer; is_due = answered answer fits is direct; reported = h }
 
-pub bytes_read : (file lent bytes : List ℕ) (files : FilesRun) (script : Script) (report : Report) (out err : SinkRun) → lent ≡ bytes
-    → IsRead (script_piece file lent) files script → IsSaidFor script report out err → IsRunOfBytes (script_piece file bytes) files report out err
-bytes_read file lent bytes files script report out err same is h =
+pub bytes_read : (shows : Bool) (file lent bytes : List ℕ) (files : FilesRun) (script : Script) (report : Report) (out err : SinkRun) → lent ≡ bytes
+    → IsRead (script_piece file lent) files script → IsSaidFor shows script report out err → IsRunOfBytes shows (script_piece file bytes) files report out err
+bytes_read shows file lent bytes files script report out err same is h =
     let P : List ℕ → Type 0 = λ b. IsRead (script_piece file b) files script in
     read script (subst P same is) h
 
-pub bytes_ended : (file lent bytes : List ℕ) (files : FilesRun) (fault : ScriptFault) (report : Report) (out err : SinkRun) → lent ≡ bytes
-    → HasEnded (script_piece file lent) files fault → IsReportedFault fault report out err → IsRunOfBytes (script_piece file bytes) files report out err
-bytes_ended file lent bytes files fault report out err same is h =
+pub bytes_ended : (shows : Bool) (file lent bytes : List ℕ) (files : FilesRun) (fault : ScriptFault) (report : Report) (out err : SinkRun) → lent ≡ bytes
+    → HasEnded (script_piece file lent) files fault → IsReportedFault fault report out err → IsRunOfBytes shows (script_piece file bytes) files report out err
+bytes_ended shows file lent bytes files fault report out err same is h =
     let P : List ℕ → Type 0 = λ b. HasEnded (script_piece file b) files fault in
     ended fault (subst P same is) h
 

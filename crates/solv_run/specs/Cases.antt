@@ -1,5 +1,5 @@
 -- What is due in each case of a run.
-use Rattle.std.specs.Prelude.{ℕ, ◌≡◌, List, [], ◌∷◌, ◌++◌, length, take, Option, Some, None, IfSome, Err, IsOkAnd}
+use Rattle.std.specs.Prelude.{ℕ, ◌≡◌, Bool, List, [], ◌∷◌, ◌++◌, length, take, Option, Some, None, IfSome, Err, IsOkAnd}
 use Rattle.solv_io.specs.Counters.{Rose}
 use Rattle.solv_pool.specs.Catalog.{catalog_of}
 use Rattle.solv_pool.specs.HardRules.{hard_rules}
@@ -17,15 +17,15 @@ use Rattle.solv_run.specs.declared.reports.Report.{Report}
 
 -- what is due for a script that was read: the first limit that its clauses pass, or an answer to its task, which is a transaction where the choices of its
 -- questions meet no conflict
-pub data IsDueFor (script : Script) : Due → Type 0 where
-  passes : (fault : BookFault) → first_fault (catalog_of script.task) 0 (hard_rules script.task) ≡ Some fault → IsDueFor script (limit_due script.task fault)
+pub data IsDueFor (shows : Bool) (script : Script) : Due → Type 0 where
+  passes : (fault : BookFault) → first_fault (catalog_of script.task) 0 (hard_rules script.task) ≡ Some fault → IsDueFor shows script (limit_due script.task fault)
   answered : (answer : Answer) → first_fault (catalog_of script.task) 0 (hard_rules script.task) ≡ None → IsAnswer script.task budget answer → IsTransactionUnlessChoicesClash script.task answer
-      → IsDueFor script (answer_due script answer)
+      → IsDueFor shows script (answer_due shows script answer)
 
 -- it is reported
-pub record IsSaidFor (script : Script) (report : Report) (out err : SinkRun) : Type 0 where
+pub record IsSaidFor (shows : Bool) (script : Script) (report : Report) (out err : SinkRun) : Type 0 where
   pub due : Due
-  pub is_due : IsDueFor script due
+  pub is_due : IsDueFor shows script due
   pub reported : IsReported due report out err
 
 -- the script is the one that all lines give, where files with these bytes are fetched
@@ -65,15 +65,15 @@ module _ (form : Option (List ℕ)) (files : FilesRun) where
 
   -- what is due: the words are not of the form, and no file is asked for; or the script cannot be read, or a file that it names;
   -- or its first bad line is refused; or it is read whole
-  pub data IsDueRun : Due → Type 0 where
-    no_file : form ≡ None → AskedBesides files [] → files.faults_after ≡ files.faults_before → IsDueRun usage_due
-    not_read : (file : List ℕ) → form ≡ Some file → AskedBesides files (file ∷ []) → Rose files.faults_before files.faults_after → IsDueRun (read_fault_due file)
-    stopped : (file bytes name : List ℕ) → IsNamed file bytes → HasStopped file bytes name → IsDueRun (read_fault_due name)
-    refused : (file bytes : List ℕ) (fetched : List (List ℕ)) (b : Bad) → IsNamed file bytes → HasAskedAll file bytes fetched → script_read file fetched bytes ≡ Err b → IsDueRun (bad_line_due b)
-    was_read : (file bytes : List ℕ) (fetched : List (List ℕ)) (script : Script) (due : Due) → IsNamed file bytes → HasAskedAll file bytes fetched → HasScript file bytes fetched script → IsDueFor script due → IsDueRun due
+  pub data IsDueRun (shows : Bool) : Due → Type 0 where
+    no_file : form ≡ None → AskedBesides files [] → files.faults_after ≡ files.faults_before → IsDueRun shows usage_due
+    not_read : (file : List ℕ) → form ≡ Some file → AskedBesides files (file ∷ []) → Rose files.faults_before files.faults_after → IsDueRun shows (read_fault_due file)
+    stopped : (file bytes name : List ℕ) → IsNamed file bytes → HasStopped file bytes name → IsDueRun shows (read_fault_due name)
+    refused : (file bytes : List ℕ) (fetched : List (List ℕ)) (b : Bad) → IsNamed file bytes → HasAskedAll file bytes fetched → script_read file fetched bytes ≡ Err b → IsDueRun shows (bad_line_due b)
+    was_read : (file bytes : List ℕ) (fetched : List (List ℕ)) (script : Script) (due : Due) → IsNamed file bytes → HasAskedAll file bytes fetched → HasScript file bytes fetched script → IsDueFor shows script due → IsDueRun shows due
 
 -- a run: what is due is reported
-pub record IsRun (form : Option (List ℕ)) (files : FilesRun) (report : Report) (out err : SinkRun) : Type 0 where
+pub record IsRun (shows : Bool) (form : Option (List ℕ)) (files : FilesRun) (report : Report) (out err : SinkRun) : Type 0 where
   pub due : Due
-  pub is_due : IsDueRun form files due
+  pub is_due : IsDueRun form files shows due
   pub reported : IsReported due report out err

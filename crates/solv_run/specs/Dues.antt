@@ -1,5 +1,5 @@
 -- What is due in a run: its status, the texts for both sinks, and the answers.
-use Rattle.std.specs.Prelude.{ℕ, Bool, true, false, List, [], ◌∷◌, ◌++◌, codes, if◌then◌else◌}
+use Rattle.std.specs.Prelude.{ℕ, Bool, ◌&&◌, List, [], ◌∷◌, ◌++◌, codes, if◌then◌else◌}
 use Rattle.std.specs.Fmt.{decimal}
 use Rattle.solv_io.specs.declared.status.Status.{Status}
 use Rattle.solv_io.specs.declared.status.Status.TheVariants as status
@@ -12,10 +12,9 @@ use Rattle.solv_rules.specs.declared.fault.BookFault.TheVariants.{TooRich, TooMa
 use Rattle.solv_script.specs.Grammar.{Bad}
 use Rattle.solv_script.specs.declared.scripts.Script.{Script}
 use Rattle.solv_answers.specs.declared.answers.Answer.{Answer}
-use Rattle.solv_answers.specs.declared.answers.Answer.TheVariants.{Transaction, Problems, Spent}
 use Rattle.solv_run.specs.Checks.{are_true}
 use Rattle.solv_run.specs.CommandLine.{usage_line}
-use Rattle.solv_run.specs.Texts.{printed}
+use Rattle.solv_run.specs.Texts.{is_spent, is_as_wanted, printed}
 
 pub record Due : Type 0 where
   pub status : Status
@@ -62,22 +61,17 @@ budget = 100000
 abbrev pub spent_line : List ℕ
 spent_line = codes "testsolv: budget of 100000 learnt rules spent\n"
 
-abbrev pub is_spent : Answer → Bool
-is_spent (Transaction trail set made ordered) = false
-is_spent (Problems problems) = false
-is_spent (Spent ledger) = true
-
--- the status of an answer: whether the budget is spent, and else whether all comparisons are true
+-- the status of an answer: whether the budget is spent, and else whether all comparisons are true and the lines are as the script expects them
 abbrev pub answer_status : Script → Answer → Status
 answer_status script answer =
     if is_spent answer then status.Spent
-    else (if are_true script.checks then status.Done else status.Differs)
+    else (if are_true script.checks && is_as_wanted script answer then status.Done else status.Differs)
 
 -- an answer to a script
-abbrev pub answer_due : Script → Answer → Due
-answer_due script answer = record {
+abbrev pub answer_due : Bool → Script → Answer → Due
+answer_due shows script answer = record {
   status = answer_status script answer;
-  out = printed script answer;
+  out = printed shows script answer;
   err = if is_spent answer then spent_line else [];
   answers = answer ∷ [];
 }

@@ -1,5 +1,5 @@
 -- Why a run ends with its status.
-use Rattle.std.specs.Prelude.{ℕ, ◌≡◌, ◌<◌, ◌⊎◌, Bool, true, false, List, [], ◌∷◌, ◌++◌, map, Option, Some, None, Result, Ok, Err}
+use Rattle.std.specs.Prelude.{ℕ, ◌≡◌, ◌<◌, ◌⊎◌, Bool, true, false, ◌&&◌, List, [], ◌∷◌, ◌++◌, map, Option, Some, None, Result, Ok, Err}
 use Rattle.solv_io.specs.Counters.{Rose}
 use Rattle.solv_io.specs.declared.status.Status.TheVariants as status
 use Rattle.solv_pool.specs.Catalog.{catalog_of}
@@ -17,9 +17,9 @@ use Rattle.solv_answers.specs.declared.answers.Answer.TheVariants.{Spent}
 use Rattle.solv_core.specs.declared.ledger.Ledger.{Ledger}
 use Rattle.solv_run.specs.Cases.{IsNamed, HasAskedAll, HasScript}
 use Rattle.solv_run.specs.Checks.{are_true}
-use Rattle.solv_run.specs.Dues.{read_fault_line, bad_line, limit_line, spent_line, is_spent, budget}
+use Rattle.solv_run.specs.Dues.{read_fault_line, bad_line, limit_line, spent_line, budget}
 use Rattle.solv_run.specs.Runs.{SinkRun, WroteAll, HasWriteFault}
-use Rattle.solv_run.specs.Texts.{printed}
+use Rattle.solv_run.specs.Texts.{is_spent, is_as_wanted, printed}
 use Rattle.solv_run.specs.declared.reports.Report.{Report}
 
 -- the files hold a script with these bytes, and these bytes under the names that are due by it
@@ -27,7 +27,7 @@ pub record HoldScript (held : List ℕ → Option (List ℕ)) (file bytes : List
   pub script : held file ≡ Some bytes
   pub others : fetched ≡ map (bytes_in held) (script_due file fetched bytes)
 
-module _ (form : Option (List ℕ)) (files : FilesRun) (report : Report) (out err : SinkRun) where
+module _ (shows : Bool) (form : Option (List ℕ)) (files : FilesRun) (report : Report) (out err : SinkRun) where
   -- a script that was read whole
   pub record WasRead (script : Script) : Type 0 where
     pub file : List ℕ
@@ -42,23 +42,24 @@ module _ (form : Option (List ℕ)) (files : FilesRun) (report : Report) (out er
     pub read : WasRead script
     pub is : IsAnswer script.task budget answer
     pub answers : report.answers ≡ answer ∷ []
-    pub text : WroteAll out (printed script answer)
+    pub text : WroteAll out (printed shows script answer)
 
-  -- a transaction or problems, with every comparison true
+  -- a transaction or problems, with every comparison true and the lines that the script expects, if it expects any
   pub record IsDone : Type 0 where
     pub script : Script
     pub answer : Answer
     pub has : HasAnswer script answer
     pub unspent : is_spent answer ≡ false
     pub all_true : are_true script.checks ≡ true
+    pub as_wanted : is_as_wanted script answer ≡ true
 
-  -- a transaction or problems, with some comparison false
+  -- a transaction or problems, with some comparison false, or with lines that differ from those that the script expects
   pub record IsDiffering : Type 0 where
     pub script : Script
     pub answer : Answer
     pub has : HasAnswer script answer
     pub unspent : is_spent answer ≡ false
-    pub some_false : are_true script.checks ≡ false
+    pub some_false : (are_true script.checks && is_as_wanted script answer) ≡ false
 
   -- the budget is spent, which is the one line on `err`
   pub record IsSpentRun : Type 0 where

@@ -1,5 +1,5 @@
 -- What is printed for an answer.
-use Rattle.std.specs.Prelude.{ℕ, Bool, true, false, List, [], ◌++◌, map, flat_map, codes, slice_get}
+use Rattle.std.specs.Prelude.{ℕ, Bool, true, false, ◌||◌, ◌==◌, List, [], ◌++◌, map, flat_map, length, codes, slice_get, None, Some, is_none, if◌then◌else◌}
 use Rattle.std.specs.Fmt.{decimal}
 use Rattle.std.specs.List.{enumerate_from}
 use Rattle.std.specs.Option.{option_map_or}
@@ -13,8 +13,9 @@ use Rattle.solv_answers.specs.declared.answers.Answer.{Answer}
 use Rattle.solv_answers.specs.declared.answers.Answer.TheVariants.{Transaction, Problems, Spent}
 use Rattle.solv_remedy.specs.declared.problems.Problem.{Problem}
 use Rattle.solv_remedy.specs.declared.problems.Solution.{Solution}
+use Rattle.solv_lines.specs.Comparing.{missing_lines}
 use Rattle.solv_lines.specs.LineSets.{line_set}
-use Rattle.solv_lines.specs.ResultLines.{change_line, solution_line}
+use Rattle.solv_lines.specs.ResultLines.{solution_line, solved_lines}
 use Rattle.solv_lines.specs.RuleTexts.{text_of_rule}
 use Rattle.solv_lines.specs.SolutionTexts.{solution_texts}
 use Rattle.solv_io.specs.Lines.{ended_lines}
@@ -41,12 +42,34 @@ module _ (task : Task) where
   abbrev pub problems_lines : Kinds → List Problem → List (List ℕ)
   problems_lines kinds problems = when kinds.problems (flat_map (λ x. problem_lines x.0 x.1) (enumerate_from 1 problems))
 
-  -- the result lines of an answer, of the kinds that are asked for: those of its changes, or of its problems
+  -- the result lines of an answer, of the kinds that are asked for: those of its changes, their order and the reasons of what comes; or those of its problems
   abbrev pub answer_lines : Kinds → Answer → List (List ℕ)
-  answer_lines kinds (Transaction trail set made ordered) = when kinds.transaction (map (change_line (catalog_of task)) made)
+  answer_lines kinds (Transaction trail set made ordered) = solved_lines (catalog_of task) kinds made ordered trail.events set
   answer_lines kinds (Problems problems) = problems_lines kinds problems
   answer_lines kinds (Spent ledger) = []
 
--- what is printed: the comparisons that are false, and the result lines, sorted by bytes, each once
-abbrev pub printed : Script → Answer → List ℕ
-printed script answer = ended_lines (false_lines script.checks ++ line_set (answer_lines script.task script.kinds answer))
+abbrev pub is_spent : Answer → Bool
+is_spent (Transaction trail set made ordered) = false
+is_spent (Problems problems) = false
+is_spent (Spent ledger) = true
+
+-- the result lines of an answer to a script, sorted by bytes, each once
+abbrev pub told_lines : Script → Answer → List (List ℕ)
+told_lines script answer = line_set (answer_lines script.task script.kinds answer)
+
+-- how lines differ from those that are wanted: `-` and each that is missing, and then `+` and each that is more
+abbrev pub differing_lines : List (List ℕ) → List (List ℕ) → List (List ℕ)
+differing_lines wanted given = map (λ line. codes "-" ++ line) (missing_lines wanted given) ++ map (λ line. codes "+" ++ line) (missing_lines given wanted)
+
+-- how the result lines of an answer differ from those that the script expects; of a spent budget nothing is said
+abbrev pub differences : Script → Answer → List (List ℕ)
+differences script answer = if is_spent answer then [] else elim script.wanted [ None ↦ [] | Some wanted ↦ differing_lines (line_set wanted) (told_lines script answer) ]
+
+-- they do not differ
+abbrev pub is_as_wanted : Script → Answer → Bool
+is_as_wanted script answer = length (differences script answer) == 0
+
+-- what is printed: the comparisons that are false; the result lines, where they are asked for or the script says of none what it expects; and how they
+-- differ from those that it expects
+abbrev pub printed : Bool → Script → Answer → List ℕ
+printed shows script answer = ended_lines (false_lines script.checks ++ (when (shows || is_none script.wanted) (told_lines script answer) ++ differences script answer))

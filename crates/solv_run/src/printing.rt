@@ -1,16 +1,18 @@
 //! What is printed for an answer.
-ghost use Rattle.std.specs.Prelude.{◌≡◌, ◌++◌, map, true, IfOk, OnOk};
+ghost use Rattle.std.specs.Prelude.{◌≡◌, ◌++◌, ◌∷◌, [], ◌||◌, map, true, is_none, IfOk, OnOk};
+ghost use Rattle.solv_io.specs.Lines.{ended_lines};
 ghost use Rattle.solv_pool.specs.HardRules.{hard_rules};
+ghost use Rattle.solv_pool.specs.Words.{when};
 ghost use Rattle.solv_pool.specs.TaskBelonging.{IsClosed};
 ghost use Rattle.solv_answers.specs.Answers.{IsPrepared};
 ghost use Rattle.solv_run.specs.Inner.Outcomes.{way_of, found_of, founds_of};
-ghost use Rattle.solv_run.specs.Texts.{problems_lines, answer_lines, printed};
+ghost use Rattle.solv_run.specs.Texts.{problems_lines, answer_lines, told_lines, differing_lines, differences, is_spent, is_as_wanted, printed};
 ghost use Rattle.solv_lines.specs.LineSets.{line_set};
 
 use crate::checks::append_false;
 use solv_answers::{Answer, Prepared};
-use solv_lines::{Found, LineSet, Outcome, WayOut, result_lines, text_of};
-use solv_list::Items;
+use solv_lines::{Found, LineSet, Outcome, WayOut, compare, line_set, result_lines};
+use solv_list::{Bytes, Items};
 use solv_remedy::{Problem, Solution};
 use solv_script::Script;
 use std::alloc::{AllocError, Global};
@@ -115,21 +117,121 @@ fn answer_lines(
     }
 }
 
+/// What is printed for an answer, and whether its lines are as the script expects them.
+#[derive(Drop)]
+pub(crate) struct Said {
+    pub(crate) text: Vec<u8>,
+    pub(crate) as_wanted: bool,
+}
+
+/// Appends lines, each with a sign before it.
+fn append_signed(
+    alloc: Global,
+    sign: u8,
+    lines: &[Bytes],
+    signed: &mut Vec<Bytes>,
+) -> Result<(), AllocError>
+    ensures { OnOk result (signed.new.items ≡ signed.old.items ++ map (λ line. (sign ∷ []) ++ line) lines.now) }
+{
+    for line in lines {
+        let mut text = Vec::new(alloc);
+        text.push(sign)?;
+        text.extend_from_slice(line.held())?;
+        signed.push(Bytes::wrap(text))?;
+    }
+    Ok(())
+}
+
+/// How lines differ from those that are wanted.
+fn differing_lines(
+    alloc: Global,
+    wanted: &LineSet,
+    given: &LineSet,
+) -> Result<Vec<Bytes>, AllocError>
+    ensures { IfOk result (λ lines. lines.items ≡ differing_lines wanted.now given.now) }
+{
+    let compared = compare(alloc, wanted, given)?;
+    let mut lines = Vec::new(alloc);
+    append_signed(alloc, b'-', compared.missing.held(), &mut lines)?;
+    append_signed(alloc, b'+', compared.extra.held(), &mut lines)?;
+    Ok(lines)
+}
+
+/// Whether the budget is spent.
+fn is_spent(answer: &Answer) -> bool
+    ensures { result ≡ is_spent answer.now }
+{
+    matches!(answer, Answer::Spent(_))
+}
+
+/// How the result lines of an answer differ from those that the script expects.
+fn differences(
+    alloc: Global,
+    script: &Script,
+    answer: &Answer,
+    given: &LineSet,
+) -> Result<Vec<Bytes>, AllocError>
+    requires { given.now ≡ told_lines script.now answer.now }
+    ensures { IfOk result (λ lines. lines.items ≡ differences script.now answer.now) }
+{
+    if is_spent(answer) {
+        return Ok(Vec::new(alloc));
+    }
+    match &script.wanted {
+        None => Ok(Vec::new(alloc)),
+        Some(wanted) => {
+            let wanted = line_set(alloc, wanted.held())?;
+            differing_lines(alloc, &wanted, given)
+        }
+    }
+}
+
+/// Appends lines, each ended by a line feed.
+fn append_lines(lines: &[Bytes], text: &mut Vec<u8>) -> Result<(), AllocError>
+    ensures { OnOk result (text.new.items ≡ text.old.items ++ ended_lines lines.now) }
+{
+    for line in lines {
+        text.extend_from_slice(line.held())?;
+        text.push(b'\n')?;
+    }
+    Ok(())
+}
+
+/// Appends the result lines, where they are asked for or the script expects none.
+fn append_told(
+    shows: bool,
+    script: &Script,
+    given: &LineSet,
+    text: &mut Vec<u8>,
+) -> Result<(), AllocError>
+    ensures { OnOk result (text.new.items ≡ text.old.items ++ ended_lines (when (shows || is_none script.now.wanted) given.now)) }
+{
+    if shows || script.wanted.is_none() {
+        append_lines(given.lines(), text)
+    } else {
+        Ok(())
+    }
+}
+
 /// What is printed for an answer to a script.
 pub(crate) fn printed(
     alloc: Global,
+    shows: bool,
     script: &Script,
     prepared: &Prepared,
     answer: &Answer,
-) -> Result<Vec<u8>, AllocError>
+) -> Result<Said, AllocError>
     requires closed { IsClosed script.now.task }
     requires prepared { IsPrepared script.now.task prepared.now }
-    ensures { IfOk result (λ text. text.items ≡ printed script.now answer.now) }
+    ensures text { IfOk result (λ made. made.text.items ≡ printed shows script.now answer.now) }
+    ensures as_wanted { IfOk result (λ made. made.as_wanted ≡ is_as_wanted script.now answer.now) }
 {
-    let lines = answer_lines(alloc, script, prepared, answer)?;
+    let given = answer_lines(alloc, script, prepared, answer)?;
+    let differing = differences(alloc, script, answer, &given)?;
     let mut text = Vec::new(alloc);
     append_false(script.checks.held(), &mut text)?;
-    let ended = text_of(alloc, &lines)?;
-    text.extend_from_slice(ended.held())?;
-    Ok(text)
+    append_told(shows, script, &given, &mut text)?;
+    append_lines(&differing, &mut text)?;
+    let as_wanted = differing.is_empty();
+    Ok(Said { text, as_wanted })
 }

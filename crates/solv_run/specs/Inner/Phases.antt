@@ -1,5 +1,5 @@
 -- A run after the script's own file was fetched. Inner contracts alone speak of it.
-use Rattle.std.specs.Prelude.{ℕ, List, length, take}
+use Rattle.std.specs.Prelude.{ℕ, Bool, List, length, take}
 use Rattle.solv_script.specs.FileRuns.{FilesRun, AskedBesides, AreFetched, IsFront, Piece}
 use Rattle.solv_script.specs.Inner.FileRuns.{HasEnded, IsRead}
 use Rattle.solv_script.specs.declared.scripts.Script.{Script}
@@ -25,6 +25,6 @@ pub record HasAskedFrontOf (piece : Piece) (files : FilesRun) : Type 0 where
   pub due : IsFront names (piece.due fetched)
 
 -- the script is read whole, and what is due for it is reported; or the reading ends with a fault, which is reported
-pub data IsRunOfBytes (piece : Piece) (files : FilesRun) (report : Report) (out err : SinkRun) : Type 0 where
-  read : (script : Script) → IsRead piece files script → IsSaidFor script report out err → IsRunOfBytes piece files report out err
-  ended : (fault : ScriptFault) → HasEnded piece files fault → IsReportedFault fault report out err → IsRunOfBytes piece files report out err
+pub data IsRunOfBytes (shows : Bool) (piece : Piece) (files : FilesRun) (report : Report) (out err : SinkRun) : Type 0 where
+  read : (script : Script) → IsRead piece files script → IsSaidFor shows script report out err → IsRunOfBytes shows piece files report out err
+  ended : (fault : ScriptFault) → HasEnded piece files fault → IsReportedFault fault report out err → IsRunOfBytes shows piece files report out err

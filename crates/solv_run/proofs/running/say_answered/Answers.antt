@@ -8,4 +8,4 @@ answer-requires-clause-formed g c = asks_formed c.args.script.now.task c.require
 
 pub returns : goal.returns
 returns g c =
-    ok_map _ _ c.say_answer.result (λ report h. said_answer c.args.script.now c.in_ok-answer.answer report _ _ c.requires.prepared.fits c.in_ok-answer.ensures.good c.in_ok-answer.ensures.direct h) c.say_answer.ensures
+    ok_map _ _ c.say_answer.result (λ report h. said_answer c.args.shows c.args.script.now c.in_ok-answer.answer report _ _ c.requires.prepared.fits c.in_ok-answer.ensures.good c.in_ok-answer.ensures.direct h) c.say_answer.ensures

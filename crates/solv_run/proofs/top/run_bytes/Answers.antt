@@ -5,11 +5,11 @@ use Rattle.solv_list.proofs.Answers.{ok_map}
 
 pub returns-in-Ok-clause-run : goal.returns-in-Ok-clause-run
 returns-in-Ok-clause-run g c =
-    ok_map _ _ c.run_script.result (λ report h. bytes_read c.args.file.now _ c.args.bytes.items _ c.in-Ok.script report _ _ c.deref.ensures.value c.in-Ok.ensures.read h) c.run_script.ensures
+    ok_map _ _ c.run_script.result (λ report h. bytes_read c.args.shows c.args.file.now _ c.args.bytes.items _ c.in-Ok.script report _ _ c.deref.ensures.value c.in-Ok.ensures.read h) c.run_script.ensures
 
 pub returns-in-Err-clause-run : goal.returns-in-Err-clause-run
 returns-in-Err-clause-run g c =
-    ok_map _ _ c.say_fault.result (λ report h. bytes_ended c.args.file.now _ c.args.bytes.items _ c.in-Err.fault report _ _ c.deref.ensures.value c.in-Err.ensures.ended h) c.say_fault.ensures
+    ok_map _ _ c.say_fault.result (λ report h. bytes_ended c.args.shows c.args.file.now _ c.args.bytes.items _ c.in-Err.fault report _ _ c.deref.ensures.value c.in-Err.ensures.ended h) c.say_fault.ensures
 
 pub returns-in-Ok-clause-wanting : goal.returns-in-Ok-clause-wanting
 returns-in-Ok-clause-wanting g c = if_wanting _ c.run_script.result (front_lent c.args.file.now _ c.args.bytes.items _ c.deref.ensures.value (front_read _ _ c.in-Ok.script c.in-Ok.ensures.read))
