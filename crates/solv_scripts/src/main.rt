@@ -1,5 +1,5 @@
-//! The program `solv_scripts`: runs the scripts that its arguments name, each as `testsolv -r` does, and says what status each ended with. What is
-//! printed for the scripts of `data/` is compared with the file `stdout`.
+//! The program `solv_scripts`: runs the scripts that its arguments name, each as `testsolv -r` does, those of the folder `expected` as `testsolv` does, and
+//! says what status each ended with. What is printed for the scripts of `data/` is compared with the file `stdout`.
 #![tactic(auto)]
 
 use solv_io::{RealFiles, RealSink};
@@ -7,12 +7,19 @@ use solv_run::run;
 use std::alloc::{AllocError, Global};
 use std::{env, io};
 
+/// Whether a script is run without `-r`.
+fn is_compared(name: &str) -> bool {
+    name.starts_with("expected/")
+}
+
 /// The words of a command line that runs a script.
 fn command_line(alloc: Global, name: &str) -> Result<Vec<String>, AllocError> {
     let mut words = Vec::new(alloc);
-    for word in ["testsolv", "-r", name] {
-        words.push(String::from_str(alloc, word)?)?;
+    words.push(String::from_str(alloc, "testsolv")?)?;
+    if !is_compared(name) {
+        words.push(String::from_str(alloc, "-r")?)?;
     }
+    words.push(String::from_str(alloc, name)?)?;
     Ok(words)
 }
 

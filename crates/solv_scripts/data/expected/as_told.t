@@ -1,0 +1,11 @@
+# the lines that are expected are told, so nothing is printed
+repo system 0 empty
+repo available 1 testtags <inline>
+#>=Pkg: A 1 1 noarch
+#>=Req: B
+#>=Pkg: B 1 1 noarch
+system x86_64 rpm system
+job install name A
+result transaction,problems <inline>
+#>install B-1-1.noarch@available
+#>install A-1-1.noarch@available
