@@ -6,7 +6,8 @@
                                 between layers, loops and tables stands in specs/Inner/, examples in specs/Examples/
     tools/promise.py --print    the promise as one text in reading order, lowest crate first
 
-It reads the files as text, at the top of the repository. A name that is bound again inside a definition counts as the
+A public law is a public function of a module `laws` that does nothing; one that calls other laws says how layers fit each
+other, and is not counted. It reads the files as text, at the top of the repository. A name that is bound again inside a definition counts as the
 definition of that name, so that the promise may come out larger than it is, and not smaller.
 """
 import collections
