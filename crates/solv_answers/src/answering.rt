@@ -12,7 +12,6 @@ ghost use Rattle.solv_answers.specs.Inner.Beginnings.{HasBegun};
 
 use crate::answers::Answer;
 use crate::preparing::Prepared;
-use solv_changes::transaction;
 use solv_core::{Core, Ledger, Trail, Verdict};
 use solv_decide::{Decided, Phases, decide, set_of};
 use solv_derive::Log;
@@ -24,7 +23,7 @@ use solv_questions::questions_keep_the_law;
 use solv_remedy::Remedies;
 use solv_remedy::finding::problems;
 use solv_rules::Book;
-use solv_trans::order;
+use solv_trans::{order, transaction};
 use std::alloc::{AllocError, Global};
 
 /// The transaction of a trail.

@@ -1,5 +1,6 @@
 //! Answers to tasks: a transaction, problems, or that a budget of learnt rules is spent.
 //!
+//! - [`hard_rules`]: all hard rules of a task, in their order, by the makers of each kind.
 //! - [`prepare`]: the index, the marks and the book of clauses of a task.
 //! - [`answer`]: the answer to a task.
 //!
@@ -11,8 +12,10 @@ mod answering;
 mod answers;
 pub mod examples;
 pub mod laws;
+mod making;
 mod preparing;
 
 pub use answering::answer;
 pub use answers::Answer;
+pub use making::hard_rules;
 pub use preparing::{Prepared, prepare};

@@ -12,7 +12,7 @@ ghost use Rattle.solv_questions.specs.Questions.{request_of, rules_of};
 use crate::fixture::{Trial, are, trial_of};
 use solv_core::{Core, Ledger, Verdict};
 use solv_decide::{Phases, set_of, solve};
-use solv_makers::hard_rules;
+use solv_answers::hard_rules;
 use solv_pool::laws::clauses_name_packages;
 use solv_pool::{PackNo, Rule, Task};
 use solv_rules::Book;

@@ -10,8 +10,8 @@ use Rattle.solv_trail.specs.declared.questions.Question.TheVariants as question
 use Rattle.solv_core.specs.declared.verdicts.Event.{Event}
 use Rattle.solv_core.specs.declared.verdicts.Event.TheVariants.{Known, Took}
 use Rattle.solv_script.specs.declared.scripts.Kinds.{Kinds}
-use Rattle.solv_changes.specs.declared.kinds.Change.{Change}
-use Rattle.solv_changes.specs.declared.kinds.Change.TheVariants.{Install, Erase, Upgrade, Downgrade, Alter, Reinstall, Obsolete}
+use Rattle.solv_trans.specs.declared.kinds.Change.{Change}
+use Rattle.solv_trans.specs.declared.kinds.Change.TheVariants.{Install, Erase, Upgrade, Downgrade, Alter, Reinstall, Obsolete}
 use Rattle.solv_trans.specs.declared.ordering.Ordered.{Ordered}
 use Rattle.solv_lines.specs.RuleTexts.{named, pair_text}
 

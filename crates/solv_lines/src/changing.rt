@@ -6,7 +6,7 @@ ghost use Rattle.solv_lines.specs.LineSets.{with_lines};
 ghost use Rattle.solv_lines.specs.ResultLines.{change_line};
 
 use crate::writing::{write_package, write_pair};
-use solv_changes::Change;
+use solv_trans::Change;
 use solv_list::Bytes;
 use solv_pool::Task;
 use std::alloc::{AllocError, Global};

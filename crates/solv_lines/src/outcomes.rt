@@ -1,5 +1,5 @@
 //! How the solving of a task ends.
-use solv_changes::Change;
+use solv_trans::Change;
 use solv_core::Trail;
 use solv_list::Items;
 use solv_pool::PackNo;

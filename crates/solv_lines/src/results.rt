@@ -14,7 +14,7 @@ use crate::ordering::put_order;
 use crate::outcomes::Outcome;
 use crate::problems::put_problems;
 use crate::reasons::put_reasons;
-use solv_changes::Change;
+use solv_trans::Change;
 use solv_core::Trail;
 use solv_list::Bytes;
 use solv_pool::{PackNo, Rules, Task};

@@ -1,19 +1,24 @@
-//! The records of candidates, and their priorities.
+//! The records of packages, their priorities, and how two of them stand to each other.
 ghost use Rattle.std.specs.Prelude.{◌≡◌, ◌<◌, Some, true, length, if◌then◌else◌};
 ghost use Rattle.std.specs.List.{list_all};
+ghost use Rattle.std.specs.Ordering.{int_cmp};
 ghost use Rattle.solv_pool.specs.Belonging.{IsOver};
-ghost use Rattle.solv_pool.specs.Best.{priority_of, greater_of, top_priority};
+ghost use Rattle.solv_pool.specs.Best.{evr_of, priority_of, greater_of, top_priority};
 ghost use Rattle.solv_pool.specs.Catalog.{catalog_of, package_at, is_installed, same_name};
 ghost use Rattle.solv_pool.specs.TaskBelonging.{is_pack};
 ghost use Rattle.solv_policy.specs.Inner.Candidates.{IsPlace, priority_under};
+ghost use Rattle.solv_policy.specs.Inner.Standing.{build_order, standing};
 
+use solv_base::evr_compare;
 use solv_pool::{PackNo, Package, Task};
+use std::cmp::Ordering;
 
 /// The record of a package.
 pub fn package(task: &Task, pack: PackNo) -> &Package
     requires over { IsOver task.now.pool task.now.universe }
     requires pack { IsPlace task.now pack }
     ensures at { package_at (catalog_of task.now) pack ≡ Some result.now }
+    ensures versioned { result.now.evr < length task.now.pool.names }
     ensures stored { result.now.repo < length task.now.universe.repos }
 {
     task.universe.package(pack)
@@ -78,5 +83,54 @@ pub(crate) fn priority_under(task: &Task, top: Option<i32>, pack: PackNo) -> i32
         top.unwrap_or(own)
     } else {
         own
+    }
+}
+
+/// The EVR of a package.
+fn evr_of(task: &Task, pack: PackNo) -> &[u8]
+    requires over { IsOver task.now.pool task.now.universe }
+    requires pack { IsPlace task.now pack }
+    ensures { result.now ≡ evr_of (catalog_of task.now) pack }
+{
+    let evr = package(task, pack).evr;
+    task.pool.name(evr)
+}
+
+/// Compares two packages by priority.
+fn compare_priorities(task: &Task, top: Option<i32>, pack: PackNo, other: PackNo) -> Ordering
+    requires over { IsOver task.now.pool task.now.universe }
+    requires pack { IsPlace task.now pack }
+    requires other { IsPlace task.now other }
+    ensures { result ≡ int_cmp (priority_under (catalog_of task.now) top pack) (priority_under (catalog_of task.now) top other) }
+{
+    let priority = priority_under(task, top, pack);
+    priority.cmp(&priority_under(task, top, other))
+}
+
+/// Compares two packages by architecture, a lower rank being ahead, and then by EVR.
+fn compare_builds(task: &Task, pack: PackNo, other: PackNo) -> Ordering
+    requires over { IsOver task.now.pool task.now.universe }
+    requires pack { IsPlace task.now pack }
+    requires other { IsPlace task.now other }
+    ensures { result ≡ build_order (catalog_of task.now) pack other }
+{
+    let rank = task.universe.arch_rank(&task.pool, pack);
+    let others = task.universe.arch_rank(&task.pool, other);
+    match others.cmp(&rank) {
+        Ordering::Equal => evr_compare(evr_of(task, pack), evr_of(task, other)),
+        unequal => unequal,
+    }
+}
+
+/// Compares two packages by priority, then by architecture, and then by EVR.
+pub(crate) fn standing(task: &Task, top: Option<i32>, pack: PackNo, other: PackNo) -> Ordering
+    requires over { IsOver task.now.pool task.now.universe }
+    requires pack { IsPlace task.now pack }
+    requires other { IsPlace task.now other }
+    ensures { result ≡ standing (catalog_of task.now) top pack other }
+{
+    match compare_priorities(task, top, pack, other) {
+        Ordering::Equal => compare_builds(task, pack, other),
+        unequal => unequal,
     }
 }

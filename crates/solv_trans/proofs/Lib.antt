@@ -5,3 +5,9 @@ pub mod Marked
 pub mod Owned
 pub mod Apart
 pub mod Whole
+mod Pairs
+mod Listing
+mod Greatest
+mod Same
+mod Restored
+mod Rising

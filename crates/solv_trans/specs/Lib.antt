@@ -1,4 +1,7 @@
+pub mod Effects
+pub mod Changes
 pub mod Moving
 pub mod Edges
 pub mod Orders
 pub mod Inner
+pub mod Examples

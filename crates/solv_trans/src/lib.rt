@@ -1,16 +1,28 @@
-//! The order in which a transaction is made.
+//! What a set of packages changes, and in which order.
 //!
+//! - [`Change`]: what becomes of one package, or of two.
+//! - [`transaction`]: the changes from the installed packages to a set: first a line for each installed package that is
+//!   not in it, then an install line for each other package that comes.
 //! - [`order`]: the packages that come and those that go, in order, with the cycles of what they require of each other.
 //!
+//! `specs/Changes` says which line a package has, and `specs/Effects` what is there after the changes: the set.
 //! `specs/Moving` says what comes and goes, `specs/Edges` which part comes before which, and `specs/Orders` what a good order
-//! is, in the words of `solv_graph`; `specs/Inner/Readiness` says what a task has to be for it. `specs/Inner/Joining` serves inner contracts
-//! alone. A requirement is looked at by its parts.
+//! is, in the words of `solv_graph`; `specs/Inner/Readiness` says what a task has to be for it. A requirement is looked at
+//! by its parts.
 #![tactic(auto)]
 
+mod change_rows;
+mod comparing;
 mod counting;
 mod edges;
+mod kinds;
+mod leaving;
 mod marks;
 mod moving;
 mod ordering;
+mod transactions;
 
+pub use change_rows::rows_of_changes;
+pub use kinds::Change;
 pub use ordering::{Ordered, order};
+pub use transactions::transaction;

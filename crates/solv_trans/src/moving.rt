@@ -10,8 +10,8 @@ use solv_graph::Turn;
 use solv_pool::{PackNo, Task};
 use std::alloc::{AllocError, Global};
 
-/// Whether a package comes.
-fn does_come(task: &Task, in_set: &[bool], pack: PackNo) -> bool
+/// Whether a package comes: it is in the set and not installed.
+pub(crate) fn does_come(task: &Task, in_set: &[bool], pack: PackNo) -> bool
     requires held { pack ≤ length task.now.universe.packages }
     requires size { length in_set.now ≡ length task.now.universe.packages + 1 }
     ensures { result ≡ comes (catalog_of task.now) (is_marked in_set.now) pack }

@@ -3,3 +3,4 @@ pub mod Near
 pub mod Puts
 mod Inferior
 mod Asking
+mod Rounds

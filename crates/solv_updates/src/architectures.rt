@@ -10,7 +10,7 @@ ghost use Rattle.solv_pool.specs.TaskBelonging.{is_pack};
 ghost use Rattle.solv_pool.specs.Words.{when};
 ghost use Rattle.solv_prov.specs.Index.{IsIndexOf};
 ghost use Rattle.solv_jobs.specs.Inner.Putting.{HasPut};
-ghost use Rattle.solv_updates.specs.Inner.Places.{IsPlace};
+ghost use Rattle.solv_policy.specs.Inner.Candidates.{IsPlace};
 
 use crate::comparing::{is_noarch, package};
 use solv_jobs::{put_rule, puts_follow_each_other};

@@ -10,7 +10,8 @@ ghost use Rattle.solv_base.specs.Evr.{evr_cmp};
 ghost use Rattle.solv_base.specs.Pool.{text_at};
 ghost use Rattle.solv_pool.specs.Catalog.{Catalog};
 ghost use Rattle.solv_jobs.specs.Marking.{HasMarks};
-ghost use Rattle.solv_updates.specs.Inner.Places.{IsPlace, IsHeld};
+ghost use Rattle.solv_policy.specs.Inner.Candidates.{IsPlace};
+ghost use Rattle.solv_updates.specs.Inner.Places.{IsHeld};
 
 use solv_base::evr_compare;
 use solv_pool::{Flags, Marks, PackNo, Package, Task};

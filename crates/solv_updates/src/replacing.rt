@@ -10,7 +10,7 @@ ghost use Rattle.solv_pool.specs.TaskBelonging.{is_pack};
 ghost use Rattle.solv_pool.specs.Updates.{coexist, is_feature, is_legal, flags_allow, feature_set, legal_set};
 ghost use Rattle.solv_prov.specs.Index.{IsIndexOf};
 ghost use Rattle.solv_jobs.specs.Marking.{HasMarks};
-ghost use Rattle.solv_updates.specs.Inner.Places.{IsPlace};
+ghost use Rattle.solv_policy.specs.Inner.Candidates.{IsPlace};
 ghost use Rattle.solv_updates.specs.Inner.Replacing.{is_near, is_wanted, is_candidate};
 
 use crate::comparing::{coexist, flags_allow, package};

@@ -11,7 +11,7 @@ ghost use Rattle.solv_prov.specs.Index.{IsIndexOf};
 ghost use Rattle.solv_jobs.specs.Inner.Putting.{HasPut};
 ghost use Rattle.solv_updates.specs.Inner.Exact.{AreAsked};
 ghost use Rattle.solv_jobs.specs.Marking.{HasMarks};
-ghost use Rattle.solv_updates.specs.Inner.Places.{IsPlace};
+ghost use Rattle.solv_policy.specs.Inner.Candidates.{IsPlace};
 
 use crate::comparing::package;
 use crate::exact_jobs::asked_names;

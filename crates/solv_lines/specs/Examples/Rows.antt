@@ -16,8 +16,8 @@ use Rattle.solv_trail.specs.declared.questions.Question.TheVariants as question
 use Rattle.solv_core.specs.declared.verdicts.Event.{Event}
 use Rattle.solv_core.specs.declared.verdicts.Event.TheVariants as event
 use Rattle.solv_script.specs.declared.scripts.Kinds.{Kinds}
-use Rattle.solv_changes.specs.declared.kinds.Change.{Change}
-use Rattle.solv_changes.specs.declared.kinds.Change.TheVariants as change
+use Rattle.solv_trans.specs.declared.kinds.Change.{Change}
+use Rattle.solv_trans.specs.declared.kinds.Change.TheVariants as change
 use Rattle.solv_trans.specs.declared.ordering.Ordered.{Ordered}
 use Rattle.solv_lines.specs.SolutionTexts.{solution_texts}
 use Rattle.solv_lines.specs.declared.outcomes.Found.{Found}

@@ -1,4 +1,0 @@
-mod Places
-mod Tops
-mod Puts
-mod Rounds

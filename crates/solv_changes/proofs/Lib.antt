@@ -1,7 +1,0 @@
-mod Pairs
-mod Listing
-mod Greatest
-mod Marked
-mod Same
-mod Restored
-mod Rising

@@ -1,7 +1,0 @@
-use Rattle.std.proofs.Common.{ℕ, ◌≡◌, ◌<◌, ◌||◌, length, drop}
-use Rattle.solv_pool.specs.Words.{is_among}
-use Rattle.solv_changes.specs.Inner.Tables.{is_true_at}
-use Rattle.solv_changes.proofs.tables.mark_all.Given as goal
-
-abbrev pub invariant-loop-pack : goal.invariant-loop-pack
-invariant-loop-pack l = (p : ℕ) → p < length l.initial.table → (is_true_at l.table p || is_among (drop l.pack-index l.packs) p) ≡ (is_true_at l.initial.table p || is_among l.packs p)

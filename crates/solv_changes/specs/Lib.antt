@@ -1,4 +1,0 @@
-pub mod Effects
-pub mod Changes
-pub mod Inner
-pub mod Examples

@@ -1,0 +1,41 @@
+use Rattle.std.proofs.Common.{◌≡◌, ◌∷◌, ◌+◌, ◌&&◌, ℕ, subst, drop}
+use Rattle.std.specs.Prelude.{flat_map}
+use Rattle.std.specs.List.{enumerate_from}
+use Rattle.solv_pool.specs.Best.{best}
+use Rattle.solv_pool.specs.Catalog.{catalog_of}
+use Rattle.solv_pool.specs.HardRules.{best_job_rule, best_job_rules}
+use Rattle.solv_pool.specs.JobMarks.{is_install}
+use Rattle.solv_pool.specs.Selections.{selection}
+use Rattle.solv_pool.specs.Words.{when}
+use Rattle.solv_pool.specs.declared.jobs.Job.{Job}
+use Rattle.solv_jobs.specs.Inner.Putting.{IsPut}
+use Rattle.solv_updates.proofs.Puts.{put_next, put_stops}
+use Rattle.solv_updates.proofs.Rounds.{job_turn, job_at}
+use Rattle.solv_updates.proofs.best_updating.add_best_jobs.Goals as goal
+use Rattle.solv_jobs.proofs.Puts.{nothing_put}
+use Rattle.solv_list.proofs.Lists.{this_turn}
+
+pub loop-number-init : goal.loop-number-init
+loop-number-init c = nothing_put (best_job_rules (catalog_of c.args.task.now) c.args.task.now.jobs) c.args.rules.now
+
+pub add_best_job-requires-clause-at : goal.add_best_job-requires-clause-at
+add_best_job-requires-clause-at c =
+    job_at c.args.task.now.jobs c.loop-number.number c.job-item.result (rw c.held-job-items.ensures at c.loop-number-test.true) (rw c.held-job-items.ensures at c.job-item.is)
+
+pub returns-in-Err : goal.returns-in-Err
+returns-in-Err c =
+    let catalog = catalog_of c.args.task.now in
+    let make = λ (j : ℕ) (job : Job). when (is_install job.action && job.forcebest) (best_job_rule j (best catalog (selection catalog job.choice))) in
+    let at : drop c.loop-number.number c.args.task.now.jobs ≡ c.job-item.result ∷ drop (c.loop-number.number + 1) c.args.task.now.jobs =
+    this_turn c.args.task.now.jobs c.loop-number.number c.job-item.result (rw c.held-job-items.ensures at c.loop-number-test.true) (rw c.held-job-items.ensures at c.job-item.is) in
+    put_stops c.puts_follow_each_other.ensures (best_job_rules (catalog_of c.args.task.now) c.args.task.now.jobs) (make c.loop-number.number c.job-item.result) (flat_map (λ (j : ℕ × Job). make j.0 j.1) (enumerate_from (c.loop-number.number + 1) (drop (c.loop-number.number + 1) c.args.task.now.jobs))) c.args.rules.now c.loop-number.rules c.add_best_job.new.rules
+    (subst (λ t. IsPut (best_job_rules (catalog_of c.args.task.now) c.args.task.now.jobs) t c.args.rules.now c.loop-number.rules) (job_turn make c.args.task.now.jobs c.loop-number.number c.job-item.result at) c.loop-number.invariant) c.in-Err.ensures
+
+pub loop-number-preserved : goal.loop-number-preserved
+loop-number-preserved c =
+    let catalog = catalog_of c.args.task.now in
+    let make = λ (j : ℕ) (job : Job). when (is_install job.action && job.forcebest) (best_job_rule j (best catalog (selection catalog job.choice))) in
+    let at : drop c.loop-number.number c.args.task.now.jobs ≡ c.job-item.result ∷ drop (c.loop-number.number + 1) c.args.task.now.jobs =
+    this_turn c.args.task.now.jobs c.loop-number.number c.job-item.result (rw c.held-job-items.ensures at c.loop-number-test.true) (rw c.held-job-items.ensures at c.job-item.is) in
+    put_next c.puts_follow_each_other.ensures (best_job_rules (catalog_of c.args.task.now) c.args.task.now.jobs) (make c.loop-number.number c.job-item.result) (flat_map (λ (j : ℕ × Job). make j.0 j.1) (enumerate_from (c.loop-number.number + 1) (drop (c.loop-number.number + 1) c.args.task.now.jobs))) c.args.rules.now c.loop-number.rules c.add_best_job.new.rules
+    (subst (λ t. IsPut (best_job_rules (catalog_of c.args.task.now) c.args.task.now.jobs) t c.args.rules.now c.loop-number.rules) (job_turn make c.args.task.now.jobs c.loop-number.number c.job-item.result at) c.loop-number.invariant) c.in-Ok.ensures
