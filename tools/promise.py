@@ -16,7 +16,7 @@ import re
 import sys
 
 # crates that hold nothing but examples and tests
-EXAMPLES = ("solv_rows", "solv_cases")
+EXAMPLES = ("solv_worked", "solv_call_tests")
 ROOT = pathlib.Path(__file__).resolve().parent.parent
 WORD = re.compile(r"[^\s(){}\[\],;]+")
 USE = re.compile(r"^(\s*)(?:pub )?(?:ghost )?use Rattle\.([^\s{]+?)(?:\.\{(.*)\})?(?: as (\S+?))?;?$")

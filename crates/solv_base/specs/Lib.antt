@@ -5,5 +5,4 @@ pub mod Dependency
 pub mod Places
 pub mod Pool
 pub mod RelationLaws
-pub mod Examples
 pub mod Inner

@@ -5,8 +5,7 @@
 //! - [`evr_compare`], [`evr_split`], [`evr_meets`]: the order of versions, the parts of an EVR, and when a provided
 //!   version meets a wanted one. [`Cmp`] is a comparison.
 //! - Laws, each the contract of a function that does nothing: [`evr_order_is_total`], [`matching_follows_the_order`],
-//!   [`reading_ends`]; and examples on which the definitions are evaluated: [`version_rows`], [`trees_of_relations`],
-//!   [`ids_of_names`].
+//!   [`reading_ends`].
 #![tactic(auto)]
 
 mod comparison;
@@ -14,12 +13,11 @@ mod interning;
 mod relation;
 mod relation_laws;
 mod version;
-pub mod version_rows;
 
 pub use comparison::Cmp;
 pub use interning::{Pool, PoolFault};
 pub use relation::{DepId, DepNode, NameId};
-pub use relation_laws::{ids_of_names, reading_ends, trees_of_relations};
+pub use relation_laws::reading_ends;
 pub use version::{
     Evr, evr_compare, evr_meets, evr_order_is_total, evr_split, matching_follows_the_order,
 };

@@ -8,8 +8,6 @@
 //! - [`read_priority`]: the number that a priority is.
 //! - [`Cause`]: why a line of a script is refused, here or by the layers above.
 //! - [`not_built_is_late`]: the law that only forms which come late are not built.
-//! - Examples on which the definitions are evaluated: [`repo_lines`], [`system_lines`], [`other_lines`], [`result_lines`],
-//!   [`job_lines`], [`other_actions`], [`job_flags`], [`selections`], [`solver_flags`], [`unknown_lines`], [`priorities_of_words`].
 #![tactic(auto)]
 
 mod causes;
@@ -21,7 +19,6 @@ mod job_words;
 mod laws;
 mod other_words;
 mod priorities;
-mod rows;
 mod words_of_lines;
 
 pub use causes::Cause;
@@ -30,8 +27,4 @@ pub use commas::cut_at_comma;
 pub use flags_of_solver::set_flags;
 pub use laws::not_built_is_late;
 pub use priorities::read_priority;
-pub use rows::{
-    job_flags, job_lines, other_actions, other_lines, priorities_of_words, repo_lines,
-    result_lines, selections, solver_flags, system_lines, unknown_lines,
-};
 pub use words_of_lines::{append_joined, line_words};

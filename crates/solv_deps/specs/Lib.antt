@@ -6,4 +6,3 @@ pub mod Reading
 pub mod Canonical
 pub mod Laws
 pub mod Inner
-pub mod Examples

@@ -10,8 +10,7 @@
 //! - [`enter_text`]: a text that is no dependency, entered with the same causes.
 //! - [`comparison_of`], [`is_namespace_name`]: what a word of such a text is.
 //! - Laws, each the contract of a function that does nothing: [`written_is_read`], [`read_is_written`], [`read_has_few_operators`],
-//!   [`printed_is_read_again`], [`printed_is_the_same`], [`held_is_entered`]; and examples on which the definitions are evaluated:
-//!   [`words_of_texts`], [`comparisons`], [`texts_at_places`], [`rich_texts`], [`rich_causes`], [`limits_of_texts`].
+//!   [`printed_is_read_again`], [`printed_is_the_same`], [`held_is_entered`].
 #![tactic(auto)]
 
 mod dependency;
@@ -24,7 +23,6 @@ mod outer;
 mod place;
 mod printing;
 mod reading;
-mod rows;
 mod sign;
 mod single;
 
@@ -36,7 +34,4 @@ pub use laws::{
 };
 pub use place::Place;
 pub use printing::dep_text;
-pub use rows::{
-    comparisons, limits_of_texts, rich_causes, rich_texts, texts_at_places, words_of_texts,
-};
 pub use sign::{comparison_of, is_namespace_name};

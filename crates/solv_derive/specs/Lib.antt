@@ -3,5 +3,4 @@ pub mod Logs
 pub mod Leaves
 pub mod Range
 pub mod Laws
-pub mod Examples
 pub mod Inner

@@ -15,7 +15,6 @@
 #![tactic(auto)]
 
 mod checker;
-pub mod examples;
 pub mod laws;
 mod logs;
 mod marks;

@@ -8,8 +8,7 @@
 //! - [`MemFiles`], [`AllFiles`], [`MemSink`], [`PlainSink`]: files and sinks in memory.
 //! - [`RealFiles`], [`RealSink`]: the adapters over std's files and writers. They are the trusted edge.
 //! - [`lines`]: the numbered lines of a text; [`split_line`]: its first line; [`split_word`]: the first word of a line; [`is_blank`]: what separates words.
-//! - [`lines_are_read_again`]: what a line is, as a law. [`lines_by_example`], [`words_by_example`],
-//!   [`files_by_example`] and [`counters_by_example`]: the definitions on examples.
+//! - [`lines_are_read_again`]: what a line is, as a law.
 //! - [`Status`]: how a program ends.
 #![tactic(auto)]
 
@@ -28,11 +27,11 @@ mod writing;
 pub use adapters::{RealFiles, RealSink};
 pub use faults::{FileFault, SinkFault};
 pub use fetching::Files;
-pub use laws::{counters_by_example, files_by_example, lines_are_read_again, lines_by_example};
+pub use laws::lines_are_read_again;
 pub use line_walk::{Lines, split_line};
 pub use mem_files::{AllFiles, MemFiles};
 pub use mem_sinks::{MemSink, PlainSink};
 pub use status::Status;
 pub use text_lines::lines;
-pub use words::{is_blank, split_word, words_by_example};
+pub use words::{is_blank, split_word};
 pub use writing::{Sink, put};

@@ -50,10 +50,3 @@ pub fn split_word(line: &[u8]) -> Option<(&[u8], &[u8])>
     let n = word_len(line);
     Some((&line[..n], &line[n..]))
 }
-
-/// Words of a few lines.
-pub fn words_by_example()
-    ensures two { words_of (codes " ab\tc \r") ≡ codes "ab" ∷ codes "c" ∷ [] }
-    ensures none { words_of (codes " \t") ≡ [] }
-    ensures one { words_of (codes "lib(x)") ≡ codes "lib(x)" ∷ [] }
-{}

@@ -23,10 +23,8 @@ mod merging;
 mod namespaces;
 mod obsoletions;
 mod parts;
-mod provider_rows;
 mod providers;
 mod provides;
 
 pub use parts::{Parts, parts_of};
-pub use provider_rows::{rows_of_joined_providers, rows_of_providers};
 pub use providers::Providers;

@@ -20,7 +20,6 @@
 mod collecting;
 mod conflicts;
 mod dropping;
-pub mod examples;
 pub mod finding;
 mod giving_back;
 pub mod laws;

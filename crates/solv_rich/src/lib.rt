@@ -19,7 +19,6 @@
 #![tactic(auto)]
 
 mod appending;
-mod clause_rows;
 mod counting;
 mod expanding;
 mod expansion;
@@ -31,6 +30,5 @@ mod relations;
 mod shortening;
 mod singles;
 
-pub use clause_rows::rows_of_clauses;
 pub use counting::{clause_count, clauses};
 pub use fault::RichFault;

@@ -10,4 +10,3 @@ pub mod ScriptsOf
 pub mod FileRuns
 pub mod LateLines
 pub mod Inner
-pub mod Examples

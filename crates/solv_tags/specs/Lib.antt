@@ -3,4 +3,3 @@ pub mod Entries
 pub mod Testtags
 pub mod EntryForms
 pub mod Inner
-pub mod Examples

@@ -4,4 +4,3 @@ pub mod Moving
 pub mod Edges
 pub mod Orders
 pub mod Inner
-pub mod Examples

@@ -11,7 +11,6 @@
 //! by its parts.
 #![tactic(auto)]
 
-mod change_rows;
 mod comparing;
 mod counting;
 mod edges;
@@ -22,7 +21,6 @@ mod moving;
 mod ordering;
 mod transactions;
 
-pub use change_rows::rows_of_changes;
 pub use kinds::Change;
 pub use ordering::{Ordered, order};
 pub use transactions::transaction;

@@ -1,3 +1,0 @@
--- Examples that are computed.
-pub mod Readings
-pub mod ScriptExamples

@@ -1,0 +1,49 @@
+//! The program `solv_script_tests`: runs the scripts that its arguments name, each as `testsolv -r` does, those of the folder `expected` as `testsolv` does, and
+//! says what status each ended with. What is printed for the scripts of `data/` is compared with the file `stdout`.
+#![tactic(auto)]
+
+use solv_io::{RealFiles, RealSink};
+use solv_run::run;
+use std::alloc::{AllocError, Global};
+use std::{env, io};
+
+/// Whether a script is run without `-r`.
+fn is_compared(name: &str) -> bool {
+    name.starts_with("expected/")
+}
+
+/// The words of a command line that runs a script.
+fn command_line(alloc: Global, name: &str) -> Result<Vec<String>, AllocError> {
+    let mut words = Vec::new(alloc);
+    words.push(String::from_str(alloc, "testsolv")?)?;
+    if !is_compared(name) {
+        words.push(String::from_str(alloc, "-r")?)?;
+    }
+    words.push(String::from_str(alloc, name)?)?;
+    Ok(words)
+}
+
+/// Runs a script, with both of its streams on standard output.
+fn run_script(rt: &HostRuntime, name: &str) -> io::Result<()> {
+    println!(rt; "== {name}")?;
+    let words = command_line(rt.alloc(), name)?;
+    let mut files = RealFiles { rt, faults: 0 };
+    let mut out = RealSink {
+        to: rt.stdout(),
+        faults: 0,
+    };
+    let mut err = RealSink {
+        to: rt.stdout(),
+        faults: 0,
+    };
+    let report = run(rt.alloc(), &words, &mut files, &mut out, &mut err)?;
+    println!(rt; "status {}", report.status.number())
+}
+
+fn main(rt: HostRuntime) -> io::Result<()> {
+    let words: Vec<String> = env::args(&rt)?.collect(rt.alloc())?;
+    for name in words.iter().skip(1) {
+        run_script(&rt, name.as_str())?;
+    }
+    Ok(())
+}

@@ -1,0 +1,13 @@
+pub mod Making
+pub mod Reading
+pub mod Tasks
+pub mod Comparisons
+pub mod Derivations
+pub mod Providers
+pub mod Changes
+pub mod Choices
+pub mod DependencyTexts
+pub mod Testtags
+pub mod Commands
+pub mod Scripts
+pub mod Lines
