@@ -1,5 +1,4 @@
 pub mod Counters
-pub mod Fetches
 pub mod Writes
 pub mod Lines
 pub mod Words

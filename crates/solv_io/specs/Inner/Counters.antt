@@ -1,6 +1,15 @@
 -- How calls of the outside end, and what counts them.
-use Rattle.std.specs.Prelude.{ℕ, ◌≡◌, Bool, true, false, ⊤}
-use Rattle.solv_io.specs.Counters.{counted, Rose}
+use Rattle.std.specs.Prelude.{ℕ, ◌≡◌, ◌+◌, ◌==◌, min, Bool, true, false, List, ⊤}
+use Rattle.std.specs.List.{list_any}
+use Rattle.solv_io.specs.Counters.{last, Rose}
+
+-- a counter after one more
+abbrev pub counted : ℕ → ℕ
+counted n = min (n + 1) last
+
+-- the next call is one of those, by their numbers from 1, that are to fail
+abbrev pub next_fails : List ℕ → ℕ → Bool
+next_fails fails calls = list_any (λ number. number == counted calls) fails
 
 -- how a call of the outside ends: with its answer, with a failure, or without memory
 pub data Ending : Type 0 where

@@ -1,6 +1,8 @@
 -- What a call that fetches a file does.
 use Rattle.std.specs.Prelude.{ℕ, ◌≡◌, ◌≤◌, List, [], ◌∷◌, ◌++◌, length, Option, Result, Ok, Err}
-use Rattle.std.specs.Option.{option_map}
+use Rattle.std.specs.Option.{option_map, unwrap_or}
+use Rattle.std.specs.Str.{bytes_eq}
+use Rattle.std.specs.Map.{lookup}
 use Rattle.solv_io.specs.declared.faults.FileFault.{FileFault}
 use Rattle.solv_io.specs.declared.faults.FileFault.TheVariants.{Failed, Memory}
 use Rattle.solv_io.specs.Inner.Counters.{Ending, Answered, Failing, NoMemory}
@@ -28,3 +30,11 @@ asked_after ending asked name = option_map (λ names. names_after ending names n
 -- some bytes were put at the end, at most so many
 abbrev pub AppendsUpTo : ℕ → List ℕ → List ℕ → Type 0
 AppendsUpTo most old new = (piece : List ℕ) × (length piece ≤ most) × (new ≡ old ++ piece)
+
+-- the bytes of the first file with this name
+abbrev pub file_of : List (List ℕ × List ℕ) → List ℕ → Option (List ℕ)
+file_of files name = lookup (bytes_eq name) files
+
+-- the same, where a name that is not held has an empty file
+abbrev pub file_or_empty : List (List ℕ × List ℕ) → List ℕ → List ℕ
+file_or_empty files name = unwrap_or (file_of files name) []

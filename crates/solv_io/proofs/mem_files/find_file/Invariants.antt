@@ -1,5 +1,5 @@
 use Rattle.std.proofs.Common.{◌≡◌, drop}
-use Rattle.solv_io.specs.Fetches.{file_of}
+use Rattle.solv_io.specs.Inner.Fetches.{file_of}
 use Rattle.solv_io.proofs.mem_files.find_file.Given as goal
 
 abbrev pub invariant-loop-held_name : goal.invariant-loop-held_name
