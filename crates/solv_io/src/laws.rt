@@ -1,4 +1,4 @@
-ghost use Rattle.std.specs.Prelude.{ℕ, ◌≡◌, List, ◌∷◌, ◌++◌, ◌<◌, length, All};
+ghost use Rattle.std.specs.Prelude.{ℕ, ◌≡◌, List, [], ◌∷◌, ◌++◌, ◌<◌, length, All};
 ghost use Rattle.solv_io.specs.Lines.{lines_of, ended_lines, IsLine};
 
 /// Lines that are written out are read again: where a line feed ends each of them, and where the last has none and is
