@@ -7,7 +7,7 @@ use Rattle.solv_base.specs.Dependency.{Dep, one, namespace, and, or, with, witho
 use Rattle.solv_pool.specs.declared.packages.Package.{Package}
 use Rattle.solv_pool.specs.declared.jobs.Job.{Job}
 use Rattle.solv_pool.specs.declared.jobs.Action.{Action}
-use Rattle.solv_pool.specs.declared.jobs.Action.TheVariants.{Install, Erase, Update, Lock, Verify, Multiversion, AllowUninstall, Favor, Disfavor, Noop}
+use Rattle.solv_pool.specs.declared.jobs.Action.TheVariants.{Install, Erase, Lock}
 use Rattle.solv_pool.specs.declared.job_marks.Marks.{Marks}
 use Rattle.solv_pool.specs.declared.tasks.Flags.{Flags}
 use Rattle.solv_pool.specs.declared.tasks.Task.{Task}
@@ -17,10 +17,10 @@ use Rattle.solv_pool.specs.Holding.{package_meets, member_meets, holds, leaving_
 use Rattle.solv_pool.specs.Installable.{is_installable}
 use Rattle.solv_pool.specs.JobMarks.{marks_of, is_install, is_update}
 use Rattle.solv_pool.specs.Selections.{selection}
-use Rattle.solv_pool.specs.RuleMeaning.{HardRule, not_installable, req, con, rich_con, obs, same, infarch, update, feature, install, erase, lock, best_job, best_update, is_fixed, meets_rule}
+use Rattle.solv_pool.specs.RuleMeaning.{HardRule, not_installable, req, con, rich_con, obs, same, infarch, update, feature, Shape, out, requirement, conflict, not_both, some_of, none_of, as_installed, shape_of, meets_shape, is_fixed, meets_rule}
 use Rattle.solv_pool.specs.Best.{best}
 use Rattle.solv_pool.specs.HardRules.{not_installable_rules, counted_requirements, requirement_rules, package_wise_conflicts, is_conflicting, conflicting, conflict_rules, counted_rich_conflicts, rich_conflict_rules, obsoleted, obsoletion_rules, later_namesakes, same_name_rules, rules_asked_by, rules_of_package, package_rules, inferior_packages, infarch_rules, is_kept, kept_packages, has_update_rule, update_rules, feature_rules, update_candidates, feature_candidates, numbered_jobs, rule_of_job, job_rules, best_job_rule, best_job_rules, selected_installed, best_update_rule, best_update_rules, hard_rules_by, hard_rules}
-use Rattle.solv_pool.specs.Laws.{names_packages, system_alone, AgreeOn}
+use Rattle.solv_pool.specs.Laws.{shape_names, names_besides, names_packages, system_alone, AgreeOn}
 use Rattle.solv_pool.proofs.Tests.{ap2}
 use Rattle.solv_pool.proofs.Lists.{list_all_made, join_six, list_all_flat, list_all_when, list_all_option, among_itself, passes_in, list_any_agree, list_all_agree, zero_not_among}
 use Rattle.solv_list.proofs.Booleans.{and_true, first_of_both, second_of_both}
@@ -50,6 +50,9 @@ module _ (catalog : Catalog) where
   abbrev named : HardRule → Bool
   named r = names_packages catalog r
 
+  two_named : (p q : ℕ) → is_package p ≡ true → is_package q ≡ true → (is_package q && (is_package p && is_member q)) ≡ true
+  two_named p q h k = and_from (is_package q) (is_package p && is_member q) k (and_from (is_package p) (is_member q) h (package-member q k))
+
   module _ (marks : Marks) where
     requirements-named : (p : ℕ) (a : Package) → is_package p ≡ true → list_all named (requirement_rules catalog marks p a) ≡ true
     requirements-named p a h = list_all_map named (λ need. req p need.dep) (λ _. h) (counted_requirements catalog marks p a)
@@ -66,11 +69,11 @@ module _ (catalog : Catalog) where
     obsoletions-named : (p : ℕ) (a : Package) → is_package p ≡ true → list_all named (obsoletion_rules catalog marks p a) ≡ true
     obsoletions-named p a h =
         flat_each named (λ d. map (obs p d) (obsoleted catalog marks p d)) (λ d.
-        list_all_made is_package named (obs p d) (λ q k. and_from (is_package p) (is_package q) h k) (obsoleted catalog marks p d) (filtered _))
+        list_all_made is_package named (obs p d) (λ q k. two_named p q h k) (obsoleted catalog marks p d) (filtered _))
         a.obsoletes
 
     same_name-named : (p : ℕ) → is_package p ≡ true → list_all named (same_name_rules catalog marks p) ≡ true
-    same_name-named p h = list_all_made is_package named (same p) (λ q k. and_from (is_package p) (is_package q) h k) (later_namesakes catalog marks p) (filtered _)
+    same_name-named p h = list_all_made is_package named (same p) (λ q k. two_named p q h k) (later_namesakes catalog marks p) (filtered _)
 
     asked-named : (p : ℕ) (a : Package) → is_package p ≡ true → list_all named (rules_asked_by catalog marks p a) ≡ true
     asked-named p a h =
@@ -105,13 +108,7 @@ module _ (catalog : Catalog) where
       of_job-named j Install xs h = and_true _ ∙ h
       of_job-named j Erase xs h = and_true _ ∙ h
       of_job-named j Lock xs h = and_true _ ∙ h
-      of_job-named j Update xs h = refl
-      of_job-named j Verify xs h = refl
-      of_job-named j Multiversion xs h = refl
-      of_job-named j AllowUninstall xs h = refl
-      of_job-named j Favor xs h = refl
-      of_job-named j Disfavor xs h = refl
-      of_job-named j Noop xs h = refl
+      of_job-named j _ xs h = refl
 
       job-named : list_all named (job_rules catalog jobs) ≡ true
       job-named = flat_each named (λ job. rule_of_job job.0 job.1.action (selection catalog job.1.choice)) (λ job. of_job-named job.0 job.1.action (selection catalog job.1.choice) (filtered _)) (numbered_jobs jobs)
@@ -157,37 +154,29 @@ not_alone catalog zero h = absurd (clash (zero_not_among 1 (length catalog.unive
     clash f t = cc
 not_alone catalog (suc k) h = successor_not_zero k
 
+-- a shape without a list
+abbrev has_no_list : Shape → Bool
+has_no_list (some_of xs) = false
+has_no_list (none_of xs) = false
+has_no_list (as_installed xs) = false
+has_no_list _ = true
+
+-- the system alone meets it, where it names packages
+alone-fits : (catalog : Catalog) (s : Shape) → shape_names catalog s ≡ true → has_no_list s ≡ true → meets_shape catalog s system_alone ≡ true
+alone-fits catalog (out p) n f = ap not (not_alone catalog p n)
+alone-fits catalog (requirement p d) n f = rw (not_alone catalog p n) refl
+alone-fits catalog (conflict p d) n f = rw (not_alone catalog p n) refl
+alone-fits catalog (not_both p q) n f = rw (not_alone catalog p (first_of_both _ _ n)) refl
+alone-fits catalog _ n f = cc
+
+-- a fixed rule has none
+fixed-without : (r : HardRule) → is_fixed r ≡ true → has_no_list (shape_of r) ≡ true
+fixed-without (infarch p) f = refl
+fixed-without _ f = f
+
 -- the system alone meets a fixed rule that names packages
 pub alone-meets : (catalog : Catalog) (r : HardRule) → names_packages catalog r ≡ true → is_fixed r ≡ true → meets_rule catalog r system_alone ≡ true
-alone-meets catalog (not_installable p) n f = ap not (not_alone catalog p n)
-alone-meets catalog (req p d) n f = out _ _ (not_alone catalog p n)
-  where
-    out : (a b : Bool) → a ≡ false → (not a || b) ≡ true
-    out a b h = rw h
-alone-meets catalog (rich_con p d) n f = out _ _ (not_alone catalog p n)
-  where
-    out : (a b : Bool) → a ≡ false → (not a || b) ≡ true
-    out a b h = rw h
-alone-meets catalog (con p d q) n f = pair _ _ (not_alone catalog p (first_of_both _ _ n))
-  where
-    pair : (a b : Bool) → a ≡ false → not (a && b) ≡ true
-    pair a b h = rw h
-alone-meets catalog (obs p d q) n f = pair _ _ (not_alone catalog p (first_of_both _ _ n))
-  where
-    pair : (a b : Bool) → a ≡ false → not (a && b) ≡ true
-    pair a b h = rw h
-alone-meets catalog (same p q) n f = pair _ _ (not_alone catalog p (first_of_both _ _ n))
-  where
-    pair : (a b : Bool) → a ≡ false → not (a && b) ≡ true
-    pair a b h = rw h
-alone-meets catalog (infarch p) n f = cc
-alone-meets catalog (update p xs) n f = cc
-alone-meets catalog (feature p xs) n f = cc
-alone-meets catalog (install j xs) n f = cc
-alone-meets catalog (erase j xs) n f = cc
-alone-meets catalog (lock j xs) n f = cc
-alone-meets catalog (best_job j xs) n f = cc
-alone-meets catalog (best_update j p xs) n f = cc
+alone-meets catalog r n f = alone-fits catalog (shape_of r) (second_of_both (names_besides catalog r) _ n) (fixed-without r f)
 
 module _ (catalog : Catalog) where
   -- a dependency holds alike in sets that agree on the members
@@ -211,20 +200,17 @@ module _ (catalog : Catalog) where
       go (unless_else a b c) = rw (go a, go b, go c)
       go missing = refl
 
-  -- and a rule that names packages is met alike
-  pub meets-agree : (s t : ℕ → Bool) (r : HardRule) → AgreeOn (members catalog) s t → names_packages catalog r ≡ true → meets_rule catalog r s ≡ meets_rule catalog r t
-  meets-agree s t (not_installable p) h n = ap not (h p (package-member catalog p n))
-  meets-agree s t (infarch p) h n = ap not (h p (package-member catalog p n))
-  meets-agree s t (req p d) h n = ap2 (λ m k. not m || k) (h p (package-member catalog p n)) (holds-agree s t h (dependency catalog d))
-  meets-agree s t (rich_con p d) h n = ap2 (λ m k. not m || not k) (h p (package-member catalog p n))
+  -- a shape that names packages is met alike
+  shapes-agree : (s t : ℕ → Bool) (x : Shape) → AgreeOn (members catalog) s t → shape_names catalog x ≡ true → meets_shape catalog x s ≡ meets_shape catalog x t
+  shapes-agree s t (out p) h n = ap not (h p (package-member catalog p n))
+  shapes-agree s t (requirement p d) h n = ap2 (λ m k. not m || k) (h p (package-member catalog p n)) (holds-agree s t h (dependency catalog d))
+  shapes-agree s t (conflict p d) h n = ap2 (λ m k. not m || not k) (h p (package-member catalog p n))
       (holds-agree (leaving_out (Some p) s) (leaving_out (Some p) t) (λ q k. ap (λ b. not (q == p) && b) (h q k)) (dependency catalog d))
-  meets-agree s t (con p d q) h n = ap2 (λ m k. not (m && k)) (h p (package-member catalog p (first_of_both _ _ n))) (h q (second_of_both _ _ n))
-  meets-agree s t (obs p d q) h n = ap2 (λ m k. not (m && k)) (h p (package-member catalog p (first_of_both _ _ n))) (h q (package-member catalog q (second_of_both _ _ n)))
-  meets-agree s t (same p q) h n = ap2 (λ m k. not (m && k)) (h p (package-member catalog p (first_of_both _ _ n))) (h q (package-member catalog q (second_of_both _ _ n)))
-  meets-agree s t (update p xs) h n = list_any_agree (is_package catalog) s t (λ q k. h q (package-member catalog q k)) xs (second_of_both _ _ n)
-  meets-agree s t (feature p xs) h n = list_any_agree (is_package catalog) s t (λ q k. h q (package-member catalog q k)) xs (second_of_both _ _ n)
-  meets-agree s t (install j xs) h n = list_any_agree (is_package catalog) s t (λ q k. h q (package-member catalog q k)) xs n
-  meets-agree s t (erase j xs) h n = ap not (list_any_agree (is_package catalog) s t (λ q k. h q (package-member catalog q k)) xs n)
-  meets-agree s t (lock j xs) h n = list_all_agree (is_package catalog) _ _ (λ q k. ap (λ b. beq b (is_installed catalog q)) (h q (package-member catalog q k))) xs n
-  meets-agree s t (best_job j xs) h n = list_any_agree (is_package catalog) s t (λ q k. h q (package-member catalog q k)) xs n
-  meets-agree s t (best_update j p xs) h n = list_any_agree (is_package catalog) s t (λ q k. h q (package-member catalog q k)) xs (second_of_both _ _ n)
+  shapes-agree s t (not_both p q) h n = ap2 (λ m k. not (m && k)) (h p (package-member catalog p (first_of_both _ _ n))) (h q (second_of_both _ _ n))
+  shapes-agree s t (some_of xs) h n = list_any_agree (is_package catalog) s t (λ q k. h q (package-member catalog q k)) xs n
+  shapes-agree s t (none_of xs) h n = ap not (list_any_agree (is_package catalog) s t (λ q k. h q (package-member catalog q k)) xs n)
+  shapes-agree s t (as_installed xs) h n = list_all_agree (is_package catalog) _ _ (λ q k. ap (λ b. beq b (is_installed catalog q)) (h q (package-member catalog q k))) xs n
+
+  -- and so is a rule
+  pub meets-agree : (s t : ℕ → Bool) (r : HardRule) → AgreeOn (members catalog) s t → names_packages catalog r ≡ true → meets_rule catalog r s ≡ meets_rule catalog r t
+  meets-agree s t r h n = shapes-agree s t (shape_of r) h (second_of_both (names_besides catalog r) _ n)

@@ -1,15 +1,14 @@
 -- The hard rules of a task whose dependencies have forms for their places are well placed.
-use Rattle.std.proofs.Common.{◌≡◌, ℕ, zero, suc, Bool, true, false, not, ◌&&◌, List, [], ◌∷◌, ◌++◌, map, Option, Some, None, refl, ◌∙◌}
+use Rattle.std.proofs.Common.{◌≡◌, ℕ, zero, suc, Bool, true, false, not, ◌&&◌, List, [], ◌∷◌, ◌++◌, map, Option, Some, None, refl}
 use Rattle.std.specs.Prelude.{filter, Contains, nat_le}
 use Rattle.std.specs.Option.{option_map_or}
 use Rattle.std.specs.List.{list_all}
 use Rattle.solv_base.specs.Dependency.{operators, package_wise}
 use Rattle.solv_base.specs.Places.{fits_place}
 use Rattle.solv_pool.specs.declared.packages.Package.{Package}
-use Rattle.solv_pool.specs.declared.packages.Need.{Need}
 use Rattle.solv_pool.specs.declared.jobs.Job.{Job}
 use Rattle.solv_pool.specs.declared.jobs.Action.{Action}
-use Rattle.solv_pool.specs.declared.jobs.Action.TheVariants.{Install, Erase, Update, Lock, Verify, Multiversion, AllowUninstall, Favor, Disfavor, Noop}
+use Rattle.solv_pool.specs.declared.jobs.Action.TheVariants.{Install}
 use Rattle.solv_pool.specs.declared.job_marks.Marks.{Marks}
 use Rattle.solv_pool.specs.declared.tasks.Flags.{Flags}
 use Rattle.solv_pool.specs.declared.tasks.Task.{Task}
@@ -19,50 +18,20 @@ use Rattle.solv_pool.specs.Installable.{is_installable}
 use Rattle.solv_pool.specs.JobMarks.{marks_of, is_install, is_update}
 use Rattle.solv_pool.specs.Selections.{selection}
 use Rattle.solv_pool.specs.Counting.{requirement_counts, rich_conflict_counts}
-use Rattle.solv_pool.specs.RuleMeaning.{HardRule, not_installable, req, con, rich_con, obs, same, infarch, update, feature, install, erase, lock, best_job, best_update, meets_rule}
+use Rattle.solv_pool.specs.RuleMeaning.{HardRule, not_installable, req, con, rich_con, obs, same, infarch, update, feature, shape_of, meets_rule}
 use Rattle.solv_pool.specs.Best.{best}
 use Rattle.solv_pool.specs.Clauses.{rule_clauses, all_true}
 use Rattle.solv_pool.specs.HardRules.{not_installable_rules, counted_requirements, requirement_rules, package_wise_conflicts, conflicting, conflict_rules, counted_rich_conflicts, rich_conflict_rules, obsoleted, obsoletion_rules, later_namesakes, same_name_rules, rules_asked_by, rules_of_package, package_rules, inferior_packages, infarch_rules, kept_packages, has_update_rule, update_rules, feature_rules, update_candidates, feature_candidates, numbered_jobs, rule_of_job, job_rules, best_job_rule, best_job_rules, selected_installed, best_update_rule, best_update_rules, hard_rules_by, hard_rules}
-use Rattle.solv_pool.specs.Laws.{IsWellPlaced}
-use Rattle.solv_pool.specs.TaskForms.{HasForms, has_form, is_plain_form, is_formed}
+use Rattle.solv_pool.specs.Laws.{shape_fits, IsWellPlaced}
+use Rattle.solv_pool.specs.TaskForms.{HasForms, has_form, is_formed}
 use Rattle.solv_pool.proofs.Lists.{list_all_made, join_six, list_all_when, passes_in}
 use Rattle.solv_pool.proofs.RuleClauses.{rule_clauses-true}
 use Rattle.solv_list.proofs.Booleans.{first_of_both, second_of_both}
 use Rattle.solv_list.proofs.Lists.{all_at, list_all_filter, list_all_flat, list_all_join, list_all_map}
 
 module _ (catalog : Catalog) where
-  -- the same test as a Boolean
   abbrev placed : HardRule → Bool
-  placed (req p d) = fits_place true (dependency catalog d)
-  placed (rich_con p d) = fits_place false (dependency catalog d)
-  placed (not_installable p) = true
-  placed (con p d q) = true
-  placed (obs p d q) = true
-  placed (same p q) = true
-  placed (infarch p) = true
-  placed (update p xs) = true
-  placed (feature p xs) = true
-  placed (install j xs) = true
-  placed (erase j xs) = true
-  placed (lock j xs) = true
-  placed (best_job j xs) = true
-  placed (best_update j p xs) = true
-
-  well_placed : (r : HardRule) → placed r ≡ true → IsWellPlaced catalog r
-  well_placed (req p d) h = h
-  well_placed (rich_con p d) h = h
-  well_placed (not_installable p) h = tt
-  well_placed (con p d q) h = tt
-  well_placed (obs p d q) h = tt
-  well_placed (same p q) h = tt
-  well_placed (infarch p) h = tt
-  well_placed (update p xs) h = tt
-  well_placed (feature p xs) h = tt
-  well_placed (install j xs) h = tt
-  well_placed (erase j xs) h = tt
-  well_placed (lock j xs) h = tt
-  well_placed (best_job j xs) h = tt
-  well_placed (best_update j p xs) h = tt
+  placed r = shape_fits catalog (shape_of r)
 
   module _ (marks : Marks) where
     requirements-placed : (p : ℕ) (a : Package) → is_formed catalog a ≡ true → list_all placed (requirement_rules catalog marks p a) ≡ true
@@ -123,15 +92,7 @@ module _ (catalog : Catalog) where
 
     of_job-placed : (j : ℕ) (action : Action) (xs : List ℕ) → list_all placed (rule_of_job j action xs) ≡ true
     of_job-placed j Install xs = refl
-    of_job-placed j Erase xs = refl
-    of_job-placed j Lock xs = refl
-    of_job-placed j Update xs = refl
-    of_job-placed j Verify xs = refl
-    of_job-placed j Multiversion xs = refl
-    of_job-placed j AllowUninstall xs = refl
-    of_job-placed j Favor xs = refl
-    of_job-placed j Disfavor xs = refl
-    of_job-placed j Noop xs = refl
+    of_job-placed j _ xs = refl
 
     job-placed : list_all placed (job_rules catalog jobs) ≡ true
     job-placed = list_all_flat placed (λ job. rule_of_job job.0 job.1.action (selection catalog job.1.choice)) (λ job. of_job-placed job.0 job.1.action (selection catalog job.1.choice)) (numbered_jobs jobs)
@@ -166,8 +127,7 @@ module _ (catalog : Catalog) where
 -- each hard rule of a task with such forms is well placed
 pub hard_rule-placed : (task : Task) (r : HardRule) → HasForms task → Contains (hard_rules task) r → IsWellPlaced (catalog_of task) r
 hard_rule-placed task r forms at =
-    well_placed (catalog_of task) r
-    (passes_in (placed (catalog_of task)) (hard_rules task) r (hard_rules-placed (catalog_of task) task.flags (marks_of task) task.jobs forms.packages) at)
+    passes_in (placed (catalog_of task)) (hard_rules task) r (hard_rules-placed (catalog_of task) task.flags (marks_of task) task.jobs forms.packages) at
 
 -- so its clauses say what it says
 pub hard_rule-clauses : (task : Task) (set : ℕ → Bool) (r : HardRule) → HasForms task → set 0 ≡ true → Contains (hard_rules task) r

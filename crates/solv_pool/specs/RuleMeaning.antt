@@ -50,24 +50,44 @@ is_fixed (obs p d q) = true
 is_fixed (same p q) = true
 is_fixed _ = false
 
+-- what a rule asks of a set of packages; the reason for it is the rule's
+pub data Shape : Type 0 where
+  out : ℕ → Shape
+  requirement conflict not_both : ℕ → ℕ → Shape
+  some_of none_of as_installed : List ℕ → Shape
+
+-- the shape of each kind
+abbrev pub shape_of : HardRule → Shape
+shape_of (not_installable p) = out p
+shape_of (req p d) = requirement p d
+shape_of (con p d q) = not_both p q
+shape_of (rich_con p d) = conflict p d
+shape_of (obs p d q) = not_both p q
+shape_of (same p q) = not_both p q
+shape_of (infarch p) = out p
+shape_of (update p xs) = some_of xs
+shape_of (feature p xs) = some_of xs
+shape_of (install j xs) = some_of xs
+shape_of (erase j xs) = none_of xs
+shape_of (lock j xs) = as_installed xs
+shape_of (best_job j xs) = some_of xs
+shape_of (best_update j p xs) = some_of xs
+
 -- the set holds some package of the list
 abbrev pub holds_some : List ℕ → (ℕ → Bool) → Bool
 holds_some xs set = list_any set xs
 
 module _ (catalog : Catalog) where
+  -- the set is as the shape says; a conflict is looked at among the other packages
+  abbrev pub meets_shape : Shape → (ℕ → Bool) → Bool
+  meets_shape (out p) set = not (set p)
+  meets_shape (requirement p d) set = not (set p) || holds catalog (dependency catalog d) set
+  meets_shape (conflict p d) set = not (set p) || not (holds catalog (dependency catalog d) (leaving_out (Some p) set))
+  meets_shape (not_both p q) set = not (set p && set q)
+  meets_shape (some_of xs) set = holds_some xs set
+  meets_shape (none_of xs) set = not (holds_some xs set)
+  meets_shape (as_installed xs) set = list_all (λ q. beq (set q) (is_installed catalog q)) xs
+
   -- the set meets the rule
   abbrev pub meets_rule : HardRule → (ℕ → Bool) → Bool
-  meets_rule (not_installable p) set = not (set p)
-  meets_rule (infarch p) set = not (set p)
-  meets_rule (req p d) set = not (set p) || holds catalog (dependency catalog d) set
-  meets_rule (con p d q) set = not (set p && set q)
-  meets_rule (obs p d q) set = not (set p && set q)
-  meets_rule (same p q) set = not (set p && set q)
-  meets_rule (rich_con p d) set = not (set p) || not (holds catalog (dependency catalog d) (leaving_out (Some p) set))
-  meets_rule (update p xs) set = holds_some xs set
-  meets_rule (feature p xs) set = holds_some xs set
-  meets_rule (install j xs) set = holds_some xs set
-  meets_rule (erase j xs) set = not (holds_some xs set)
-  meets_rule (lock j xs) set = list_all (λ q. beq (set q) (is_installed catalog q)) xs
-  meets_rule (best_job j xs) set = holds_some xs set
-  meets_rule (best_update j p xs) set = holds_some xs set
+  meets_rule r set = meets_shape (shape_of r) set

@@ -1,4 +1,4 @@
--- What holds of a rule, said of its form.
+-- What holds of a rule, said of its shape.
 use Rattle.std.proofs.Common.{◌≡◌, ◌≤◌, ◌<◌, ◌+◌, ℕ, zero, suc, Bool, true, false, ◌&&◌, ◌||◌, List, [], ◌∷◌, length, refl, arith}
 use Rattle.std.specs.Prelude.{nat_lt, nat_le, ◌==◌}
 use Rattle.std.specs.List.{list_all, range_with_len}
@@ -6,74 +6,21 @@ use Rattle.std.proofs.lemmas.Bool.Decides.{nat_tests}
 use Rattle.solv_base.specs.Places.{fits_place}
 use Rattle.solv_pool.specs.Words.{is_among}
 use Rattle.solv_pool.specs.Catalog.{Catalog, dependency, members, packages}
-use Rattle.solv_pool.specs.Clauses.{rule_clauses}
-use Rattle.solv_pool.specs.RuleMeaning.{rule_with, set_at}
-use Rattle.solv_pool.specs.declared.hard_rules.Rule.{Rule}
-use Rattle.solv_pool.specs.declared.hard_rules.Rule.TheVariants.{NotInstallable, Req, Con, RichCon, Obs, Same, Infarch, Update, Feature, Install, Erase, Lock, BestJob, BestUpdate}
-use Rattle.solv_rules.specs.Books.{is_bookable, is_held_at, rich_fault, rises}
-use Rattle.solv_rules.specs.Inner.Drafting.{form_of, form_fits, form_fault, form_numbers, is_number}
+use Rattle.solv_pool.specs.Laws.{names_besides, names_packages, shape_names}
+use Rattle.solv_pool.specs.RuleMeaning.{HardRule, shape_of}
+use Rattle.solv_rules.specs.Books.{has_form, is_bookable, is_held_at}
+use Rattle.solv_rules.specs.Inner.Drafting.{shape_is_bookable, is_number}
 use Rattle.solv_rules.proofs.Few.{among_below}
 use Rattle.solv_list.proofs.Booleans.{first_of_both, second_of_both}
 use Rattle.solv_list.proofs.Numbers.{at_most_true, same_number}
-use Rattle.std.proofs.lemmas.Bool.{and_from, or_right}
+use Rattle.std.proofs.lemmas.Bool.{and_from}
 
-pub numbers_by : (catalog : Catalog) (sets : List (List ℕ)) (rule : Rule) → form_numbers catalog sets (form_of rule) ≡ rule_clauses catalog (rule_with sets rule)
-numbers_by catalog sets (NotInstallable p) = refl
-numbers_by catalog sets (Req p d) = refl
-numbers_by catalog sets (Con p d q) = refl
-numbers_by catalog sets (RichCon p d) = refl
-numbers_by catalog sets (Obs p d q) = refl
-numbers_by catalog sets (Same p q) = refl
-numbers_by catalog sets (Infarch p) = refl
-numbers_by catalog sets (Update p s) = refl
-numbers_by catalog sets (Feature p s) = refl
-numbers_by catalog sets (Install j s) = refl
-numbers_by catalog sets (Erase j s) = refl
-numbers_by catalog sets (Lock j s) = refl
-numbers_by catalog sets (BestJob j s) = refl
-numbers_by catalog sets (BestUpdate j p s) = refl
-
-pub fault_by_form : (catalog : Catalog) (sets : List (List ℕ)) (rule : Rule) → form_fault catalog (form_of rule) ≡ rich_fault catalog (rule_with sets rule)
-fault_by_form catalog sets (NotInstallable p) = refl
-fault_by_form catalog sets (Req p d) = refl
-fault_by_form catalog sets (Con p d q) = refl
-fault_by_form catalog sets (RichCon p d) = refl
-fault_by_form catalog sets (Obs p d q) = refl
-fault_by_form catalog sets (Same p q) = refl
-fault_by_form catalog sets (Infarch p) = refl
-fault_by_form catalog sets (Update p s) = refl
-fault_by_form catalog sets (Feature p s) = refl
-fault_by_form catalog sets (Install j s) = refl
-fault_by_form catalog sets (Erase j s) = refl
-fault_by_form catalog sets (Lock j s) = refl
-fault_by_form catalog sets (BestJob j s) = refl
-fault_by_form catalog sets (BestUpdate j p s) = refl
-
-module _ (catalog : Catalog) (sets : List (List ℕ)) where
-  set_fits : (p s : ℕ) → ((is_among (packages catalog) p && list_all (is_among (packages catalog)) (set_at sets s)) && rises 1 (set_at sets s)) ≡ true → (list_all (is_among (packages catalog)) (set_at sets s) && rises 1 (set_at sets s)) ≡ true
-  set_fits p s h =
-      and_from _ _ (second_of_both (is_among (packages catalog) p) _ (first_of_both (is_among (packages catalog) p && list_all (is_among (packages catalog)) (set_at sets s)) _ h)) (second_of_both (is_among (packages catalog) p && list_all (is_among (packages catalog)) (set_at sets s)) _ h)
-
-  pair_fits : (p q : ℕ) → ((is_among (packages catalog) p && is_among (packages catalog) q) && true) ≡ true → (is_among (packages catalog) p && is_among (members catalog) q) ≡ true
-  pair_fits p q h =
-      let two = first_of_both (is_among (packages catalog) p && is_among (packages catalog) q) true h in
-      and_from _ _ (first_of_both (is_among (packages catalog) p) (is_among (packages catalog) q) two) (or_right (0 == q) (is_among (packages catalog) q) (second_of_both (is_among (packages catalog) p) (is_among (packages catalog) q) two))
-
-  pub fits_by : (rule : Rule) → is_bookable catalog (rule_with sets rule) ≡ true → form_fits catalog sets (form_of rule) ≡ true
-  fits_by (NotInstallable p) h = first_of_both (is_among (packages catalog) p) true h
-  fits_by (Req p d) h = h
-  fits_by (Con p d q) h = first_of_both (is_among (packages catalog) p && is_among (members catalog) q) true h
-  fits_by (RichCon p d) h = h
-  fits_by (Obs p d q) h = pair_fits p q h
-  fits_by (Same p q) h = pair_fits p q h
-  fits_by (Infarch p) h = first_of_both (is_among (packages catalog) p) true h
-  fits_by (Update p s) h = set_fits p s h
-  fits_by (Feature p s) h = set_fits p s h
-  fits_by (Install j s) h = h
-  fits_by (Erase j s) h = first_of_both (list_all (is_among (packages catalog)) (set_at sets s)) (rises 1 (set_at sets s)) h
-  fits_by (Lock j s) h = first_of_both (list_all (is_among (packages catalog)) (set_at sets s)) (rises 1 (set_at sets s)) h
-  fits_by (BestJob j s) h = h
-  fits_by (BestUpdate j p s) h = set_fits p s h
+-- of what a rule names, clauses speak of its shape's packages alone
+pub bookable_shape : (catalog : Catalog) (r : HardRule) → is_bookable catalog r ≡ true → shape_is_bookable catalog (shape_of r) ≡ true
+bookable_shape catalog r h =
+    and_from (shape_names catalog (shape_of r)) (has_form catalog (shape_of r))
+    (second_of_both (names_besides catalog r) (shape_names catalog (shape_of r)) (first_of_both (names_packages catalog r) (has_form catalog (shape_of r)) h))
+    (second_of_both (names_packages catalog r) (has_form catalog (shape_of r)) h)
 
 among_above : (start count p : ℕ) → is_among (range_with_len start count) p ≡ true → start ≤ p
 among_above start zero p h = cc

@@ -1,13 +1,13 @@
-//! What the clauses of a rule look like.
-ghost use Rattle.std.specs.Prelude.{◌≡◌};
-ghost use Rattle.solv_pool.specs.RuleMeaning.{set_at};
-ghost use Rattle.solv_rules.specs.Inner.Drafting.{form_of as form_by};
+//! The shape of a rule, which has a set by its place.
+ghost use Rattle.std.specs.Prelude.{ℕ, List, ◌≡◌};
+ghost use Rattle.solv_pool.specs.RuleMeaning.{rule_with, set_at, shape_of};
+ghost use Rattle.solv_rules.specs.Inner.Drafting.{shape_with};
 
 use solv_base::DepId;
 use solv_list::Items;
 use solv_pool::{PackNo, Rule, SetNo};
 
-/// What the clauses of a rule say.
+/// What a rule asks of a set of packages.
 #[derive(Clone, Copy)]
 pub(crate) enum Form {
     /// The package is out.
@@ -17,32 +17,33 @@ pub(crate) enum Form {
     /// The package is out, or the dependency does not hold among the others.
     Conflict(PackNo, DepId),
     /// One of the two is out.
-    Pair(PackNo, PackNo),
+    NotBoth(PackNo, PackNo),
     /// One of the set is in.
-    OneOf(SetNo),
-    /// Each of the set is out; or, where it is to stay, as it is installed.
-    Each(SetNo, bool),
+    SomeOf(SetNo),
+    /// Each of the set is out.
+    NoneOf(SetNo),
+    /// Each of the set is as it is installed.
+    AsInstalled(SetNo),
 }
 
 /// The form of a rule.
 pub(crate) fn form_of(rule: &Rule) -> Form
-    ensures { result ≡ form_by rule.now }
+    ensures { (sets : List (List ℕ)) → shape_with sets result ≡ shape_of (rule_with sets rule.now) }
 {
     match *rule {
-        Rule::NotInstallable(pack) => Form::Out(pack),
+        Rule::NotInstallable(pack) | Rule::Infarch(pack) => Form::Out(pack),
         Rule::Req(pack, dep) => Form::Requirement(pack, dep),
-        Rule::Con(pack, _, other) => Form::Pair(pack, other),
         Rule::RichCon(pack, dep) => Form::Conflict(pack, dep),
-        Rule::Obs(pack, _, other) => Form::Pair(pack, other),
-        Rule::Same(pack, other) => Form::Pair(pack, other),
-        Rule::Infarch(pack) => Form::Out(pack),
-        Rule::Update(_, set) => Form::OneOf(set),
-        Rule::Feature(_, set) => Form::OneOf(set),
-        Rule::Install(_, set) => Form::OneOf(set),
-        Rule::Erase(_, set) => Form::Each(set, false),
-        Rule::Lock(_, set) => Form::Each(set, true),
-        Rule::BestJob(_, set) => Form::OneOf(set),
-        Rule::BestUpdate(_, _, set) => Form::OneOf(set),
+        Rule::Con(pack, _, other) | Rule::Obs(pack, _, other) | Rule::Same(pack, other) => {
+            Form::NotBoth(pack, other)
+        }
+        Rule::Update(_, set)
+        | Rule::Feature(_, set)
+        | Rule::Install(_, set)
+        | Rule::BestJob(_, set)
+        | Rule::BestUpdate(_, _, set) => Form::SomeOf(set),
+        Rule::Erase(_, set) => Form::NoneOf(set),
+        Rule::Lock(_, set) => Form::AsInstalled(set),
     }
 }
 

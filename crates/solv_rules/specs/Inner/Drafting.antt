@@ -2,18 +2,16 @@
 use Rattle.std.specs.Prelude.{ℕ, ℤ, ◌≡◌, ◌≤◌, Bool, true, false, ◌&&◌, nat_le, nat_lt, List, [], ◌∷◌, ◌++◌, length, map, flat_map, replicate, Result, OnOk, IfErr, Option, Some, None, if◌then◌else◌}
 use Rattle.std.specs.List.{list_all}
 use Rattle.solv_pack.specs.Inner.Packing.{most_literals}
-use Rattle.solv_pool.specs.Words.{is_among}
-use Rattle.solv_pool.specs.Catalog.{Catalog, dependency, is_installed, members, packages}
-use Rattle.solv_pool.specs.Clauses.{Literal, Clause, is_in, is_out, with_package, clauses_of, clause_count, number_of, kept, in_numbers, rule_clauses, words_of_all}
-use Rattle.solv_pool.specs.RuleMeaning.{HardRule, set_at}
-use Rattle.solv_pool.specs.declared.hard_rules.Rule.{Rule}
-use Rattle.solv_pool.specs.declared.hard_rules.Rule.TheVariants.{NotInstallable, Req, Con, RichCon, Obs, Same, Infarch, Update, Feature, Install, Erase, Lock, BestJob, BestUpdate}
-use Rattle.solv_rules.specs.Books.{most_words, overrun, or_else, rich_by, rule_fault, first_fault, owners_from, spans_from, rises, is_held_at}
+use Rattle.solv_pool.specs.Catalog.{Catalog, is_installed}
+use Rattle.solv_pool.specs.Clauses.{Literal, is_in, is_out, number_of, kept, in_numbers, shape_clauses, rule_clauses, words_of_all}
+use Rattle.solv_pool.specs.Laws.{shape_names}
+use Rattle.solv_pool.specs.RuleMeaning.{HardRule, Shape, out, requirement, conflict, not_both, some_of, none_of, as_installed, set_at}
+use Rattle.solv_rules.specs.Books.{most_words, overrun, or_else, rule_fault, first_fault, owners_from, spans_from, has_form}
 use Rattle.solv_rules.specs.Inner.Books.{IsDue}
 use Rattle.solv_rules.specs.declared.drafts.Draft.{Draft}
 use Rattle.solv_rules.specs.declared.fault.BookFault.{BookFault}
 use Rattle.solv_rules.specs.declared.forms.Form.{Form}
-use Rattle.solv_rules.specs.declared.forms.Form.TheVariants.{Out, Requirement, Conflict, Pair, OneOf, Each}
+use Rattle.solv_rules.specs.declared.forms.Form.TheVariants.{Out, Requirement, Conflict, NotBoth, SomeOf, NoneOf, AsInstalled}
 
 -- its words are counted, and are not too many
 pub record IsDraft (draft : Draft) : Type 0 where
@@ -49,50 +47,23 @@ literal_by catalog stays q = if stays && is_installed catalog q then is_in q els
 abbrev pub literals_by : Catalog → Bool → List ℕ → List (List ℤ)
 literals_by catalog stays qs = map (λ q. number_of (literal_by catalog stays q) ∷ []) qs
 
--- the raw clauses of a rule by its form; a set is that at its place
-abbrev pub form_clauses : Catalog → List (List ℕ) → Form → List Clause
-form_clauses catalog sets (Out p) = (is_out p ∷ []) ∷ []
-form_clauses catalog sets (Requirement p d) = with_package p (clauses_of catalog None true (dependency catalog d))
-form_clauses catalog sets (Conflict p d) = with_package p (clauses_of catalog (Some p) false (dependency catalog d))
-form_clauses catalog sets (Pair p q) = (is_out p ∷ is_out q ∷ []) ∷ []
-form_clauses catalog sets (OneOf s) = map is_in (set_at sets s) ∷ []
-form_clauses catalog sets (Each s stays) = map (λ q. literal_by catalog stays q ∷ []) (set_at sets s)
+-- the shape of a form; a set is that at its place
+abbrev pub shape_with : List (List ℕ) → Form → Shape
+shape_with sets (Out p) = out p
+shape_with sets (Requirement p d) = requirement p d
+shape_with sets (Conflict p d) = conflict p d
+shape_with sets (NotBoth p q) = not_both p q
+shape_with sets (SomeOf s) = some_of (set_at sets s)
+shape_with sets (NoneOf s) = none_of (set_at sets s)
+shape_with sets (AsInstalled s) = as_installed (set_at sets s)
 
--- its clauses as numbers
-abbrev pub form_numbers : Catalog → List (List ℕ) → Form → List (List ℤ)
-form_numbers catalog sets form = in_numbers (kept (form_clauses catalog sets form))
+-- the clauses of a shape as numbers
+abbrev pub shape_numbers : Catalog → Shape → List (List ℤ)
+shape_numbers catalog shape = in_numbers (kept (shape_clauses catalog shape))
 
--- the fault of its dependency
-abbrev pub form_fault : Catalog → Form → Option BookFault
-form_fault catalog (Requirement p d) = rich_by p d (clause_count catalog None true (dependency catalog d))
-form_fault catalog (Conflict p d) = rich_by p d (clause_count catalog (Some p) false (dependency catalog d))
-form_fault catalog _ = None
-
--- the form of a rule
-abbrev pub form_of : Rule → Form
-form_of (NotInstallable p) = Out p
-form_of (Req p d) = Requirement p d
-form_of (Con p d q) = Pair p q
-form_of (RichCon p d) = Conflict p d
-form_of (Obs p d q) = Pair p q
-form_of (Same p q) = Pair p q
-form_of (Infarch p) = Out p
-form_of (Update p s) = OneOf s
-form_of (Feature p s) = OneOf s
-form_of (Install j s) = OneOf s
-form_of (Erase j s) = Each s false
-form_of (Lock j s) = Each s true
-form_of (BestJob j s) = OneOf s
-form_of (BestUpdate j p s) = OneOf s
-
--- the packages of a form are there, its dependency has a form that may stand there, and its set rises
-abbrev pub form_fits : Catalog → List (List ℕ) → Form → Bool
-form_fits catalog sets (Out p) = is_among (packages catalog) p
-form_fits catalog sets (Requirement p d) = is_among (packages catalog) p && is_held_at catalog true d
-form_fits catalog sets (Conflict p d) = is_among (packages catalog) p && is_held_at catalog false d
-form_fits catalog sets (Pair p q) = is_among (packages catalog) p && is_among (members catalog) q
-form_fits catalog sets (OneOf s) = list_all (is_among (packages catalog)) (set_at sets s) && rises 1 (set_at sets s)
-form_fits catalog sets (Each s stays) = list_all (is_among (packages catalog)) (set_at sets s)
+-- the packages of a shape are there, its dependency has a form that may stand there, and its list rises
+abbrev pub shape_is_bookable : Catalog → Shape → Bool
+shape_is_bookable catalog shape = shape_names catalog shape && has_form catalog shape
 
 -- the clauses of a rule stand behind the others where the call did not fail; else there was no memory, its dependency gives too many, or there would be too many words
 pub record TakesRule {T : Type 0} (rich : Option BookFault) (clauses : List (List ℤ)) (owner : ℕ) (result : Result T BookFault) (old new : Draft) : Type 0 where
