@@ -10,7 +10,7 @@ use Rattle.solv_pool.specs.Catalog.{Catalog, packages}
 use Rattle.solv_pool.specs.Clauses.{rule_clauses, words, words_of_all}
 use Rattle.solv_pool.specs.Laws.{ClausesNamePackages, names_packages}
 use Rattle.solv_pool.specs.Laws.{names_package as names_one}
-use Rattle.solv_pool.specs.RuleMeaning.{HardRule, rule_with}
+use Rattle.solv_pool.specs.RuleMeaning.{HardRule, rule_with, shape_of}
 use Rattle.solv_pool.specs.declared.hard_rules.Rules.{Rules}
 use Rattle.solv_derive.specs.Range.{names_package, is_over, are_over}
 use Rattle.solv_trail.specs.declared.questions.Ask.{Ask}
@@ -57,7 +57,7 @@ module _ (catalog : Catalog) where
   clauses_over law (r ∷ rules) h =
       let both = and_parts (is_bookable catalog r) (list_all (is_bookable catalog) rules) h in
       list_all_join (is_over (length catalog.universe.packages)) (rule_clauses catalog r) (flat_map (rule_clauses catalog) rules)
-      (all_weaker (list_all (names_one catalog)) (is_over (length catalog.universe.packages)) clause_over (rule_clauses catalog r) (law catalog r (and_parts (names_packages catalog r) (has_form catalog r) both.0).0))
+      (all_weaker (list_all (names_one catalog)) (is_over (length catalog.universe.packages)) clause_over (rule_clauses catalog r) (law catalog r (and_parts (names_packages catalog r) (has_form catalog (shape_of r)) both.0).0))
       (clauses_over law rules both.1)
 
   -- where there is no fault, each word is within the limit
@@ -99,7 +99,7 @@ module _ (catalog : Catalog) where
   all_within before [] h e = omega (arith, h)
   all_within before (r ∷ rules) h e =
       let both = none_first (rule_fault catalog before r) (first_fault catalog (before + words_of_all (rule_clauses catalog r)) rules) e in
-      let own = overrun_within before (rule_clauses catalog r) h (none_first (rich_fault catalog r) (overrun before (rule_clauses catalog r)) both.0).1 in
+      let own = overrun_within before (rule_clauses catalog r) h (none_first (rich_fault catalog (shape_of r)) (overrun before (rule_clauses catalog r)) both.0).1 in
       let rest = all_within (before + words_of_all (rule_clauses catalog r)) rules own both.1 in
       let join = words_join (rule_clauses catalog r) (flat_map (rule_clauses catalog) rules) in
       omega (arith, rest, join)

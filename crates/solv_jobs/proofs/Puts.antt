@@ -1,5 +1,5 @@
 -- Rules put behind others.
-use Rattle.std.proofs.Common.{◌≡◌, ◌<◌, ◌≤◌, ◌+◌, ℕ, zero, suc, true, false, List, [], ◌∷◌, ◌++◌, map, length, Option, Some, None, refl, sym, ap, subst, ◌∙◌, arith, append_assoc, drop}
+use Rattle.std.proofs.Common.{◌≡◌, ◌<◌, ◌≤◌, ◌+◌, ℕ, zero, suc, true, false, List, [], ◌∷◌, ◌++◌, map, length, Option, Some, None, option_map, refl, sym, ap, subst, ◌∙◌, arith, append_assoc, drop}
 use Rattle.std.specs.Prelude.{nat_lt, unwrap_or, flat_map}
 use Rattle.solv_pool.specs.Catalog.{Catalog}
 use Rattle.solv_pool.specs.Selections.{selection}
@@ -9,7 +9,7 @@ use Rattle.std.specs.Option.{option_map_or}
 use Rattle.std.proofs.lemmas.List.{map-append, append-nil, length-append}
 use Rattle.std.proofs.lemmas.List.Folds.{list_all-append}
 use Rattle.std.proofs.lemmas.Bool.Decides.{nat_tests}
-use Rattle.solv_pool.specs.RuleMeaning.{HardRule, rule_with, set_at}
+use Rattle.solv_pool.specs.RuleMeaning.{HardRule, update, feature, install, erase, lock, best_job, best_update, read_rule, rule_with, set_at}
 use Rattle.solv_pool.specs.declared.hard_rules.Rule.{Rule}
 use Rattle.solv_pool.specs.declared.hard_rules.Rules.{Rules}
 use Rattle.solv_pool.specs.declared.hard_rules.Rule.TheVariants as rule
@@ -33,21 +33,26 @@ set_behind (y ∷ sets) x = set_behind sets x
 within : (s n : ℕ) → nat_lt s n ≡ true → s < n
 within s n h = grind (arith, nat_tests, h)
 
-pub rule_before : (sets more : List (List ℕ)) (r : Rule) → has_its_set (length sets) r ≡ true → rule_with (sets ++ more) r ≡ rule_with sets r
-rule_before sets more (rule.NotInstallable p) h = refl
-rule_before sets more (rule.Req p d) h = refl
-rule_before sets more (rule.Con p d q) h = refl
-rule_before sets more (rule.RichCon p d) h = refl
-rule_before sets more (rule.Obs p d q) h = refl
-rule_before sets more (rule.Same p q) h = refl
-rule_before sets more (rule.Infarch p) h = refl
-rule_before sets more (rule.Update p s) h = rw (set_before sets more s (within s (length sets) h)) refl
-rule_before sets more (rule.Feature p s) h = rw (set_before sets more s (within s (length sets) h)) refl
-rule_before sets more (rule.Install j s) h = rw (set_before sets more s (within s (length sets) h)) refl
-rule_before sets more (rule.Erase j s) h = rw (set_before sets more s (within s (length sets) h)) refl
-rule_before sets more (rule.Lock j s) h = rw (set_before sets more s (within s (length sets) h)) refl
-rule_before sets more (rule.BestJob j s) h = rw (set_before sets more s (within s (length sets) h)) refl
-rule_before sets more (rule.BestUpdate j p s) h = rw (set_before sets more s (within s (length sets) h)) refl
+same_list : (xs ys : List ℕ) → Some xs ≡ Some ys → xs ≡ ys
+same_list xs ys h = ap (λ o. unwrap_or o xs) h
+
+-- two readings of a rule are one where they have one set for it
+read_alike : (f g : ℕ → List ℕ) (r : Rule) → option_map f (set_number r) ≡ option_map g (set_number r) → read_rule f r ≡ read_rule g r
+read_alike f g (rule.Update p s) h = ap (update p) (same_list (f s) (g s) h)
+read_alike f g (rule.Feature p s) h = ap (feature p) (same_list (f s) (g s) h)
+read_alike f g (rule.Install j s) h = ap (install j) (same_list (f s) (g s) h)
+read_alike f g (rule.Erase j s) h = ap (erase j) (same_list (f s) (g s) h)
+read_alike f g (rule.Lock j s) h = ap (lock j) (same_list (f s) (g s) h)
+read_alike f g (rule.BestJob j s) h = ap (best_job j) (same_list (f s) (g s) h)
+read_alike f g (rule.BestUpdate j p s) h = ap (best_update j p) (same_list (f s) (g s) h)
+read_alike f g _ h = refl
+
+rule_before : (sets more : List (List ℕ)) (r : Rule) → has_its_set (length sets) r ≡ true → rule_with (sets ++ more) r ≡ rule_with sets r
+rule_before sets more r h = read_alike (set_at (sets ++ more)) (set_at sets) r (by (set_number r) h)
+  where
+    by : (o : Option ℕ) → option_map_or (λ s. nat_lt s (length sets)) o true ≡ true → option_map (set_at (sets ++ more)) o ≡ option_map (set_at sets) o
+    by None k = refl
+    by (Some s) k = ap Some (set_before sets more s (within s (length sets) k))
 
 pub rules_before : (sets more : List (List ℕ)) (rs : List Rule) → list_all (has_its_set (length sets)) rs ≡ true → map (rule_with (sets ++ more)) rs ≡ map (rule_with sets) rs
 rules_before sets more [] h = refl
@@ -104,41 +109,9 @@ put_follow all made rest left old mid new a b = record {
         ∙ ap (λ t. map (rule_with mid.sets) a.more ++ t) (sym (append_assoc (map (rule_with new.sets) b.more) left rest) ∙ ap (λ t. t ++ rest) b.read)
         ∙ a.read
 
-some_is : (s n : ℕ) → Some s ≡ Some n → s ≡ n
-some_is s n h = ap (λ o. unwrap_or o 0) h
-
 -- a rule over the set that stands last
 over_last : (sets : List (List ℕ)) (xs : List ℕ) (r : Rule) → set_number r ≡ Some (length sets) → rule_with (sets ++ xs ∷ []) r ≡ over_set xs r
-over_last sets xs (rule.NotInstallable p) h = refl
-over_last sets xs (rule.Req p d) h = refl
-over_last sets xs (rule.Con p d q) h = refl
-over_last sets xs (rule.RichCon p d) h = refl
-over_last sets xs (rule.Obs p d q) h = refl
-over_last sets xs (rule.Same p q) h = refl
-over_last sets xs (rule.Infarch p) h = refl
-over_last sets xs (rule.Update p s) h = let e : s ≡ length sets = some_is s (length sets) h in rw e (ap (λ t. over_set t (rule.Update p s)) (set_behind sets xs))
-over_last sets xs (rule.Feature p s) h = let e : s ≡ length sets = some_is s (length sets) h in rw e (ap (λ t. over_set t (rule.Feature p s)) (set_behind sets xs))
-over_last sets xs (rule.Install j s) h = let e : s ≡ length sets = some_is s (length sets) h in rw e (ap (λ t. over_set t (rule.Install j s)) (set_behind sets xs))
-over_last sets xs (rule.Erase j s) h = let e : s ≡ length sets = some_is s (length sets) h in rw e (ap (λ t. over_set t (rule.Erase j s)) (set_behind sets xs))
-over_last sets xs (rule.Lock j s) h = let e : s ≡ length sets = some_is s (length sets) h in rw e (ap (λ t. over_set t (rule.Lock j s)) (set_behind sets xs))
-over_last sets xs (rule.BestJob j s) h = let e : s ≡ length sets = some_is s (length sets) h in rw e (ap (λ t. over_set t (rule.BestJob j s)) (set_behind sets xs))
-over_last sets xs (rule.BestUpdate j p s) h = let e : s ≡ length sets = some_is s (length sets) h in rw e (ap (λ t. over_set t (rule.BestUpdate j p s)) (set_behind sets xs))
-
-over_none : (sets : List (List ℕ)) (r : Rule) → set_number r ≡ None → rule_with sets r ≡ over_set [] r
-over_none sets (rule.NotInstallable p) h = refl
-over_none sets (rule.Req p d) h = refl
-over_none sets (rule.Con p d q) h = refl
-over_none sets (rule.RichCon p d) h = refl
-over_none sets (rule.Obs p d q) h = refl
-over_none sets (rule.Same p q) h = refl
-over_none sets (rule.Infarch p) h = refl
-over_none sets (rule.Update p s) h = absurd (cc)
-over_none sets (rule.Feature p s) h = absurd (cc)
-over_none sets (rule.Install j s) h = absurd (cc)
-over_none sets (rule.Erase j s) h = absurd (cc)
-over_none sets (rule.Lock j s) h = absurd (cc)
-over_none sets (rule.BestJob j s) h = absurd (cc)
-over_none sets (rule.BestUpdate j p s) h = absurd (cc)
+over_last sets xs r h = read_alike (set_at (sets ++ xs ∷ [])) (λ _. xs) r (rw h (ap Some (set_behind sets xs)))
 
 -- one rule without a set
 pub plain_put : (r : Rule) (old new : Rules) → set_number r ≡ None → new.list ≡ old.list ++ r ∷ [] → new.sets ≡ old.sets → IsPut (over_set [] r ∷ []) [] old new
@@ -147,7 +120,7 @@ plain_put r old new none list sets = record {
   sets = [];
   list_is = list;
   sets_are = sets ∙ sym (append-nil old.sets);
-  read = rw (over_none new.sets r none) refl;
+  read = ap (λ t. t ∷ []) (read_alike (set_at new.sets) (λ _. []) r (rw none refl));
   own = rw none refl;
 }
 
@@ -203,26 +176,14 @@ pub no_rule : (a : Action) (j s : ℕ) (xs : List ℕ) → rule_over a j s ≡ N
 no_rule Install j s xs h = absurd (cc)
 no_rule Erase j s xs h = absurd (cc)
 no_rule Lock j s xs h = absurd (cc)
-no_rule Update j s xs h = refl
-no_rule Verify j s xs h = refl
-no_rule Multiversion j s xs h = refl
-no_rule AllowUninstall j s xs h = refl
-no_rule Favor j s xs h = refl
-no_rule Disfavor j s xs h = refl
-no_rule Noop j s xs h = refl
+no_rule _ j s xs h = refl
 
 -- one with a rule
 pub a_rule : (a : Action) (j s : ℕ) (xs : List ℕ) (r : Rule) → rule_over a j s ≡ Some r → rule_of_job j a xs ≡ over_set xs r ∷ []
 a_rule Install j s xs r h = ap (λ o. option_map_or (λ r. over_set xs r ∷ []) o []) h
 a_rule Erase j s xs r h = ap (λ o. option_map_or (λ r. over_set xs r ∷ []) o []) h
 a_rule Lock j s xs r h = ap (λ o. option_map_or (λ r. over_set xs r ∷ []) o []) h
-a_rule Update j s xs r h = absurd (cc)
-a_rule Verify j s xs r h = absurd (cc)
-a_rule Multiversion j s xs r h = absurd (cc)
-a_rule AllowUninstall j s xs r h = absurd (cc)
-a_rule Favor j s xs r h = absurd (cc)
-a_rule Disfavor j s xs r h = absurd (cc)
-a_rule Noop j s xs r h = absurd (cc)
+a_rule _ j s xs r h = absurd (cc)
 
 -- the rules of one job, and of those behind it
 pub job_turn : (catalog : Catalog) (jobs : List Job) (i : ℕ) (job : Job) → drop i jobs ≡ job ∷ drop (i + 1) jobs

@@ -175,37 +175,16 @@ module _ (r : Request) where
 
 -- a rule that asks nothing of a job adds to no row
 pub none_of_jobs : (r : Request) (i : ℕ) (sets : List (List ℕ)) (x : Rule) → ((j s : ℕ) → x ≡ rule.BestJob j s → ⊥) → ((j s : ℕ) → x ≡ rule.Install j s → ⊥) → (rows : List JobDemands) → rows ≡ entered (add_to_job r) 0 (i, rule_with sets x) rows
-none_of_jobs r i sets (rule.NotInstallable p) best own rows = sym (entered_apart _ _ 0 rows (λ m row from upto. none_of_job r i m (rule_with sets (rule.NotInstallable p)) row refl refl))
-none_of_jobs r i sets (rule.Req p d) best own rows = sym (entered_apart _ _ 0 rows (λ m row from upto. none_of_job r i m (rule_with sets (rule.Req p d)) row refl refl))
-none_of_jobs r i sets (rule.Con p d q) best own rows = sym (entered_apart _ _ 0 rows (λ m row from upto. none_of_job r i m (rule_with sets (rule.Con p d q)) row refl refl))
-none_of_jobs r i sets (rule.RichCon p d) best own rows = sym (entered_apart _ _ 0 rows (λ m row from upto. none_of_job r i m (rule_with sets (rule.RichCon p d)) row refl refl))
-none_of_jobs r i sets (rule.Obs p d q) best own rows = sym (entered_apart _ _ 0 rows (λ m row from upto. none_of_job r i m (rule_with sets (rule.Obs p d q)) row refl refl))
-none_of_jobs r i sets (rule.Same p q) best own rows = sym (entered_apart _ _ 0 rows (λ m row from upto. none_of_job r i m (rule_with sets (rule.Same p q)) row refl refl))
-none_of_jobs r i sets (rule.Infarch p) best own rows = sym (entered_apart _ _ 0 rows (λ m row from upto. none_of_job r i m (rule_with sets (rule.Infarch p)) row refl refl))
-none_of_jobs r i sets (rule.Update p s) best own rows = sym (entered_apart _ _ 0 rows (λ m row from upto. none_of_job r i m (rule_with sets (rule.Update p s)) row refl refl))
-none_of_jobs r i sets (rule.Feature p s) best own rows = sym (entered_apart _ _ 0 rows (λ m row from upto. none_of_job r i m (rule_with sets (rule.Feature p s)) row refl refl))
 none_of_jobs r i sets (rule.Install j s) best own rows = absurd (own j s refl)
-none_of_jobs r i sets (rule.Erase j s) best own rows = sym (entered_apart _ _ 0 rows (λ m row from upto. none_of_job r i m (rule_with sets (rule.Erase j s)) row refl refl))
-none_of_jobs r i sets (rule.Lock j s) best own rows = sym (entered_apart _ _ 0 rows (λ m row from upto. none_of_job r i m (rule_with sets (rule.Lock j s)) row refl refl))
 none_of_jobs r i sets (rule.BestJob j s) best own rows = absurd (best j s refl)
-none_of_jobs r i sets (rule.BestUpdate j p s) best own rows = sym (entered_apart _ _ 0 rows (λ m row from upto. none_of_job r i m (rule_with sets (rule.BestUpdate j p s)) row refl refl))
+none_of_jobs r i sets x best own rows = sym (entered_apart _ _ 0 rows (λ m row from upto. none_of_job r i m (rule_with sets x) row refl refl))
 
 -- nor does one that is on no package add to the row of one
 pub none_on_packs : (r : Request) (i : ℕ) (sets : List (List ℕ)) (x : Rule) → ((p s : ℕ) → x ≡ rule.Update p s → ⊥) → ((p s : ℕ) → x ≡ rule.Feature p s → ⊥) → ((j p s : ℕ) → x ≡ rule.BestUpdate j p s → ⊥) → (rows : List PackRules) → rows ≡ entered (add_to_pack r) 0 (i, rule_with sets x) rows
-none_on_packs r i sets (rule.NotInstallable p) updates features best rows = sym (entered_apart _ _ 0 rows (λ m row from upto. none_on_pack r i m (rule_with sets (rule.NotInstallable p)) row refl refl refl))
-none_on_packs r i sets (rule.Req p d) updates features best rows = sym (entered_apart _ _ 0 rows (λ m row from upto. none_on_pack r i m (rule_with sets (rule.Req p d)) row refl refl refl))
-none_on_packs r i sets (rule.Con p d q) updates features best rows = sym (entered_apart _ _ 0 rows (λ m row from upto. none_on_pack r i m (rule_with sets (rule.Con p d q)) row refl refl refl))
-none_on_packs r i sets (rule.RichCon p d) updates features best rows = sym (entered_apart _ _ 0 rows (λ m row from upto. none_on_pack r i m (rule_with sets (rule.RichCon p d)) row refl refl refl))
-none_on_packs r i sets (rule.Obs p d q) updates features best rows = sym (entered_apart _ _ 0 rows (λ m row from upto. none_on_pack r i m (rule_with sets (rule.Obs p d q)) row refl refl refl))
-none_on_packs r i sets (rule.Same p q) updates features best rows = sym (entered_apart _ _ 0 rows (λ m row from upto. none_on_pack r i m (rule_with sets (rule.Same p q)) row refl refl refl))
-none_on_packs r i sets (rule.Infarch p) updates features best rows = sym (entered_apart _ _ 0 rows (λ m row from upto. none_on_pack r i m (rule_with sets (rule.Infarch p)) row refl refl refl))
 none_on_packs r i sets (rule.Update p s) updates features best rows = absurd (updates p s refl)
 none_on_packs r i sets (rule.Feature p s) updates features best rows = absurd (features p s refl)
-none_on_packs r i sets (rule.Install j s) updates features best rows = sym (entered_apart _ _ 0 rows (λ m row from upto. none_on_pack r i m (rule_with sets (rule.Install j s)) row refl refl refl))
-none_on_packs r i sets (rule.Erase j s) updates features best rows = sym (entered_apart _ _ 0 rows (λ m row from upto. none_on_pack r i m (rule_with sets (rule.Erase j s)) row refl refl refl))
-none_on_packs r i sets (rule.Lock j s) updates features best rows = sym (entered_apart _ _ 0 rows (λ m row from upto. none_on_pack r i m (rule_with sets (rule.Lock j s)) row refl refl refl))
-none_on_packs r i sets (rule.BestJob j s) updates features best rows = sym (entered_apart _ _ 0 rows (λ m row from upto. none_on_pack r i m (rule_with sets (rule.BestJob j s)) row refl refl refl))
 none_on_packs r i sets (rule.BestUpdate j p s) updates features best rows = absurd (best j p s refl)
+none_on_packs r i sets x updates features best rows = sym (entered_apart _ _ 0 rows (λ m row from upto. none_on_pack r i m (rule_with sets x) row refl refl refl))
 
 -- every row is that of the system or of a package
 pub rows_within : (r : Request) (xs : List (ℕ × HardRule)) → list_all (λ row. nat_le row.pack (length r.catalog.universe.packages)) (pack_rows r xs) ≡ true

@@ -11,7 +11,7 @@ use Rattle.solv_pool.specs.Installable.{is_installable}
 use Rattle.solv_pool.specs.Selections.{selects, selection}
 use Rattle.solv_pool.specs.JobMarks.{is_install, is_update}
 use Rattle.solv_pool.specs.TaskBelonging.{is_pack}
-use Rattle.solv_pool.specs.RuleMeaning.{HardRule, not_installable, req, con, rich_con, obs, same, infarch, update, feature, install, erase, lock, best_job, best_update}
+use Rattle.solv_pool.specs.RuleMeaning.{HardRule, not_installable, req, con, rich_con, obs, same, infarch, update, feature, install, best_job, best_update}
 use Rattle.solv_pool.specs.HardRules.{not_installable_rules, counted_requirements, requirement_rules, conflicting, conflict_rules, package_wise_conflicts, counted_rich_conflicts, rich_conflict_rules, obsoleted, obsoletion_rules, later_namesakes, same_name_rules, rules_asked_by, rules_of_package, package_rules, inferior_packages, infarch_rules, update_candidates, feature_candidates, kept_packages, has_update_rule, update_rules, feature_rules, numbered_jobs, rule_of_job, job_rules, best_job_rule, best_job_rules, selected_installed, best_update_rule, best_update_rules}
 use Rattle.solv_pool.specs.declared.packages.Package.{Package}
 use Rattle.solv_pool.specs.declared.packages.Need.{Need}
@@ -78,15 +78,7 @@ module _ (r : Request) where
 
   job_wants : (j : ℕ) (a : Action) (xs : List ℕ) → flat_map (wants_of r.catalog) (rule_of_job j a xs) ≡ []
   job_wants j action.Install xs = refl
-  job_wants j action.Erase xs = refl
-  job_wants j action.Lock xs = refl
-  job_wants j action.Update xs = refl
-  job_wants j action.Verify xs = refl
-  job_wants j action.Multiversion xs = refl
-  job_wants j action.AllowUninstall xs = refl
-  job_wants j action.Favor xs = refl
-  job_wants j action.Disfavor xs = refl
-  job_wants j action.Noop xs = refl
+  job_wants j _ xs = refl
 
   best_wants : (j : ℕ) (xs : List ℕ) → flat_map (wants_of r.catalog) (best_job_rule j xs) ≡ []
   best_wants j [] = refl
@@ -119,17 +111,7 @@ module _ (r : Request) where
   rule_asks (install j xs) own = ap (λ t. list_all (is_pack (length r.catalog.universe.packages)) t) (sym own.is) ∙ packs_of r.catalog (selects r.catalog own.job.choice)
   rule_asks (best_job j xs) own = ap (λ t. list_all (is_pack (length r.catalog.universe.packages)) t) (sym own.is) ∙ best_packs (selection r.catalog own.job.choice)
   rule_asks (best_update j p xs) own = ap (λ t. list_all (is_pack (length r.catalog.universe.packages)) t) (sym own.is) ∙ best_packs (update_candidates r.catalog r.flags r.marks p)
-  rule_asks (not_installable p) own = refl
-  rule_asks (req p d) own = refl
-  rule_asks (con p d q) own = refl
-  rule_asks (rich_con p d) own = refl
-  rule_asks (obs p d q) own = refl
-  rule_asks (same p q) own = refl
-  rule_asks (infarch p) own = refl
-  rule_asks (update p xs) own = refl
-  rule_asks (feature p xs) own = refl
-  rule_asks (erase j xs) own = refl
-  rule_asks (lock j xs) own = refl
+  rule_asks _ own = refl
 
   pub rules_ask : list_all (asks_for_packages (length r.catalog.universe.packages)) (rules_of r) ≡ true
   rules_ask = all_by (asks_for_packages (length r.catalog.universe.packages)) (rules_of r) (λ x h. rule_asks x (is_from r x h))

@@ -7,7 +7,7 @@ use Rattle.solv_base.specs.Dependency.{Dep, one, namespace, and, or, with, witho
 use Rattle.solv_base.specs.Places.{fits_place, unconditional}
 use Rattle.solv_pool.specs.Catalog.{package_at, dependency}
 use Rattle.solv_pool.specs.Counting.{requirement_counts, rich_conflict_counts}
-use Rattle.solv_pool.specs.RuleMeaning.{HardRule, not_installable, req, con, rich_con, obs, same, infarch, update, feature, install, erase, lock, best_job, best_update}
+use Rattle.solv_pool.specs.RuleMeaning.{HardRule, req, rich_con}
 use Rattle.solv_pool.specs.Laws.{IsWellPlaced}
 use Rattle.solv_pool.specs.declared.packages.Package.{Package}
 use Rattle.solv_rules.specs.Making.{asks_in_form}
@@ -24,41 +24,20 @@ more_operators a b = grind arith
 abbrev pub IsOne : Dep ℕ → Type 0
 IsOne (one c) = Unit {0}
 IsOne (namespace n) = Unit {0}
-IsOne (and a b) = ⊥
-IsOne (or a b) = ⊥
-IsOne (with a b) = ⊥
-IsOne (without a b) = ⊥
-IsOne (if_then a b) = ⊥
-IsOne (if_else a b c) = ⊥
-IsOne (unless a b) = ⊥
-IsOne (unless_else a b c) = ⊥
-IsOne missing = ⊥
+IsOne _ = ⊥
 
 pub is_one : (d : Dep ℕ) → (package_wise d && operators d == 0) ≡ true → IsOne d
 is_one (one c) h = tt
 is_one (namespace n) h = tt
-is_one (and a b) h = absurd (false≢true h)
 is_one (or a b) h = absurd (false≢true (sym (more_operators (operators a) (operators b)) ∙ (and_parts (package_wise (or a b)) (operators a + operators b + 1 == 0) h).1))
 is_one (with a b) h = absurd (false≢true (sym (more_operators (operators a) (operators b)) ∙ (and_parts (package_wise (with a b)) (operators a + operators b + 1 == 0) h).1))
 is_one (without a b) h = absurd (false≢true (sym (more_operators (operators a) (operators b)) ∙ (and_parts (package_wise (without a b)) (operators a + operators b + 1 == 0) h).1))
-is_one (if_then a b) h = absurd (false≢true h)
-is_one (if_else a b c) h = absurd (false≢true h)
-is_one (unless a b) h = absurd (false≢true h)
-is_one (unless_else a b c) h = absurd (false≢true h)
-is_one missing h = absurd (false≢true h)
+is_one _ h = absurd (false≢true h)
 
 pub one_fits : (at : Bool) (d : Dep ℕ) → IsOne d → fits_place at d ≡ true
 one_fits at (one c) h = refl
 one_fits at (namespace n) h = refl
-one_fits at (and a b) h = absurd h
-one_fits at (or a b) h = absurd h
-one_fits at (with a b) h = absurd h
-one_fits at (without a b) h = absurd h
-one_fits at (if_then a b) h = absurd h
-one_fits at (if_else a b c) h = absurd h
-one_fits at (unless a b) h = absurd h
-one_fits at (unless_else a b c) h = absurd h
-one_fits at missing h = absurd h
+one_fits at _ h = absurd h
 
 -- the record of a package is one of the universe's
 pub record_there : (r : Request) (p : ℕ) (a : Package) → package_at r.catalog p ≡ Some a → Has r.catalog.universe.packages a
@@ -92,15 +71,4 @@ module _ (r : Request) (formed : AsksInForm r) where
   pub placed : (x : HardRule) → IsFrom r x → IsWellPlaced r.catalog x
   placed (req p d) h = required_fits p d h
   placed (rich_con p d) h = unconditional_fits false (dependency r.catalog d) (conflict_unconditional p d h)
-  placed (not_installable z) h = tt
-  placed (con z d q) h = tt
-  placed (obs z d q) h = tt
-  placed (same z q) h = tt
-  placed (infarch z) h = tt
-  placed (update z zs) h = tt
-  placed (feature z zs) h = tt
-  placed (install j zs) h = tt
-  placed (erase j zs) h = tt
-  placed (lock j zs) h = tt
-  placed (best_job j zs) h = tt
-  placed (best_update j z zs) h = tt
+  placed _ h = refl

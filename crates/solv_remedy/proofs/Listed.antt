@@ -11,8 +11,8 @@ use Rattle.std.proofs.lemmas.Bool.{and_parts, cases_order, false≢true}
 use Rattle.solv_base.specs.Places.{fits_place}
 use Rattle.solv_pool.specs.Catalog.{Catalog, dependency}
 use Rattle.solv_pool.specs.Clauses.{rule_clauses, clause_true}
-use Rattle.solv_pool.specs.Laws.{ClausesNamePackages, ClausesSayTheRule, IsWellPlaced, names_packages}
-use Rattle.solv_pool.specs.RuleMeaning.{HardRule, meets_rule, not_installable, req, con, rich_con, obs, same, infarch, update, feature, install, erase, lock, best_job, best_update}
+use Rattle.solv_pool.specs.Laws.{ClausesNamePackages, ClausesSayTheRule, IsWellPlaced, shape_fits, names_packages}
+use Rattle.solv_pool.specs.RuleMeaning.{HardRule, meets_rule, Shape, requirement, conflict, shape_of}
 use Rattle.solv_pool.specs.Words.{is_among}
 use Rattle.solv_derive.specs.Laws.{GoodLogsRefute}
 use Rattle.solv_derive.specs.Logs.{is_good_log}
@@ -71,20 +71,12 @@ module _ (catalog : Catalog) where
 
   -- a rule of which a book can be made is well placed
   pub well_placed : (r : HardRule) → is_bookable catalog r ≡ true → IsWellPlaced catalog r
-  well_placed (req p d) h = (and_parts (nat_lt d (length catalog.pool.nodes)) (fits_place true (dependency catalog d)) (and_parts (names_packages catalog (req p d)) (has_form catalog (req p d)) h).1).1
-  well_placed (rich_con p d) h = (and_parts (nat_lt d (length catalog.pool.nodes)) (fits_place false (dependency catalog d)) (and_parts (names_packages catalog (rich_con p d)) (has_form catalog (rich_con p d)) h).1).1
-  well_placed (not_installable p) h = tt
-  well_placed (con p d q) h = tt
-  well_placed (obs p d q) h = tt
-  well_placed (same p q) h = tt
-  well_placed (infarch p) h = tt
-  well_placed (update p xs) h = tt
-  well_placed (feature p xs) h = tt
-  well_placed (install j xs) h = tt
-  well_placed (erase j xs) h = tt
-  well_placed (lock j xs) h = tt
-  well_placed (best_job j xs) h = tt
-  well_placed (best_update j p xs) h = tt
+  well_placed r h = fits (shape_of r) (and_parts (names_packages catalog r) (has_form catalog (shape_of r)) h).1
+    where
+      fits : (s : Shape) → has_form catalog s ≡ true → shape_fits catalog s ≡ true
+      fits (requirement p d) k = (and_parts (nat_lt d (length catalog.pool.nodes)) (fits_place true (dependency catalog d)) k).1
+      fits (conflict p d) k = (and_parts (nat_lt d (length catalog.pool.nodes)) (fits_place false (dependency catalog d)) k).1
+      fits _ k = refl
 
 -- what is put into a rising list is in it, and what was there stays
 has_inserted : (k x : ℕ) (xs : List ℕ) → (k ≡ x) ⊎ Has xs x → Has (insert_key nat_cmp xs k) x

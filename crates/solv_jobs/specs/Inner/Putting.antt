@@ -2,7 +2,7 @@
 use Rattle.std.specs.Prelude.{ℕ, ◌≡◌, Bool, true, List, ◌++◌, length, map, nat_lt, Option, Some, None}
 use Rattle.std.specs.List.{list_all}
 use Rattle.std.specs.Option.{option_map_or}
-use Rattle.solv_pool.specs.RuleMeaning.{HardRule, not_installable, req, con, rich_con, obs, same, infarch, update, feature, install, erase, lock, best_job, best_update, rule_with}
+use Rattle.solv_pool.specs.RuleMeaning.{HardRule, read_rule, rule_with}
 use Rattle.solv_pool.specs.declared.hard_rules.Rule.{Rule}
 use Rattle.solv_pool.specs.declared.hard_rules.Rules.{Rules}
 use Rattle.solv_pool.specs.declared.hard_rules.Rule.TheVariants as rule
@@ -20,20 +20,7 @@ set_number _ = None
 
 -- a rule over the set that it carries
 abbrev pub over_set : List ℕ → Rule → HardRule
-over_set xs (rule.NotInstallable p) = not_installable p
-over_set xs (rule.Req p d) = req p d
-over_set xs (rule.Con p d q) = con p d q
-over_set xs (rule.RichCon p d) = rich_con p d
-over_set xs (rule.Obs p d q) = obs p d q
-over_set xs (rule.Same p q) = same p q
-over_set xs (rule.Infarch p) = infarch p
-over_set xs (rule.Update p s) = update p xs
-over_set xs (rule.Feature p s) = feature p xs
-over_set xs (rule.Install j s) = install j xs
-over_set xs (rule.Erase j s) = erase j xs
-over_set xs (rule.Lock j s) = lock j xs
-over_set xs (rule.BestJob j s) = best_job j xs
-over_set xs (rule.BestUpdate j p s) = best_update j p xs
+over_set xs r = read_rule (λ _. xs) r
 
 -- the set that a rule carries is one of so many
 abbrev pub has_its_set : ℕ → Rule → Bool
