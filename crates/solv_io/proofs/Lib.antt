@@ -3,3 +3,4 @@ pub mod HeldFiles
 pub mod Pieces
 pub mod WrittenLines
 pub mod WordRuns
+pub mod ByteCuts

@@ -22,3 +22,10 @@ words_of (byte ∷ rest) =
     let others : List (List ℕ) = words_of rest in
     if is_blank byte then others
     else (if begins_word rest then lengthened byte others else (byte ∷ []) ∷ others)
+
+-- the texts that a byte separates: one more than it stands there, empty ones too
+abbrev pub between : ℕ → List ℕ → List (List ℕ)
+between separator [] = [] ∷ []
+between separator (byte ∷ rest) =
+    let others : List (List ℕ) = between separator rest in
+    if byte == separator then [] ∷ others else lengthened byte others

@@ -7,12 +7,13 @@
 //! - [`put`]: writes a piece whole.
 //! - [`MemFiles`], [`AllFiles`], [`MemSink`], [`PlainSink`]: files and sinks in memory.
 //! - [`RealFiles`], [`RealSink`]: the adapters over std's files and writers. They are the trusted edge.
-//! - [`lines`]: the numbered lines of a text; [`split_line`]: its first line; [`split_word`]: the first word of a line; [`is_blank`]: what separates words.
+//! - [`lines`]: the numbered lines of a text; [`split_line`]: its first line; [`split_word`]: the first word of a line; [`is_blank`]: what separates words; [`cut_at`]: what a byte separates.
 //! - [`lines_are_read_again`]: what a line is, as a law.
 //! - [`Status`]: how a program ends.
 #![tactic(auto)]
 
 mod adapters;
+mod cutting;
 mod faults;
 mod fetching;
 mod laws;
@@ -25,6 +26,7 @@ mod words;
 mod writing;
 
 pub use adapters::{RealFiles, RealSink};
+pub use cutting::cut_at;
 pub use faults::{FileFault, SinkFault};
 pub use fetching::Files;
 pub use laws::lines_are_read_again;

@@ -11,3 +11,4 @@ pub mod Testtags
 pub mod Commands
 pub mod Scripts
 pub mod Lines
+pub mod ProofTexts

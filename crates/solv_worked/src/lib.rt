@@ -6,7 +6,7 @@
 //! - Texts: [`files`], [`versions`], [`relations`], [`dependency_texts`], [`testtags`], [`commands`], [`scripts`].
 //! - What they mean: [`dependencies`], [`providers`], [`updates`], [`hard_rules`], [`operators`], [`clauses`],
 //!   [`rich_clauses`], [`propagation`].
-//! - Answers: [`derivations`], [`choices`], [`problems`], [`changes`], [`texts`], [`lines`].
+//! - Answers: [`derivations`], [`choices`], [`problems`], [`changes`], [`texts`], [`lines`], [`proof_texts`].
 #![tactic(auto)]
 
 pub mod changes;
@@ -21,6 +21,7 @@ pub mod hard_rules;
 pub mod lines;
 pub mod operators;
 pub mod problems;
+pub mod proof_texts;
 pub mod propagation;
 pub mod providers;
 pub mod relations;

@@ -12,8 +12,8 @@ use crate::scripts::{Kinds, ScriptFault};
 use crate::whole::blocks::next_inline;
 use crate::whole::halts::Halt;
 use crate::whole::reader::Reader;
-use solv_commands::{Cause, cut_at_comma};
-use solv_io::lines;
+use solv_commands::Cause;
+use solv_io::{cut_at, lines};
 use solv_list::{Bytes, Items};
 use solv_tags::trimmed;
 use std::alloc::{AllocError, Global};
@@ -53,7 +53,7 @@ fn kinds_named(word: &[u8]) -> Result<Kinds, Cause>
     };
     let mut rest = word;
     loop {
-        let (name, behind) = cut_at_comma(rest);
+        let (name, behind) = cut_at(b',', rest);
         kinds = match with_kind(name, kinds) {
             Ok(kinds) => kinds,
             Err(cause) => return Err(cause),

@@ -1,0 +1,11 @@
+mod Bools
+mod Cuts
+mod Feeds
+mod Lefts
+mod NumberLaws
+mod Pieces
+mod ReadIsWritten
+mod Spelling
+mod StepLaws
+mod WordLaws
+mod WrittenIsRead

@@ -1,0 +1,6 @@
+pub mod Words
+pub mod Numbers
+pub mod Texts
+pub mod Reading
+pub mod Laws
+pub mod Inner
