@@ -13,6 +13,7 @@ ghost use Rattle.solv_jobs.specs.Marking.{HasMarks};
 ghost use Rattle.solv_jobs.specs.Inner.Putting.{HasPut};
 ghost use Rattle.solv_policy.specs.Inner.Candidates.{IsPlace};
 
+use crate::ready::Ready;
 use crate::replacing::update_candidates;
 use solv_jobs::{put_with_set, puts_follow_each_other, select};
 use solv_list::Items;
@@ -44,36 +45,32 @@ fn asks_for_best_update(job: &Job) -> bool
 /// The packages that a job selects.
 fn selected(
     alloc: Global,
-    task: &Task,
-    prov: &Providers,
+    ready: &Ready<'_>,
     number: JobNo,
     job: &Job,
 ) -> Result<Vec<PackNo>, AllocError>
-    requires index { IsIndexOf prov.now (catalog_of task.now) }
-    requires closed { IsClosed task.now }
-    requires at { slice_get task.now.jobs number ≡ Some job.now }
-    ensures exact { IfOk result (λ packs. packs.items ≡ selection (catalog_of task.now) job.now.choice) }
-    ensures within { IfOk result (λ packs. list_all (is_pack (length task.now.universe.packages)) packs.items ≡ true) }
+    requires closed { IsClosed ready.now.task.now }
+    requires at { slice_get ready.now.task.now.jobs number ≡ Some job.now }
+    ensures exact { IfOk result (λ packs. packs.items ≡ selection (catalog_of ready.now.task.now) job.now.choice) }
+    ensures within { IfOk result (λ packs. list_all (is_pack (length ready.now.task.now.universe.packages)) packs.items ≡ true) }
 {
-    let packs = select(alloc, task, prov, number)?;
+    let packs = select(alloc, ready.task, ready.prov, number)?;
     Ok(packs)
 }
 
 /// The best of the packages that a job selects.
 fn best_selected(
     alloc: Global,
-    task: &Task,
-    prov: &Providers,
+    ready: &Ready<'_>,
     number: JobNo,
     job: &Job,
 ) -> Result<Vec<PackNo>, AllocError>
-    requires index { IsIndexOf prov.now (catalog_of task.now) }
-    requires closed { IsClosed task.now }
-    requires at { slice_get task.now.jobs number ≡ Some job.now }
-    ensures { IfOk result (λ packs. packs.items ≡ best (catalog_of task.now) (selection (catalog_of task.now) job.now.choice)) }
+    requires closed { IsClosed ready.now.task.now }
+    requires at { slice_get ready.now.task.now.jobs number ≡ Some job.now }
+    ensures { IfOk result (λ packs. packs.items ≡ best (catalog_of ready.now.task.now) (selection (catalog_of ready.now.task.now) job.now.choice)) }
 {
-    let packs = selected(alloc, task, prov, number, job)?;
-    let made = best(alloc, task, &packs)?;
+    let packs = selected(alloc, ready, number, job)?;
+    let made = best(alloc, ready.task, &packs)?;
     Ok(made)
 }
 
@@ -91,21 +88,19 @@ fn put_best_job(number: JobNo, packs: Vec<PackNo>, rules: &mut Rules) -> Result<
 /// The rule of a job that asks for the best of its selection, if it gives one.
 fn add_best_job(
     alloc: Global,
-    task: &Task,
-    prov: &Providers,
+    ready: &Ready<'_>,
     number: JobNo,
     job: &Job,
     rules: &mut Rules,
 ) -> Result<(), AllocError>
-    requires index { IsIndexOf prov.now (catalog_of task.now) }
-    requires closed { IsClosed task.now }
-    requires at { slice_get task.now.jobs number ≡ Some job.now }
-    ensures { HasPut (is_ok result) (when (is_install job.now.action && job.now.forcebest) (best_job_rule number (best (catalog_of task.now) (selection (catalog_of task.now) job.now.choice)))) rules.old rules.new }
+    requires closed { IsClosed ready.now.task.now }
+    requires at { slice_get ready.now.task.now.jobs number ≡ Some job.now }
+    ensures { HasPut (is_ok result) (when (is_install job.now.action && job.now.forcebest) (best_job_rule number (best (catalog_of ready.now.task.now) (selection (catalog_of ready.now.task.now) job.now.choice)))) rules.old rules.new }
 {
     if !asks_for_best(job) {
         return Ok(());
     }
-    match best_selected(alloc, task, prov, number, job) {
+    match best_selected(alloc, ready, number, job) {
         Ok(packs) => put_best_job(number, packs, rules),
         Err(_) => Err(AllocError),
     }
@@ -114,17 +109,15 @@ fn add_best_job(
 /// The rules of the jobs that ask for the best of their selection.
 fn add_best_jobs(
     alloc: Global,
-    task: &Task,
-    prov: &Providers,
+    ready: &Ready<'_>,
     rules: &mut Rules,
 ) -> Result<(), AllocError>
-    requires index { IsIndexOf prov.now (catalog_of task.now) }
-    requires closed { IsClosed task.now }
-    ensures { HasPut (is_ok result) (best_job_rules (catalog_of task.now) task.now.jobs) rules.old rules.new }
+    requires closed { IsClosed ready.now.task.now }
+    ensures { HasPut (is_ok result) (best_job_rules (catalog_of ready.now.task.now) ready.now.task.now.jobs) rules.old rules.new }
 {
     puts_follow_each_other();
-    for (number, job) in task.jobs.held().iter().enumerate() {
-        match add_best_job(alloc, task, prov, JobNo(number), job, rules) {
+    for (number, job) in ready.task.jobs.held().iter().enumerate() {
+        match add_best_job(alloc, ready, JobNo(number), job, rules) {
             Ok(()) => {}
             Err(_) => return Err(AllocError),
         }
@@ -135,43 +128,35 @@ fn add_best_jobs(
 /// The best of these.
 fn best_candidates(
     alloc: Global,
-    task: &Task,
-    prov: &Providers,
-    marks: &Marks,
+    ready: &Ready<'_>,
     pack: PackNo,
 ) -> Result<Vec<PackNo>, AllocError>
-    requires index { IsIndexOf prov.now (catalog_of task.now) }
-    requires closed { IsClosed task.now }
-    requires marks { HasMarks (length task.now.universe.packages) marks.now }
-    requires pack { IsPlace task.now pack }
-    ensures { IfOk result (λ packs. packs.items ≡ best (catalog_of task.now) (update_candidates (catalog_of task.now) task.now.flags marks.now pack)) }
+    requires closed { IsClosed ready.now.task.now }
+    requires pack { IsPlace ready.now.task.now pack }
+    ensures { IfOk result (λ packs. packs.items ≡ best (catalog_of ready.now.task.now) (update_candidates (catalog_of ready.now.task.now) ready.now.task.now.flags ready.now.marks.now pack)) }
 {
-    let packs = update_candidates(alloc, task, prov, marks, pack)?;
-    let made = best(alloc, task, &packs)?;
+    let packs = update_candidates(alloc, ready.task, ready.prov, ready.marks, pack)?;
+    let made = best(alloc, ready.task, &packs)?;
     Ok(made)
 }
 
 /// The rule on the best update of a package, if it is installed.
 fn add_best_update(
     alloc: Global,
-    task: &Task,
-    prov: &Providers,
-    marks: &Marks,
+    ready: &Ready<'_>,
     number: JobNo,
     pack: PackNo,
     rules: &mut Rules,
 ) -> Result<(), AllocError>
-    requires index { IsIndexOf prov.now (catalog_of task.now) }
-    requires closed { IsClosed task.now }
-    requires marks { HasMarks (length task.now.universe.packages) marks.now }
-    requires pack { IsPlace task.now pack }
-    ensures { HasPut (is_ok result) (when (is_installed (catalog_of task.now) pack) (best_update_rule (catalog_of task.now) task.now.flags marks.now number pack ∷ [])) rules.old rules.new }
+    requires closed { IsClosed ready.now.task.now }
+    requires pack { IsPlace ready.now.task.now pack }
+    ensures { HasPut (is_ok result) (when (is_installed (catalog_of ready.now.task.now) pack) (best_update_rule (catalog_of ready.now.task.now) ready.now.task.now.flags ready.now.marks.now number pack ∷ [])) rules.old rules.new }
 {
-    if !task.universe.installed(pack) {
+    if !ready.task.universe.installed(pack) {
         return Ok(());
     }
     let rule = Rule::BestUpdate(number, pack, SetNo(rules.sets.len()));
-    match best_candidates(alloc, task, prov, marks, pack) {
+    match best_candidates(alloc, ready, pack) {
         Ok(packs) => put_with_set(rules, rule, Items::wrap(packs)),
         Err(_) => Err(AllocError),
     }
@@ -180,22 +165,18 @@ fn add_best_update(
 /// The rules on the best updates of those of the packages that are installed.
 fn add_installed(
     alloc: Global,
-    task: &Task,
-    prov: &Providers,
-    marks: &Marks,
+    ready: &Ready<'_>,
     number: JobNo,
     packs: &[PackNo],
     rules: &mut Rules,
 ) -> Result<(), AllocError>
-    requires index { IsIndexOf prov.now (catalog_of task.now) }
-    requires closed { IsClosed task.now }
-    requires marks { HasMarks (length task.now.universe.packages) marks.now }
-    requires within { list_all (is_pack (length task.now.universe.packages)) packs.now ≡ true }
-    ensures { HasPut (is_ok result) (map (best_update_rule (catalog_of task.now) task.now.flags marks.now number) (filter (is_installed (catalog_of task.now)) packs.now)) rules.old rules.new }
+    requires closed { IsClosed ready.now.task.now }
+    requires within { list_all (is_pack (length ready.now.task.now.universe.packages)) packs.now ≡ true }
+    ensures { HasPut (is_ok result) (map (best_update_rule (catalog_of ready.now.task.now) ready.now.task.now.flags ready.now.marks.now number) (filter (is_installed (catalog_of ready.now.task.now)) packs.now)) rules.old rules.new }
 {
     puts_follow_each_other();
     for pack in packs {
-        match add_best_update(alloc, task, prov, marks, number, *pack, rules) {
+        match add_best_update(alloc, ready, number, *pack, rules) {
             Ok(()) => {}
             Err(_) => return Err(AllocError),
         }
@@ -206,24 +187,20 @@ fn add_installed(
 /// The rules of a job that asks for the best updates, if it gives any.
 fn add_job_updates(
     alloc: Global,
-    task: &Task,
-    prov: &Providers,
-    marks: &Marks,
+    ready: &Ready<'_>,
     number: JobNo,
     job: &Job,
     rules: &mut Rules,
 ) -> Result<(), AllocError>
-    requires index { IsIndexOf prov.now (catalog_of task.now) }
-    requires closed { IsClosed task.now }
-    requires marks { HasMarks (length task.now.universe.packages) marks.now }
-    requires at { slice_get task.now.jobs number ≡ Some job.now }
-    ensures { HasPut (is_ok result) (when (is_update job.now.action && job.now.forcebest) (map (best_update_rule (catalog_of task.now) task.now.flags marks.now number) (selected_installed (catalog_of task.now) job.now.choice))) rules.old rules.new }
+    requires closed { IsClosed ready.now.task.now }
+    requires at { slice_get ready.now.task.now.jobs number ≡ Some job.now }
+    ensures { HasPut (is_ok result) (when (is_update job.now.action && job.now.forcebest) (map (best_update_rule (catalog_of ready.now.task.now) ready.now.task.now.flags ready.now.marks.now number) (selected_installed (catalog_of ready.now.task.now) job.now.choice))) rules.old rules.new }
 {
     if !asks_for_best_update(job) {
         return Ok(());
     }
-    match selected(alloc, task, prov, number, job) {
-        Ok(packs) => add_installed(alloc, task, prov, marks, number, &packs, rules),
+    match selected(alloc, ready, number, job) {
+        Ok(packs) => add_installed(alloc, ready, number, &packs, rules),
         Err(_) => Err(AllocError),
     }
 }
@@ -231,19 +208,15 @@ fn add_job_updates(
 /// The rules of the jobs that ask for the best updates.
 fn add_best_updates(
     alloc: Global,
-    task: &Task,
-    prov: &Providers,
-    marks: &Marks,
+    ready: &Ready<'_>,
     rules: &mut Rules,
 ) -> Result<(), AllocError>
-    requires index { IsIndexOf prov.now (catalog_of task.now) }
-    requires closed { IsClosed task.now }
-    requires marks { HasMarks (length task.now.universe.packages) marks.now }
-    ensures { HasPut (is_ok result) (best_update_rules (catalog_of task.now) task.now.flags marks.now task.now.jobs) rules.old rules.new }
+    requires closed { IsClosed ready.now.task.now }
+    ensures { HasPut (is_ok result) (best_update_rules (catalog_of ready.now.task.now) ready.now.task.now.flags ready.now.marks.now ready.now.task.now.jobs) rules.old rules.new }
 {
     puts_follow_each_other();
-    for (number, job) in task.jobs.held().iter().enumerate() {
-        match add_job_updates(alloc, task, prov, marks, JobNo(number), job, rules) {
+    for (number, job) in ready.task.jobs.held().iter().enumerate() {
+        match add_job_updates(alloc, ready, JobNo(number), job, rules) {
             Ok(()) => {}
             Err(_) => return Err(AllocError),
         }
@@ -266,12 +239,13 @@ pub fn best_rules(
     requires marks { HasMarks (length task.now.universe.packages) marks.now }
     ensures { HasPut (is_ok result) (best_job_rules (catalog_of task.now) task.now.jobs ++ best_update_rules (catalog_of task.now) task.now.flags marks.now task.now.jobs) rules.old rules.new }
 {
+    let ready = Ready { task, prov, marks };
     puts_follow_each_other();
-    match add_best_jobs(alloc, task, prov, rules) {
+    match add_best_jobs(alloc, &ready, rules) {
         Ok(()) => {}
         Err(_) => return Err(AllocError),
     }
-    match add_best_updates(alloc, task, prov, marks, rules) {
+    match add_best_updates(alloc, &ready, rules) {
         Ok(()) => Ok(()),
         Err(_) => Err(AllocError),
     }

@@ -13,6 +13,7 @@ ghost use Rattle.solv_jobs.specs.Marking.{HasMarks};
 ghost use Rattle.solv_policy.specs.Inner.Candidates.{IsPlace};
 ghost use Rattle.solv_updates.specs.Inner.Places.{IsHeld};
 
+use crate::ready::Ready;
 use solv_base::evr_compare;
 use solv_pool::{Flags, Marks, PackNo, Package, Task};
 use std::cmp::Ordering;
@@ -38,16 +39,15 @@ pub(crate) fn same_name(task: &Task, pack: PackNo, other: PackNo) -> bool
 }
 
 /// Whether two packages of one name may be installed together.
-pub(crate) fn coexist(task: &Task, marks: &Marks, pack: PackNo, other: PackNo) -> bool
-    requires pack { IsPlace task.now pack }
-    requires other { IsPlace task.now other }
-    requires marks { HasMarks (length task.now.universe.packages) marks.now }
-    ensures { result ≡ coexist (catalog_of task.now) marks.now pack other }
+pub(crate) fn coexist(ready: &Ready<'_>, pack: PackNo, other: PackNo) -> bool
+    requires pack { IsPlace ready.now.task.now pack }
+    requires other { IsPlace ready.now.task.now other }
+    ensures { result ≡ coexist (catalog_of ready.now.task.now) ready.now.marks.now pack other }
 {
-    if !same_name(task, pack, other) {
+    if !same_name(ready.task, pack, other) {
         return false;
     }
-    let multiversion = marks.multiversion.held();
+    let multiversion = ready.marks.multiversion.held();
     multiversion[pack.0 as usize] && multiversion[other.0 as usize]
 }
 

@@ -12,6 +12,7 @@ mod architectures;
 mod best_updating;
 mod comparing;
 mod exact_jobs;
+mod ready;
 mod replacing;
 mod updating;
 

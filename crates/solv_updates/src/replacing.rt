@@ -13,6 +13,7 @@ ghost use Rattle.solv_jobs.specs.Marking.{HasMarks};
 ghost use Rattle.solv_policy.specs.Inner.Candidates.{IsPlace};
 ghost use Rattle.solv_updates.specs.Inner.Replacing.{is_near, is_wanted, is_candidate};
 
+use crate::ready::Ready;
 use crate::comparing::{coexist, flags_allow, package};
 use solv_jobs::put_in_order;
 use solv_pool::{Marks, PackNo, Task};
@@ -31,69 +32,59 @@ pub(crate) struct Wanted {
 /// The packages of a package's name, itself among them, and those that obsolete it, ascending.
 fn near(
     alloc: Global,
-    task: &Task,
-    prov: &Providers,
+    ready: &Ready<'_>,
     pack: PackNo,
 ) -> Result<Vec<PackNo>, AllocError>
-    requires index { IsIndexOf prov.now (catalog_of task.now) }
-    requires over { IsOver task.now.pool task.now.universe }
-    requires pack { IsPlace task.now pack }
-    ensures exact { IfOk result (λ packs. packs.items ≡ filter (is_near (catalog_of task.now) pack) (packages (catalog_of task.now))) }
-    ensures within { IfOk result (λ packs. list_all (is_pack (length task.now.universe.packages)) packs.items ≡ true) }
-    ensures itself { OnOk result (is_near (catalog_of task.now) pack pack ≡ true) }
+    requires pack { IsPlace ready.now.task.now pack }
+    ensures exact { IfOk result (λ packs. packs.items ≡ filter (is_near (catalog_of ready.now.task.now) pack) (packages (catalog_of ready.now.task.now))) }
+    ensures within { IfOk result (λ packs. list_all (is_pack (length ready.now.task.now.universe.packages)) packs.items ≡ true) }
+    ensures itself { OnOk result (is_near (catalog_of ready.now.task.now) pack pack ≡ true) }
 {
-    let name = package(task, pack).name;
-    let mut found = Vec::from_slice(alloc, prov.of_name(name))?;
-    found.extend_from_slice(prov.obsoleted_by(pack))?;
+    let name = package(ready.task, pack).name;
+    let mut found = Vec::from_slice(alloc, ready.prov.of_name(name))?;
+    found.extend_from_slice(ready.prov.obsoleted_by(pack))?;
     put_in_order(&mut found);
     Ok(found)
 }
 
 /// Whether a package may take the place of one, were every change allowed, where it is near by.
-fn replaces(task: &Task, marks: &Marks, pack: PackNo, other: PackNo) -> bool
-    requires over { IsOver task.now.pool task.now.universe }
-    requires marks { HasMarks (length task.now.universe.packages) marks.now }
-    requires pack { IsPlace task.now pack }
-    requires other { IsPlace task.now other }
-    ensures { result ≡ (is_installable (catalog_of task.now) other && (not (is_installed (catalog_of task.now) other) && not (coexist (catalog_of task.now) marks.now pack other))) }
+fn replaces(ready: &Ready<'_>, pack: PackNo, other: PackNo) -> bool
+    requires pack { IsPlace ready.now.task.now pack }
+    requires other { IsPlace ready.now.task.now other }
+    ensures { result ≡ (is_installable (catalog_of ready.now.task.now) other && (not (is_installed (catalog_of ready.now.task.now) other) && not (coexist (catalog_of ready.now.task.now) ready.now.marks.now pack other))) }
 {
-    task.universe.installable(&task.pool, other)
-        && !task.universe.installed(other)
-        && !coexist(task, marks, pack, other)
+    ready.task.universe.installable(&ready.task.pool, other)
+        && !ready.task.universe.installed(other)
+        && !coexist(ready, pack, other)
 }
 
 /// Whether a package that is near by is asked for.
-fn is_wanted(task: &Task, marks: &Marks, wanted: &Wanted, pack: PackNo, other: PackNo) -> bool
-    requires over { IsOver task.now.pool task.now.universe }
-    requires marks { HasMarks (length task.now.universe.packages) marks.now }
-    requires pack { IsPlace task.now pack }
-    requires other { IsPlace task.now other }
-    ensures { result ≡ is_wanted (catalog_of task.now) task.now.flags marks.now wanted.now pack other }
+fn is_wanted(ready: &Ready<'_>, wanted: &Wanted, pack: PackNo, other: PackNo) -> bool
+    requires pack { IsPlace ready.now.task.now pack }
+    requires other { IsPlace ready.now.task.now other }
+    ensures { result ≡ is_wanted (catalog_of ready.now.task.now) ready.now.task.now.flags ready.now.marks.now wanted.now pack other }
 {
     if wanted.itself && other == pack {
         return true;
     }
-    replaces(task, marks, pack, other) && (wanted.every_change || flags_allow(task, pack, other))
+    replaces(ready, pack, other) && (wanted.every_change || flags_allow(ready.task, pack, other))
 }
 
 /// Those of the packages that are asked for.
 fn wanted_of(
     alloc: Global,
-    task: &Task,
-    marks: &Marks,
+    ready: &Ready<'_>,
     wanted: &Wanted,
     pack: PackNo,
     packs: &[PackNo],
 ) -> Result<Vec<PackNo>, AllocError>
-    requires over { IsOver task.now.pool task.now.universe }
-    requires marks { HasMarks (length task.now.universe.packages) marks.now }
-    requires pack { IsPlace task.now pack }
-    requires within { list_all (is_pack (length task.now.universe.packages)) packs.now ≡ true }
-    ensures { IfOk result (λ made. made.items ≡ filter (is_wanted (catalog_of task.now) task.now.flags marks.now wanted.now pack) packs.now) }
+    requires pack { IsPlace ready.now.task.now pack }
+    requires within { list_all (is_pack (length ready.now.task.now.universe.packages)) packs.now ≡ true }
+    ensures { IfOk result (λ made. made.items ≡ filter (is_wanted (catalog_of ready.now.task.now) ready.now.task.now.flags ready.now.marks.now wanted.now pack) packs.now) }
 {
     let mut made = Vec::new(alloc);
     for other in packs {
-        if is_wanted(task, marks, wanted, pack, *other) {
+        if is_wanted(ready, wanted, pack, *other) {
             made.push(*other)?;
         }
     }
@@ -103,20 +94,15 @@ fn wanted_of(
 /// The packages that are asked for, ascending.
 pub(crate) fn candidates(
     alloc: Global,
-    task: &Task,
-    prov: &Providers,
-    marks: &Marks,
+    ready: &Ready<'_>,
     wanted: &Wanted,
     pack: PackNo,
 ) -> Result<Vec<PackNo>, AllocError>
-    requires index { IsIndexOf prov.now (catalog_of task.now) }
-    requires over { IsOver task.now.pool task.now.universe }
-    requires marks { HasMarks (length task.now.universe.packages) marks.now }
-    requires pack { IsPlace task.now pack }
-    ensures { IfOk result (λ made. made.items ≡ filter (is_candidate (catalog_of task.now) task.now.flags marks.now wanted.now pack) (packages (catalog_of task.now))) }
+    requires pack { IsPlace ready.now.task.now pack }
+    ensures { IfOk result (λ made. made.items ≡ filter (is_candidate (catalog_of ready.now.task.now) ready.now.task.now.flags ready.now.marks.now wanted.now pack) (packages (catalog_of ready.now.task.now))) }
 {
-    let packs = near(alloc, task, prov, pack)?;
-    let made = wanted_of(alloc, task, marks, wanted, pack, &packs)?;
+    let packs = near(alloc, ready, pack)?;
+    let made = wanted_of(alloc, ready, wanted, pack, &packs)?;
     Ok(made)
 }
 
@@ -134,11 +120,12 @@ pub fn feature(
     requires pack { IsPlace task.now pack }
     ensures { IfOk result (λ made. made.items ≡ feature_set (catalog_of task.now) marks.now pack) }
 {
+    let ready = Ready { task, prov, marks };
     let wanted = Wanted {
         itself: false,
         every_change: true,
     };
-    candidates(alloc, task, prov, marks, &wanted, pack)
+    candidates(alloc, &ready, &wanted, pack)
 }
 
 /// The packages that may take the place of a package with the changes that the flags allow, ascending.
@@ -155,11 +142,12 @@ pub fn legal(
     requires pack { IsPlace task.now pack }
     ensures { IfOk result (λ made. made.items ≡ legal_set (catalog_of task.now) task.now.flags marks.now pack) }
 {
+    let ready = Ready { task, prov, marks };
     let wanted = Wanted {
         itself: false,
         every_change: false,
     };
-    candidates(alloc, task, prov, marks, &wanted, pack)
+    candidates(alloc, &ready, &wanted, pack)
 }
 
 /// A package and those that may take its place, were every change allowed, ascending.
@@ -176,11 +164,12 @@ pub fn feature_candidates(
     requires pack { IsPlace task.now pack }
     ensures { IfOk result (λ made. made.items ≡ feature_candidates (catalog_of task.now) task.now.flags marks.now pack) }
 {
+    let ready = Ready { task, prov, marks };
     let wanted = Wanted {
         itself: true,
         every_change: true,
     };
-    candidates(alloc, task, prov, marks, &wanted, pack)
+    candidates(alloc, &ready, &wanted, pack)
 }
 
 /// A package and those that may take its place with the changes that the flags allow, ascending.
@@ -197,9 +186,10 @@ pub fn update_candidates(
     requires pack { IsPlace task.now pack }
     ensures { IfOk result (λ made. made.items ≡ update_candidates (catalog_of task.now) task.now.flags marks.now pack) }
 {
+    let ready = Ready { task, prov, marks };
     let wanted = Wanted {
         itself: true,
         every_change: false,
     };
-    candidates(alloc, task, prov, marks, &wanted, pack)
+    candidates(alloc, &ready, &wanted, pack)
 }

@@ -13,6 +13,7 @@ ghost use Rattle.solv_updates.specs.Inner.Exact.{AreAsked};
 ghost use Rattle.solv_jobs.specs.Marking.{HasMarks};
 ghost use Rattle.solv_policy.specs.Inner.Candidates.{IsPlace};
 
+use crate::ready::Ready;
 use crate::comparing::package;
 use crate::exact_jobs::asked_names;
 use crate::replacing::{feature_candidates, update_candidates};
@@ -23,24 +24,22 @@ use solv_prov::Providers;
 use std::alloc::{AllocError, Global};
 
 /// Whether a package is installed, and neither erased nor allowed to go.
-fn is_kept(task: &Task, marks: &Marks, pack: PackNo) -> bool
-    requires marks { HasMarks (length task.now.universe.packages) marks.now }
-    requires pack { IsPlace task.now pack }
-    ensures { result ≡ is_kept (catalog_of task.now) task.now.flags marks.now pack }
+fn is_kept(ready: &Ready<'_>, pack: PackNo) -> bool
+    requires pack { IsPlace ready.now.task.now pack }
+    ensures { result ≡ is_kept (catalog_of ready.now.task.now) ready.now.task.now.flags ready.now.marks.now pack }
 {
-    if !task.universe.installed(pack) || task.flags.allow_uninstall {
+    if !ready.task.universe.installed(pack) || ready.task.flags.allow_uninstall {
         return false;
     }
-    !marks.erased.held()[pack.0 as usize] && !marks.allow_uninstall.held()[pack.0 as usize]
+    !ready.marks.erased.held()[pack.0 as usize] && !ready.marks.allow_uninstall.held()[pack.0 as usize]
 }
 
 /// Whether a package is multiversion.
-fn is_multiversion(task: &Task, marks: &Marks, pack: PackNo) -> bool
-    requires marks { HasMarks (length task.now.universe.packages) marks.now }
-    requires pack { IsPlace task.now pack }
-    ensures { result ≡ marked marks.now.multiversion pack }
+fn is_multiversion(ready: &Ready<'_>, pack: PackNo) -> bool
+    requires pack { IsPlace ready.now.task.now pack }
+    ensures { result ≡ marked ready.now.marks.now.multiversion pack }
 {
-    marks.multiversion.held()[pack.0 as usize]
+    ready.marks.multiversion.held()[pack.0 as usize]
 }
 
 /// Whether a job asks exactly for packages of a package's name.
@@ -55,41 +54,34 @@ fn is_asked_exactly(task: &Task, asked: &[bool], pack: PackNo) -> bool
 }
 
 /// Whether a package that is kept has an update rule: it is multiversion, or no job asks exactly for its name.
-fn has_update_rule(task: &Task, marks: &Marks, asked: &[bool], pack: PackNo) -> bool
-    requires over { IsOver task.now.pool task.now.universe }
-    requires marks { HasMarks (length task.now.universe.packages) marks.now }
-    requires asked { AreAsked asked.now (catalog_of task.now) task.now.jobs }
-    requires pack { IsPlace task.now pack }
-    ensures { result ≡ has_update_rule (catalog_of task.now) task.now.jobs marks.now pack }
+fn has_update_rule(ready: &Ready<'_>, asked: &[bool], pack: PackNo) -> bool
+    requires asked { AreAsked asked.now (catalog_of ready.now.task.now) ready.now.task.now.jobs }
+    requires pack { IsPlace ready.now.task.now pack }
+    ensures { result ≡ has_update_rule (catalog_of ready.now.task.now) ready.now.task.now.jobs ready.now.marks.now pack }
 {
-    is_multiversion(task, marks, pack) || !is_asked_exactly(task, asked, pack)
+    is_multiversion(ready, pack) || !is_asked_exactly(ready.task, asked, pack)
 }
 
 /// The update rule of a package, if it has one.
 fn add_update(
     alloc: Global,
-    task: &Task,
-    prov: &Providers,
-    marks: &Marks,
+    ready: &Ready<'_>,
     asked: &[bool],
     pack: PackNo,
     rules: &mut Rules,
 ) -> Result<(), AllocError>
-    requires index { IsIndexOf prov.now (catalog_of task.now) }
-    requires over { IsOver task.now.pool task.now.universe }
-    requires marks { HasMarks (length task.now.universe.packages) marks.now }
-    requires asked { AreAsked asked.now (catalog_of task.now) task.now.jobs }
-    requires pack { IsPlace task.now pack }
-    ensures { HasPut (is_ok result) (when (is_kept (catalog_of task.now) task.now.flags marks.now pack && has_update_rule (catalog_of task.now) task.now.jobs marks.now pack) (update pack (update_candidates (catalog_of task.now) task.now.flags marks.now pack) ∷ [])) rules.old rules.new }
+    requires asked { AreAsked asked.now (catalog_of ready.now.task.now) ready.now.task.now.jobs }
+    requires pack { IsPlace ready.now.task.now pack }
+    ensures { HasPut (is_ok result) (when (is_kept (catalog_of ready.now.task.now) ready.now.task.now.flags ready.now.marks.now pack && has_update_rule (catalog_of ready.now.task.now) ready.now.task.now.jobs ready.now.marks.now pack) (update pack (update_candidates (catalog_of ready.now.task.now) ready.now.task.now.flags ready.now.marks.now pack) ∷ [])) rules.old rules.new }
 {
-    if !is_kept(task, marks, pack) {
+    if !is_kept(ready, pack) {
         return Ok(());
     }
-    if !has_update_rule(task, marks, asked, pack) {
+    if !has_update_rule(ready, asked, pack) {
         return Ok(());
     }
     let rule = Rule::Update(pack, SetNo(rules.sets.len()));
-    match update_candidates(alloc, task, prov, marks, pack) {
+    match update_candidates(alloc, ready.task, ready.prov, ready.marks, pack) {
         Ok(packs) => put_with_set(rules, rule, Items::wrap(packs)),
         Err(_) => Err(AllocError),
     }
@@ -98,23 +90,18 @@ fn add_update(
 /// The feature rule of a package, if it has one.
 fn add_feature(
     alloc: Global,
-    task: &Task,
-    prov: &Providers,
-    marks: &Marks,
+    ready: &Ready<'_>,
     pack: PackNo,
     rules: &mut Rules,
 ) -> Result<(), AllocError>
-    requires index { IsIndexOf prov.now (catalog_of task.now) }
-    requires over { IsOver task.now.pool task.now.universe }
-    requires marks { HasMarks (length task.now.universe.packages) marks.now }
-    requires pack { IsPlace task.now pack }
-    ensures { HasPut (is_ok result) (when (is_kept (catalog_of task.now) task.now.flags marks.now pack) (feature pack (feature_candidates (catalog_of task.now) task.now.flags marks.now pack) ∷ [])) rules.old rules.new }
+    requires pack { IsPlace ready.now.task.now pack }
+    ensures { HasPut (is_ok result) (when (is_kept (catalog_of ready.now.task.now) ready.now.task.now.flags ready.now.marks.now pack) (feature pack (feature_candidates (catalog_of ready.now.task.now) ready.now.task.now.flags ready.now.marks.now pack) ∷ [])) rules.old rules.new }
 {
-    if !is_kept(task, marks, pack) {
+    if !is_kept(ready, pack) {
         return Ok(());
     }
     let rule = Rule::Feature(pack, SetNo(rules.sets.len()));
-    match feature_candidates(alloc, task, prov, marks, pack) {
+    match feature_candidates(alloc, ready.task, ready.prov, ready.marks, pack) {
         Ok(packs) => put_with_set(rules, rule, Items::wrap(packs)),
         Err(_) => Err(AllocError),
     }
@@ -123,21 +110,16 @@ fn add_feature(
 /// The update rules of all packages.
 fn add_updates(
     alloc: Global,
-    task: &Task,
-    prov: &Providers,
-    marks: &Marks,
+    ready: &Ready<'_>,
     asked: &[bool],
     rules: &mut Rules,
 ) -> Result<(), AllocError>
-    requires index { IsIndexOf prov.now (catalog_of task.now) }
-    requires over { IsOver task.now.pool task.now.universe }
-    requires marks { HasMarks (length task.now.universe.packages) marks.now }
-    requires asked { AreAsked asked.now (catalog_of task.now) task.now.jobs }
-    ensures { HasPut (is_ok result) (update_rules (catalog_of task.now) task.now.flags marks.now task.now.jobs) rules.old rules.new }
+    requires asked { AreAsked asked.now (catalog_of ready.now.task.now) ready.now.task.now.jobs }
+    ensures { HasPut (is_ok result) (update_rules (catalog_of ready.now.task.now) ready.now.task.now.flags ready.now.marks.now ready.now.task.now.jobs) rules.old rules.new }
 {
     puts_follow_each_other();
     for number in 0..task.universe.count() {
-        match add_update(alloc, task, prov, marks, asked, PackNo(number + 1), rules) {
+        match add_update(alloc, ready, asked, PackNo(number + 1), rules) {
             Ok(()) => {}
             Err(_) => return Err(AllocError),
         }
@@ -148,19 +130,14 @@ fn add_updates(
 /// The feature rules of all packages.
 fn add_features(
     alloc: Global,
-    task: &Task,
-    prov: &Providers,
-    marks: &Marks,
+    ready: &Ready<'_>,
     rules: &mut Rules,
 ) -> Result<(), AllocError>
-    requires index { IsIndexOf prov.now (catalog_of task.now) }
-    requires over { IsOver task.now.pool task.now.universe }
-    requires marks { HasMarks (length task.now.universe.packages) marks.now }
-    ensures { HasPut (is_ok result) (feature_rules (catalog_of task.now) task.now.flags marks.now) rules.old rules.new }
+    ensures { HasPut (is_ok result) (feature_rules (catalog_of ready.now.task.now) ready.now.task.now.flags ready.now.marks.now) rules.old rules.new }
 {
     puts_follow_each_other();
     for number in 0..task.universe.count() {
-        match add_feature(alloc, task, prov, marks, PackNo(number + 1), rules) {
+        match add_feature(alloc, ready, PackNo(number + 1), rules) {
             Ok(()) => {}
             Err(_) => return Err(AllocError),
         }
@@ -182,15 +159,16 @@ pub fn update_rules(
     requires marks { HasMarks (length task.now.universe.packages) marks.now }
     ensures { HasPut (is_ok result) (update_rules (catalog_of task.now) task.now.flags marks.now task.now.jobs ++ feature_rules (catalog_of task.now) task.now.flags marks.now) rules.old rules.new }
 {
+    let ready = Ready { task, prov, marks };
     puts_follow_each_other();
     let Ok(asked) = asked_names(alloc, task, prov) else {
         return Err(AllocError);
     };
-    match add_updates(alloc, task, prov, marks, &asked, rules) {
+    match add_updates(alloc, &ready, &asked, rules) {
         Ok(()) => {}
         Err(_) => return Err(AllocError),
     }
-    match add_features(alloc, task, prov, marks, rules) {
+    match add_features(alloc, &ready, rules) {
         Ok(()) => Ok(()),
         Err(_) => Err(AllocError),
     }

@@ -16,26 +16,26 @@ use Rattle.solv_jobs.proofs.Puts.{nothing_put}
 use Rattle.solv_list.proofs.Lists.{this_turn}
 
 pub loop-number-init : goal.loop-number-init
-loop-number-init c = nothing_put (best_job_rules (catalog_of c.args.task.now) c.args.task.now.jobs) c.args.rules.now
+loop-number-init c = nothing_put (best_job_rules (catalog_of c.args.ready.now.task.now) c.args.ready.now.task.now.jobs) c.args.rules.now
 
 pub add_best_job-requires-clause-at : goal.add_best_job-requires-clause-at
 add_best_job-requires-clause-at c =
-    job_at c.args.task.now.jobs c.loop-number.number c.job-item.result (rw c.held-job-items.ensures at c.loop-number-test.true) (rw c.held-job-items.ensures at c.job-item.is)
+    job_at c.args.ready.now.task.now.jobs c.loop-number.number c.job-item.result (rw c.held-job-items.ensures at c.loop-number-test.true) (rw c.held-job-items.ensures at c.job-item.is)
 
 pub returns-in-Err : goal.returns-in-Err
 returns-in-Err c =
-    let catalog = catalog_of c.args.task.now in
+    let catalog = catalog_of c.args.ready.now.task.now in
     let make = λ (j : ℕ) (job : Job). when (is_install job.action && job.forcebest) (best_job_rule j (best catalog (selection catalog job.choice))) in
-    let at : drop c.loop-number.number c.args.task.now.jobs ≡ c.job-item.result ∷ drop (c.loop-number.number + 1) c.args.task.now.jobs =
-    this_turn c.args.task.now.jobs c.loop-number.number c.job-item.result (rw c.held-job-items.ensures at c.loop-number-test.true) (rw c.held-job-items.ensures at c.job-item.is) in
-    put_stops c.puts_follow_each_other.ensures (best_job_rules (catalog_of c.args.task.now) c.args.task.now.jobs) (make c.loop-number.number c.job-item.result) (flat_map (λ (j : ℕ × Job). make j.0 j.1) (enumerate_from (c.loop-number.number + 1) (drop (c.loop-number.number + 1) c.args.task.now.jobs))) c.args.rules.now c.loop-number.rules c.add_best_job.new.rules
-    (subst (λ t. IsPut (best_job_rules (catalog_of c.args.task.now) c.args.task.now.jobs) t c.args.rules.now c.loop-number.rules) (job_turn make c.args.task.now.jobs c.loop-number.number c.job-item.result at) c.loop-number.invariant) c.in-Err.ensures
+    let at : drop c.loop-number.number c.args.ready.now.task.now.jobs ≡ c.job-item.result ∷ drop (c.loop-number.number + 1) c.args.ready.now.task.now.jobs =
+    this_turn c.args.ready.now.task.now.jobs c.loop-number.number c.job-item.result (rw c.held-job-items.ensures at c.loop-number-test.true) (rw c.held-job-items.ensures at c.job-item.is) in
+    put_stops c.puts_follow_each_other.ensures (best_job_rules (catalog_of c.args.ready.now.task.now) c.args.ready.now.task.now.jobs) (make c.loop-number.number c.job-item.result) (flat_map (λ (j : ℕ × Job). make j.0 j.1) (enumerate_from (c.loop-number.number + 1) (drop (c.loop-number.number + 1) c.args.ready.now.task.now.jobs))) c.args.rules.now c.loop-number.rules c.add_best_job.new.rules
+    (subst (λ t. IsPut (best_job_rules (catalog_of c.args.ready.now.task.now) c.args.ready.now.task.now.jobs) t c.args.rules.now c.loop-number.rules) (job_turn make c.args.ready.now.task.now.jobs c.loop-number.number c.job-item.result at) c.loop-number.invariant) c.in-Err.ensures
 
 pub loop-number-preserved : goal.loop-number-preserved
 loop-number-preserved c =
-    let catalog = catalog_of c.args.task.now in
+    let catalog = catalog_of c.args.ready.now.task.now in
     let make = λ (j : ℕ) (job : Job). when (is_install job.action && job.forcebest) (best_job_rule j (best catalog (selection catalog job.choice))) in
-    let at : drop c.loop-number.number c.args.task.now.jobs ≡ c.job-item.result ∷ drop (c.loop-number.number + 1) c.args.task.now.jobs =
-    this_turn c.args.task.now.jobs c.loop-number.number c.job-item.result (rw c.held-job-items.ensures at c.loop-number-test.true) (rw c.held-job-items.ensures at c.job-item.is) in
-    put_next c.puts_follow_each_other.ensures (best_job_rules (catalog_of c.args.task.now) c.args.task.now.jobs) (make c.loop-number.number c.job-item.result) (flat_map (λ (j : ℕ × Job). make j.0 j.1) (enumerate_from (c.loop-number.number + 1) (drop (c.loop-number.number + 1) c.args.task.now.jobs))) c.args.rules.now c.loop-number.rules c.add_best_job.new.rules
-    (subst (λ t. IsPut (best_job_rules (catalog_of c.args.task.now) c.args.task.now.jobs) t c.args.rules.now c.loop-number.rules) (job_turn make c.args.task.now.jobs c.loop-number.number c.job-item.result at) c.loop-number.invariant) c.in-Ok.ensures
+    let at : drop c.loop-number.number c.args.ready.now.task.now.jobs ≡ c.job-item.result ∷ drop (c.loop-number.number + 1) c.args.ready.now.task.now.jobs =
+    this_turn c.args.ready.now.task.now.jobs c.loop-number.number c.job-item.result (rw c.held-job-items.ensures at c.loop-number-test.true) (rw c.held-job-items.ensures at c.job-item.is) in
+    put_next c.puts_follow_each_other.ensures (best_job_rules (catalog_of c.args.ready.now.task.now) c.args.ready.now.task.now.jobs) (make c.loop-number.number c.job-item.result) (flat_map (λ (j : ℕ × Job). make j.0 j.1) (enumerate_from (c.loop-number.number + 1) (drop (c.loop-number.number + 1) c.args.ready.now.task.now.jobs))) c.args.rules.now c.loop-number.rules c.add_best_job.new.rules
+    (subst (λ t. IsPut (best_job_rules (catalog_of c.args.ready.now.task.now) c.args.ready.now.task.now.jobs) t c.args.rules.now c.loop-number.rules) (job_turn make c.args.ready.now.task.now.jobs c.loop-number.number c.job-item.result at) c.loop-number.invariant) c.in-Ok.ensures

@@ -12,6 +12,6 @@ use Rattle.solv_updates.proofs.best_updating.add_best_jobs.Given as goal
 
 abbrev pub invariant-loop-number : goal.invariant-loop-number
 invariant-loop-number l =
-    IsPut (best_job_rules (catalog_of l.task) l.task.jobs)
-    (flat_map (λ job. when (is_install job.1.action && job.1.forcebest) (best_job_rule job.0 (best (catalog_of l.task) (selection (catalog_of l.task) job.1.choice)))) (enumerate_from l.number (drop l.number l.task.jobs)))
+    IsPut (best_job_rules (catalog_of l.ready.task.now) l.ready.task.now.jobs)
+    (flat_map (λ job. when (is_install job.1.action && job.1.forcebest) (best_job_rule job.0 (best (catalog_of l.ready.task.now) (selection (catalog_of l.ready.task.now) job.1.choice)))) (enumerate_from l.number (drop l.number l.ready.task.now.jobs)))
     l.initial.rules l.rules

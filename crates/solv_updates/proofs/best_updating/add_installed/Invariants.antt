@@ -9,7 +9,7 @@ use Rattle.solv_updates.proofs.best_updating.add_installed.Given as goal
 
 abbrev pub invariant-loop-pack : goal.invariant-loop-pack
 invariant-loop-pack l = record {
-  put : IsPut (map (best_update_rule (catalog_of l.task) l.task.flags l.marks l.fn.number) (filter (is_installed (catalog_of l.task)) l.packs))
-      (map (best_update_rule (catalog_of l.task) l.task.flags l.marks l.fn.number) (filter (is_installed (catalog_of l.task)) (drop l.pack-index l.packs))) l.initial.rules l.rules;
-  within : list_all (is_pack (length l.task.universe.packages)) (drop l.pack-index l.packs) ≡ true;
+  put : IsPut (map (best_update_rule (catalog_of l.ready.task.now) l.ready.task.now.flags l.ready.marks.now l.fn.number) (filter (is_installed (catalog_of l.ready.task.now)) l.packs))
+      (map (best_update_rule (catalog_of l.ready.task.now) l.ready.task.now.flags l.ready.marks.now l.fn.number) (filter (is_installed (catalog_of l.ready.task.now)) (drop l.pack-index l.packs))) l.initial.rules l.rules;
+  within : list_all (is_pack (length l.ready.task.now.universe.packages)) (drop l.pack-index l.packs) ≡ true;
 }

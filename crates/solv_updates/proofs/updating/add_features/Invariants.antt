@@ -7,6 +7,6 @@ use Rattle.solv_updates.proofs.updating.add_features.Given as goal
 
 abbrev pub invariant-loop-number : goal.invariant-loop-number
 invariant-loop-number l =
-    IsPut (rules_from (is_kept (catalog_of l.task) l.task.flags l.marks) (λ p. feature p (feature_candidates (catalog_of l.task) l.task.flags l.marks p)) 0 l.number-end)
-    (rules_from (is_kept (catalog_of l.task) l.task.flags l.marks) (λ p. feature p (feature_candidates (catalog_of l.task) l.task.flags l.marks p)) l.number l.number-end)
+    IsPut (rules_from (is_kept (catalog_of l.ready.task.now) l.ready.task.now.flags l.ready.marks.now) (λ p. feature p (feature_candidates (catalog_of l.ready.task.now) l.ready.task.now.flags l.ready.marks.now p)) 0 l.number-end)
+    (rules_from (is_kept (catalog_of l.ready.task.now) l.ready.task.now.flags l.ready.marks.now) (λ p. feature p (feature_candidates (catalog_of l.ready.task.now) l.ready.task.now.flags l.ready.marks.now p)) l.number l.number-end)
     l.initial.rules l.rules

@@ -8,6 +8,6 @@ use Rattle.solv_updates.proofs.updating.add_updates.Given as goal
 
 abbrev pub invariant-loop-number : goal.invariant-loop-number
 invariant-loop-number l =
-    IsPut (rules_from (λ p. is_kept (catalog_of l.task) l.task.flags l.marks p && has_update_rule (catalog_of l.task) l.task.jobs l.marks p) (λ p. update p (update_candidates (catalog_of l.task) l.task.flags l.marks p)) 0 l.number-end)
-    (rules_from (λ p. is_kept (catalog_of l.task) l.task.flags l.marks p && has_update_rule (catalog_of l.task) l.task.jobs l.marks p) (λ p. update p (update_candidates (catalog_of l.task) l.task.flags l.marks p)) l.number l.number-end)
+    IsPut (rules_from (λ p. is_kept (catalog_of l.ready.task.now) l.ready.task.now.flags l.ready.marks.now p && has_update_rule (catalog_of l.ready.task.now) l.ready.task.now.jobs l.ready.marks.now p) (λ p. update p (update_candidates (catalog_of l.ready.task.now) l.ready.task.now.flags l.ready.marks.now p)) 0 l.number-end)
+    (rules_from (λ p. is_kept (catalog_of l.ready.task.now) l.ready.task.now.flags l.ready.marks.now p && has_update_rule (catalog_of l.ready.task.now) l.ready.task.now.jobs l.ready.marks.now p) (λ p. update p (update_candidates (catalog_of l.ready.task.now) l.ready.task.now.flags l.ready.marks.now p)) l.number l.number-end)
     l.initial.rules l.rules
