@@ -117,7 +117,7 @@ fn is_wanted(answer: &Answer, wanted: Wanted) -> bool {
     }
 }
 
-/// The answer to a task. A book at its limits is told as want of memory, which fails a test.
+/// The answer to a task. A book at its limits is told as running out of memory, which fails a test.
 fn answered(rt: &impl Abort, alloc: Global, task: &Task, budget: u32) -> Result<Answer, AllocError>
     requires closed { IsClosed task.now }
     requires formed { list_all (asks_in_form (catalog_of task.now)) task.now.universe.packages ≡ true }

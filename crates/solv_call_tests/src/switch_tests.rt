@@ -10,9 +10,9 @@ ghost use Rattle.solv_rules.specs.Books.{IsBook, first_fault, is_bookable, read_
 ghost use Rattle.solv_questions.specs.Questions.{request_of, rules_of};
 
 use crate::fixture::{Trial, are, trial_of};
+use solv_answers::hard_rules;
 use solv_core::{Core, Ledger, Verdict};
 use solv_decide::{Phases, set_of, solve};
-use solv_answers::hard_rules;
 use solv_pool::laws::clauses_name_packages;
 use solv_pool::{PackNo, Rule, Task};
 use solv_rules::Book;

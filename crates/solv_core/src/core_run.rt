@@ -202,7 +202,7 @@ impl Core {
     /// Looks for a set that meets the clauses of enabled owners: choices as the guide asks, what follows from them, and
     /// what is learnt where they clash. The ledger gets this run, and what it learnt.
     ///
-    /// After want of memory the core may be run again. The ledger is as before, or has this run, and what it learnt until
+    /// Where memory runs out, the core may be run again. The ledger is as before, or has this run, and what it learnt until
     /// then.
     pub fn run<G: Guide>(
         &mut self,

@@ -20,7 +20,7 @@ use std::marker::Brand;
 /// Looks for a set that meets the enabled rules: as the questions of the task ask, with what follows from each choice, and with what is learnt where
 /// choices clash. `enabled` has an entry for each rule of the core. The ledger gets this run, and what it learnt.
 ///
-/// After want of memory it may be tried again.
+/// Where memory runs out, it may be tried again.
 pub fn solve(
     phases: &Phases,
     core: &mut Core,

@@ -6,7 +6,7 @@ use crate::logs::{Hint, Log, Step};
 use solv_pack::RuleNo;
 use std::alloc::{AllocError, Global};
 
-/// Puts the rules that hints name behind others.
+/// Appends the rules that hints name.
 fn add_rules(rules: &mut Vec<RuleNo>, hints: &[Hint]) -> Result<(), AllocError>
     ensures { OnOk result (rules.new.items ≡ rules.old.items ++ rules_of hints.now) }
 {

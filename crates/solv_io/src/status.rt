@@ -1,7 +1,7 @@
 ghost use Rattle.std.specs.Prelude.{◌≡◌};
 ghost use Rattle.solv_io.specs.Inner.Statuses.{status_number};
 
-/// How a program ends. Want of memory is none of these: there a program ends with 6 and prints nothing.
+/// How a program ends. Running out of memory is none of these: there a program ends with 6 and prints nothing.
 #[derive(Clone, Copy, PartialEq, Eq, Debug, Drop)]
 pub enum Status {
     /// An answer was reached, and nothing differs.

@@ -40,21 +40,21 @@ pub(crate) struct PackRules {
     pub(crate) features: Items<usize>,
 }
 
-/// Puts a demand of one of the best updates behind the others.
+/// Appends a demand of one of the best updates.
 fn push_best(row: &mut PackRules, demand: Demand) -> Result<(), AllocError>
     ensures { OnOk result (row.new ≡ record { pack = row.old.pack; best = row.old.best ++ demand ∷ []; updates = row.old.updates; features = row.old.features }) }
 {
     row.best.push(demand)
 }
 
-/// Puts the number of a rule on updates behind the others.
+/// Appends the number of a rule on updates.
 fn push_update(row: &mut PackRules, rule: usize) -> Result<(), AllocError>
     ensures { OnOk result (row.new ≡ record { pack = row.old.pack; best = row.old.best; updates = row.old.updates ++ rule ∷ []; features = row.old.features }) }
 {
     row.updates.push(rule)
 }
 
-/// Puts the number of a rule on what may take its place were every change allowed behind the others.
+/// Appends the number of a rule on what may take its place were every change allowed.
 fn push_feature(row: &mut PackRules, rule: usize) -> Result<(), AllocError>
     ensures { OnOk result (row.new ≡ record { pack = row.old.pack; best = row.old.best; updates = row.old.updates; features = row.old.features ++ rule ∷ [] }) }
 {
@@ -319,7 +319,7 @@ struct Installed {
     others: Items<Keep>,
 }
 
-/// Puts what is asked of a package behind the others of its kind, where it is installed.
+/// Appends what is asked of a package of its kind, where it is installed.
 fn put_keep(
     alloc: Global,
     task: &Task,

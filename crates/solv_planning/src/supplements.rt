@@ -131,7 +131,7 @@ fn named(
     })
 }
 
-/// Puts the name of a package behind others, which these packages have, where there are such of them that may be taken for a
+/// Appends the name of a package, which these packages have, where there are such of them that may be taken for a
 /// supplement.
 fn put_candidates(
     alloc: Global,
@@ -159,7 +159,7 @@ fn put_candidates(
     made.push(named(alloc, task, trees, pack, packs, sorted.held())?)
 }
 
-/// Puts the name of a package behind others, which these packages have, where one of them has supplements.
+/// Appends the name of a package, which these packages have, where one of them has supplements.
 fn put_name(
     alloc: Global,
     task: &Task,
@@ -191,7 +191,7 @@ fn is_first_of(packs: &[PackNo], pack: PackNo) -> bool
     }
 }
 
-/// Puts the name of a package behind others, where it is the first of its name and one of them has supplements.
+/// Appends the name of a package, where it is the first of its name and one of them has supplements.
 fn put_first(
     alloc: Global,
     task: &Task,

@@ -29,7 +29,7 @@ fn want(trees: &[bool], pack: PackNo, dep: DepId) -> Want
     }
 }
 
-/// Puts the requirement of a rule behind others, if it is of one.
+/// Appends the requirement of a rule, if it is of one.
 fn put_required(rule: &Rule, trees: &[bool], made: &mut Items<Want>) -> Result<(), AllocError>
     ensures { (catalog : Catalog) (sets : List (List ℕ)) → trees.now ≡ trees_of catalog → OnOk result (made.new ≡ made.old ++ wants_of catalog (rule_with sets rule.now)) }
 {
@@ -54,7 +54,7 @@ pub(crate) fn required(
     Ok(made)
 }
 
-/// Puts what a package recommends behind others.
+/// Appends what a package recommends.
 fn put_all(
     trees: &[bool],
     pack: PackNo,
@@ -69,7 +69,7 @@ fn put_all(
     Ok(())
 }
 
-/// Puts what a package recommends that is not installed behind others.
+/// Appends what a package recommends that is not installed.
 fn put_recommended(
     task: &Task,
     trees: &[bool],

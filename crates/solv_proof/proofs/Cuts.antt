@@ -2,7 +2,8 @@
 use Rattle.std.proofs.Common.{ℕ, ◌≡◌, true, false, List, [], ◌∷◌, Option, Some, None, refl, cond}
 use Rattle.std.specs.Prelude.{◌==◌}
 use Rattle.solv_io.specs.Words.{lengthened}
-use Rattle.solv_proof.specs.Words.{words_between, three_words, words_left}
+use Rattle.solv_proof.specs.Words.{words_between, three_words}
+use Rattle.solv_proof.specs.Inner.Words.{words_left}
 use Rattle.solv_proof.specs.Texts.{is_some_list}
 
 pub words_some : (text : List ℕ) → is_some_list (words_between text) ≡ true

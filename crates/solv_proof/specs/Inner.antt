@@ -1,2 +1,3 @@
 -- Words of contracts between layers, and what holds inside.
 pub mod Readers
+pub mod Words

@@ -29,8 +29,3 @@ are_words words = list_all is_some_word words
 abbrev pub three_words : List (List ℕ) → Option (List ℕ × List ℕ × List ℕ)
 three_words (a ∷ b ∷ c ∷ []) = Some (a, b, c)
 three_words words = None
-
--- the words of a text that may be missing
-abbrev pub words_left : Option (List ℕ) → List (List ℕ)
-words_left None = []
-words_left (Some text) = words_between text

@@ -1,7 +1,8 @@
 //! Words between spaces.
 ghost use Rattle.std.specs.Prelude.{◌≡◌, ◌∷◌, ◌<◌, length, IfSome};
 ghost use Rattle.std.specs.Option.{option_map};
-ghost use Rattle.solv_proof.specs.Words.{words_between, words_left, three_words, is_some_word, are_words};
+ghost use Rattle.solv_proof.specs.Words.{words_between, three_words, is_some_word, are_words};
+ghost use Rattle.solv_proof.specs.Inner.Words.{words_left};
 ghost use Rattle.solv_proof.specs.Texts.{is_some_list};
 
 use solv_io::cut_at;

@@ -1,7 +1,8 @@
 //! The lines of proof text, one by one.
 ghost use Rattle.std.specs.Prelude.{◌≡◌, Ok as is_ok, Err as is_err, Some, None, IfOk, OnOk, IfSome, IfNone};
 ghost use Rattle.std.specs.Option.{option_map};
-ghost use Rattle.solv_proof.specs.Words.{words_between, words_left};
+ghost use Rattle.solv_proof.specs.Words.{words_between};
+ghost use Rattle.solv_proof.specs.Inner.Words.{words_left};
 ghost use Rattle.solv_proof.specs.Texts.{rising, comes_after};
 ghost use Rattle.solv_proof.specs.Reading.{start, taken, problem_taken, rules_taken, steps_taken, listed, stepped, closed, number_cause};
 ghost use Rattle.solv_proof.specs.Inner.Readers.{state_of};

@@ -297,7 +297,7 @@ fn remedies_from(
 
 /// The problems of a task that no set meets, each with its solutions, where a first refutation is given; or that the ledger is spent.
 ///
-/// With m rules that may be dropped the ledger gets 4 (m + 1) (m + 1) runs at most, each with every rule on that may not be dropped. After want of memory the core and the ledger
+/// With m rules that may be dropped the ledger gets 4 (m + 1) (m + 1) runs at most, each with every rule on that may not be dropped. Where memory runs out, the core and the ledger
 /// hold what was learnt before, and it may be tried again.
 pub fn problems(
     alloc: Global,

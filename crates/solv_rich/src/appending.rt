@@ -1,4 +1,4 @@
-//! The clauses of a dependency put behind others.
+//! The clauses of a dependency appended.
 ghost use Rattle.std.specs.Prelude.{◌≡◌, ◌≤◌, ◌<◌, ◌∷◌, [], length, take, slice_get, Some, OnOk, true};
 ghost use Rattle.std.specs.List.{list_all};
 ghost use Rattle.solv_pool.specs.Catalog.{catalog_of, dependency};
@@ -17,7 +17,7 @@ use solv_pool::{PackNo, Task};
 use solv_prov::Providers;
 use std::alloc::AllocError;
 
-/// Puts the clause of a number behind others.
+/// Appends the clause of a number.
 fn append_numbered(
     expansion: &Expansion<'_>,
     number: u64,
@@ -38,7 +38,7 @@ fn append_numbered(
     append_clause(said, lits, ends)
 }
 
-/// Puts all clauses behind others.
+/// Appends all clauses.
 fn append_all(
     expansion: &Expansion<'_>,
     said: &mut Vec<Said>,
@@ -58,7 +58,7 @@ fn append_all(
     Ok(())
 }
 
-/// Puts the clauses of a dependency behind others.
+/// Appends the clauses of a dependency.
 pub(crate) fn append_rich(
     task: &Task,
     prov: &Providers,

@@ -4,7 +4,7 @@
 //! negation exactly where it does not: the law `clauses_say_the_dependency` of `solv_pool`.
 //!
 //! - [`clause_count`]: how many clauses there are before any is left out, up to one more than 65,536.
-//! - [`clauses`]: the clauses, put behind others; or [`RichFault`].
+//! - [`clauses`]: the clauses, appended; or [`RichFault`].
 //!
 //! `specs/Counts` says what a count and what appended clauses are; the clauses themselves are those of `solv_pool`'s
 //! `Clauses`. The other modules of `specs/` serve inner contracts alone.

@@ -100,7 +100,7 @@ fn is_new(set: &LiteralSet, each: &Said) -> bool
     number_in(each) > 0 && !has(set, each)
 }
 
-/// Puts the literals of a clause behind others, but those of the system, and each once.
+/// Appends the literals of a clause, but those of the system, and each once.
 pub(crate) fn put_firsts(
     alloc: Global,
     said: &[Said],

@@ -73,7 +73,7 @@ fn before(said: &[Said], place: usize) -> &[Said]
     &said[..place]
 }
 
-/// Puts the literals of a short clause behind others, but those of the system, and each once.
+/// Appends the literals of a short clause, but those of the system, and each once.
 fn put_short_firsts(said: &[Said], lits: &mut Vec<Lit>) -> Result<(), AllocError>
     requires numbers { list_all has_number (map literal_of said.now) ≡ true }
     ensures appended { OnOk result (lits.new.items ≡ lits.old.items ++ map number_of (each_first [] (map literal_of said.now))) }
@@ -87,7 +87,7 @@ fn put_short_firsts(said: &[Said], lits: &mut Vec<Lit>) -> Result<(), AllocError
     Ok(())
 }
 
-/// Puts the literals of a clause behind others, but those of the system, and each once.
+/// Appends the literals of a clause, but those of the system, and each once.
 fn put_firsts(alloc: Global, said: &[Said], lits: &mut Vec<Lit>) -> Result<(), AllocError>
     requires numbers { list_all has_number (map literal_of said.now) ≡ true }
     ensures appended { OnOk result (lits.new.items ≡ lits.old.items ++ map number_of (each_first [] (map literal_of said.now))) }
@@ -100,7 +100,7 @@ fn put_firsts(alloc: Global, said: &[Said], lits: &mut Vec<Lit>) -> Result<(), A
     }
 }
 
-/// Puts a clause behind others, if there is a set that does not make it true.
+/// Appends a clause, if there is a set that does not make it true.
 pub(crate) fn append_clause(
     said: &[Said],
     lits: &mut Vec<Lit>,

@@ -1,4 +1,4 @@
--- Rules that are put behind others, and what a task has to be for it.
+-- Rules that are appended, and what a task has to be for it.
 use Rattle.std.specs.Prelude.{Bool, true, ◌&&◌}
 use Rattle.std.specs.List.{list_all}
 use Rattle.solv_base.specs.Places.{fits_place, unconditional}

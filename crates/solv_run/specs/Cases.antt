@@ -55,7 +55,7 @@ module _ (form : Option (List ℕ)) (files : FilesRun) where
     pub due : IsFront (before ++ name ∷ []) (script_due file fetched bytes)
     pub rose : Rose files.faults_before files.faults_after
 
-  -- what may be asked for before a run ends for want of memory: nothing; the script; or the script and then a front of the files that are due, of
+  -- what may be asked for before a run ends for lack of memory: nothing; the script; or the script and then a front of the files that are due, of
   -- which the first ones gave these bytes
   pub data HasAskedFront : Type 0 where
     asked_none : AskedBesides files [] → HasAskedFront

@@ -126,7 +126,7 @@ fn too_rich_line(
     Ok(line)
 }
 
-/// The line on a limit that clauses pass. Want of memory is none, and has no line.
+/// The line on a limit that clauses pass. Running out of memory is none, and has no line.
 pub(crate) fn limit_text(
     alloc: Global,
     task: &Task,

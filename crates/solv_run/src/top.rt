@@ -35,7 +35,7 @@ fn say_read_fault<O: Sink, E: Sink>(
     say_line(alloc, line.as_bytes(), Status::ReadFault, out, err)
 }
 
-/// Says why no script was read, unless memory was wanting.
+/// Says why no script was read, unless memory ran out.
 fn say_fault<O: Sink, E: Sink>(
     alloc: Global,
     fault: ScriptFault,
@@ -116,7 +116,7 @@ fn run_words<F: Files, O: Sink, E: Sink>(
 /// themselves only with `-r`.
 ///
 /// Each text is made whole before its first byte is written. The clause `run` says what is asked for, written and
-/// answered; `explained` says of each status when it comes. Want of memory may end a run anywhere, and then no file was
+/// answered; `explained` says of each status when it comes. Running out of memory may end a run anywhere, and then no file was
 /// asked for that the script did not ask for (`wanting`).
 pub fn run<F: Files, O: Sink, E: Sink>(
     alloc: Global,

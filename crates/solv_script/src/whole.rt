@@ -46,7 +46,7 @@ use std::alloc::Global;
 /// Each dependency of the task has a form that may stand at its place, and what its packages conflict with has no condition.
 ///
 /// The first bad line is refused, and nothing is asked for behind it. A file that cannot be read ends the reading, and so does
-/// want of memory, which may come at any line.
+/// running out of memory, which may come at any line.
 pub fn read_script<F: Files>(
     alloc: Global,
     name: &str,

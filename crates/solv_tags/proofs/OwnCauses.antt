@@ -1,4 +1,4 @@
--- What a text or lines give is never want of memory, which is no cause of their own.
+-- What a text or lines give is never running out of memory, which is no cause of their own.
 use Rattle.std.proofs.Common.{◌≡◌, ℕ, ◌+◌, Bool, true, false, List, [], ◌∷◌, length, Option, Some, None, Result, Ok, Err, refl}
 use Rattle.std.specs.Prelude.{◌&&◌, ◌||◌, nat_le, nat_lt, is_some, IfErr, if◌then◌else◌}
 use Rattle.std.specs.Str.{bytes_eq}
@@ -30,7 +30,7 @@ use Rattle.solv_tags.specs.declared.tag_fault.TagCause.TheVariants as of_tag
 use Rattle.solv_tags.specs.declared.tag_fault.TagFault.{TagFault}
 use Rattle.solv_list.proofs.Answers.{either}
 
--- is it want of memory?
+-- is it running out of memory?
 abbrev pub is_want : DepFault → Bool
 is_want of_text.Memory = true
 is_want fault = false

@@ -71,7 +71,7 @@ fn in_hand(hand: &Option<Package>) -> u32
     }
 }
 
-/// Puts a package that is finished behind the others.
+/// Appends a package that is finished.
 fn put_behind(universe: &mut Universe, finished: Option<Package>) -> Result<(), TagCause>
     ensures ok { OnOk result (universe.new ≡ with_packages universe.old (option_to_list finished)) }
     ensures refused { OnErr result (universe.new ≡ universe.old) }
@@ -103,7 +103,7 @@ impl TagReader {
         }
     }
 
-    /// Takes a package with these ids, and puts the one in hand behind the others.
+    /// Takes a package with these ids, and appends the one in hand.
     fn hold(&mut self, universe: &mut Universe, next: Package) -> Result<(), TagCause>
         ensures reader { OnOk result (self.new ≡ record self.old { hand = Some next }) }
         ensures ok { OnOk result (universe.new ≡ with_packages universe.old (option_to_list self.old.hand)) }

@@ -33,7 +33,7 @@ pub fn taken(pack: PackNo) -> Lit
     Lit::new(pack.0 as i32)
 }
 
-/// Puts a question behind others where there is room.
+/// Appends a question where there is room.
 pub fn keep_question(questions: &mut Vec<Question>, question: Question)
     requires { vec_len questions.old < vec_capacity questions.old }
     ensures items { questions.new.items ≡ questions.old.items ++ question ∷ [] }

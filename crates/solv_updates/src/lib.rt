@@ -2,8 +2,8 @@
 //!
 //! - [`feature`] and [`legal`]: the packages that may take the place of an installed one, were every change allowed, and
 //!   with the changes that the flags allow.
-//! - [`infarch_rules`]: the rules on inferior architectures, put behind others.
-//! - [`best_rules`]: the rules of the jobs that ask for the best, put behind others.
+//! - [`infarch_rules`]: the rules on inferior architectures, appended.
+//! - [`best_rules`]: the rules of the jobs that ask for the best, appended.
 //!
 //! The meaning of each stands in `solv_pool`'s `Updates` and `HardRules`.
 #![tactic(auto)]

@@ -13,8 +13,8 @@ ghost use Rattle.solv_jobs.specs.Marking.{HasMarks};
 ghost use Rattle.solv_policy.specs.Inner.Candidates.{IsPlace};
 ghost use Rattle.solv_updates.specs.Inner.Replacing.{is_near, is_wanted, is_candidate};
 
-use crate::ready::Ready;
 use crate::comparing::{coexist, flags_allow, package};
+use crate::ready::Ready;
 use solv_jobs::put_in_order;
 use solv_pool::{Marks, PackNo, Task};
 use solv_prov::Providers;
@@ -30,11 +30,7 @@ pub(crate) struct Wanted {
 }
 
 /// The packages of a package's name, itself among them, and those that obsolete it, ascending.
-fn near(
-    alloc: Global,
-    ready: &Ready<'_>,
-    pack: PackNo,
-) -> Result<Vec<PackNo>, AllocError>
+fn near(alloc: Global, ready: &Ready<'_>, pack: PackNo) -> Result<Vec<PackNo>, AllocError>
     requires pack { IsPlace ready.now.task.now pack }
     ensures exact { IfOk result (λ packs. packs.items ≡ filter (is_near (catalog_of ready.now.task.now) pack) (packages (catalog_of ready.now.task.now))) }
     ensures within { IfOk result (λ packs. list_all (is_pack (length ready.now.task.now.universe.packages)) packs.items ≡ true) }

@@ -8,16 +8,16 @@ ghost use Rattle.solv_pool.specs.RuleMeaning.{update, feature};
 ghost use Rattle.solv_pool.specs.TaskBelonging.{IsClosed};
 ghost use Rattle.solv_pool.specs.Words.{when};
 ghost use Rattle.solv_prov.specs.Index.{IsIndexOf};
-ghost use Rattle.solv_jobs.specs.Inner.Putting.{HasPut};
+ghost use Rattle.solv_jobs.specs.Inner.Appending.{AppendsRules};
 ghost use Rattle.solv_updates.specs.Inner.Exact.{AreAsked};
 ghost use Rattle.solv_jobs.specs.Marking.{HasMarks};
 ghost use Rattle.solv_policy.specs.Inner.Candidates.{IsPlace};
 
-use crate::ready::Ready;
 use crate::comparing::package;
 use crate::exact_jobs::asked_names;
+use crate::ready::Ready;
 use crate::replacing::{feature_candidates, update_candidates};
-use solv_jobs::{put_with_set, puts_follow_each_other};
+use solv_jobs::{append_with_set, appending_is_transitive};
 use solv_list::Items;
 use solv_pool::{Marks, PackNo, Rule, Rules, SetNo, Task};
 use solv_prov::Providers;
@@ -31,7 +31,8 @@ fn is_kept(ready: &Ready<'_>, pack: PackNo) -> bool
     if !ready.task.universe.installed(pack) || ready.task.flags.allow_uninstall {
         return false;
     }
-    !ready.marks.erased.held()[pack.0 as usize] && !ready.marks.allow_uninstall.held()[pack.0 as usize]
+    let marks = ready.marks;
+    !marks.erased.held()[pack.0 as usize] && !marks.allow_uninstall.held()[pack.0 as usize]
 }
 
 /// Whether a package is multiversion.
@@ -72,7 +73,7 @@ fn add_update(
 ) -> Result<(), AllocError>
     requires asked { AreAsked asked.now (catalog_of ready.now.task.now) ready.now.task.now.jobs }
     requires pack { IsPlace ready.now.task.now pack }
-    ensures { HasPut (is_ok result) (when (is_kept (catalog_of ready.now.task.now) ready.now.task.now.flags ready.now.marks.now pack && has_update_rule (catalog_of ready.now.task.now) ready.now.task.now.jobs ready.now.marks.now pack) (update pack (update_candidates (catalog_of ready.now.task.now) ready.now.task.now.flags ready.now.marks.now pack) ∷ [])) rules.old rules.new }
+    ensures { AppendsRules (is_ok result) (when (is_kept (catalog_of ready.now.task.now) ready.now.task.now.flags ready.now.marks.now pack && has_update_rule (catalog_of ready.now.task.now) ready.now.task.now.jobs ready.now.marks.now pack) (update pack (update_candidates (catalog_of ready.now.task.now) ready.now.task.now.flags ready.now.marks.now pack) ∷ [])) rules.old rules.new }
 {
     if !is_kept(ready, pack) {
         return Ok(());
@@ -82,7 +83,7 @@ fn add_update(
     }
     let rule = Rule::Update(pack, SetNo(rules.sets.len()));
     match update_candidates(alloc, ready.task, ready.prov, ready.marks, pack) {
-        Ok(packs) => put_with_set(rules, rule, Items::wrap(packs)),
+        Ok(packs) => append_with_set(rules, rule, Items::wrap(packs)),
         Err(_) => Err(AllocError),
     }
 }
@@ -95,14 +96,14 @@ fn add_feature(
     rules: &mut Rules,
 ) -> Result<(), AllocError>
     requires pack { IsPlace ready.now.task.now pack }
-    ensures { HasPut (is_ok result) (when (is_kept (catalog_of ready.now.task.now) ready.now.task.now.flags ready.now.marks.now pack) (feature pack (feature_candidates (catalog_of ready.now.task.now) ready.now.task.now.flags ready.now.marks.now pack) ∷ [])) rules.old rules.new }
+    ensures { AppendsRules (is_ok result) (when (is_kept (catalog_of ready.now.task.now) ready.now.task.now.flags ready.now.marks.now pack) (feature pack (feature_candidates (catalog_of ready.now.task.now) ready.now.task.now.flags ready.now.marks.now pack) ∷ [])) rules.old rules.new }
 {
     if !is_kept(ready, pack) {
         return Ok(());
     }
     let rule = Rule::Feature(pack, SetNo(rules.sets.len()));
     match feature_candidates(alloc, ready.task, ready.prov, ready.marks, pack) {
-        Ok(packs) => put_with_set(rules, rule, Items::wrap(packs)),
+        Ok(packs) => append_with_set(rules, rule, Items::wrap(packs)),
         Err(_) => Err(AllocError),
     }
 }
@@ -115,9 +116,9 @@ fn add_updates(
     rules: &mut Rules,
 ) -> Result<(), AllocError>
     requires asked { AreAsked asked.now (catalog_of ready.now.task.now) ready.now.task.now.jobs }
-    ensures { HasPut (is_ok result) (update_rules (catalog_of ready.now.task.now) ready.now.task.now.flags ready.now.marks.now ready.now.task.now.jobs) rules.old rules.new }
+    ensures { AppendsRules (is_ok result) (update_rules (catalog_of ready.now.task.now) ready.now.task.now.flags ready.now.marks.now ready.now.task.now.jobs) rules.old rules.new }
 {
-    puts_follow_each_other();
+    appending_is_transitive();
     for number in 0..task.universe.count() {
         match add_update(alloc, ready, asked, PackNo(number + 1), rules) {
             Ok(()) => {}
@@ -128,14 +129,10 @@ fn add_updates(
 }
 
 /// The feature rules of all packages.
-fn add_features(
-    alloc: Global,
-    ready: &Ready<'_>,
-    rules: &mut Rules,
-) -> Result<(), AllocError>
-    ensures { HasPut (is_ok result) (feature_rules (catalog_of ready.now.task.now) ready.now.task.now.flags ready.now.marks.now) rules.old rules.new }
+fn add_features(alloc: Global, ready: &Ready<'_>, rules: &mut Rules) -> Result<(), AllocError>
+    ensures { AppendsRules (is_ok result) (feature_rules (catalog_of ready.now.task.now) ready.now.task.now.flags ready.now.marks.now) rules.old rules.new }
 {
-    puts_follow_each_other();
+    appending_is_transitive();
     for number in 0..task.universe.count() {
         match add_feature(alloc, ready, PackNo(number + 1), rules) {
             Ok(()) => {}
@@ -145,8 +142,8 @@ fn add_features(
     Ok(())
 }
 
-/// Puts the update rules behind the others and then the feature rules, each in the order of the packages. After want of
-/// memory the first ones of them stand there.
+/// Appends the update rules and then the feature rules, each in the order of the packages. Where memory runs out,
+/// the first ones of them stand there.
 pub fn update_rules(
     alloc: Global,
     task: &Task,
@@ -157,10 +154,10 @@ pub fn update_rules(
     requires index { IsIndexOf prov.now (catalog_of task.now) }
     requires closed { IsClosed task.now }
     requires marks { HasMarks (length task.now.universe.packages) marks.now }
-    ensures { HasPut (is_ok result) (update_rules (catalog_of task.now) task.now.flags marks.now task.now.jobs ++ feature_rules (catalog_of task.now) task.now.flags marks.now) rules.old rules.new }
+    ensures { AppendsRules (is_ok result) (update_rules (catalog_of task.now) task.now.flags marks.now task.now.jobs ++ feature_rules (catalog_of task.now) task.now.flags marks.now) rules.old rules.new }
 {
     let ready = Ready { task, prov, marks };
-    puts_follow_each_other();
+    appending_is_transitive();
     let Ok(asked) = asked_names(alloc, task, prov) else {
         return Err(AllocError);
     };

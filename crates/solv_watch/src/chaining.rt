@@ -10,7 +10,7 @@ use crate::chains::{Chains, NOWHERE, Watches, hang};
 use solv_pack::{Lit, RuleMem, RuleNo};
 use std::alloc::{AllocError, Global};
 
-/// Puts two literals behind others where there is room.
+/// Appends two literals where there is room.
 fn add_pair(watched: &mut Vec<Lit>, first: Lit, second: Lit)
     requires { length watched.old.items + 2 ≤ vec_capacity watched.old }
     ensures items { watched.new.items ≡ watched.old.items ++ first ∷ second ∷ [] }

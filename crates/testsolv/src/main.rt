@@ -8,7 +8,7 @@ use std::env;
 use std::io::ErrorKind;
 use std::process::ExitCode;
 
-/// The status of a program that memory was wanting for.
+/// The status of a program that ran out of memory.
 const NO_MEMORY: u8 = 6;
 
 /// The words of the command line. Where one is not UTF-8 there are none, which is no form of a command line.

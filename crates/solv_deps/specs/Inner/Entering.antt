@@ -24,12 +24,12 @@ pub record IsEntered (d : Dep (List ℕ)) (old new : Held) (id : ℕ) : Type 0 w
   pub below : id < length new.nodes
   pub tree : text_tree new id ≡ d
 
--- a refusal that is not for want of memory is this one
+-- a refusal that is not for lack of memory is this one
 abbrev pub IsRefusal : {A : Type 0} → DepFault → Result A DepFault → Type 0
 IsRefusal Memory r = Unit {0}
 IsRefusal e r = r ≡ Err e
 
--- a refusal that is the pool's: a limit, or want of memory
+-- a refusal that is the pool's: a limit, or running out of memory
 abbrev pub IsOfPool : DepFault → Type 0
 IsOfPool FullNames = Unit {0}
 IsOfPool FullRelations = Unit {0}

@@ -35,7 +35,7 @@ faults_after Answered faults = faults
 faults_after Failing faults = counted faults
 faults_after NoMemory faults = faults
 
--- a call fails exactly where it is to, except that want of memory may take the place of both ends
+-- a call fails exactly where it is to, except that running out of memory may take the place of both ends
 abbrev pub FailsExactly : Ending → Bool → Type 0
 FailsExactly Answered fails = fails ≡ false
 FailsExactly Failing fails = fails ≡ true

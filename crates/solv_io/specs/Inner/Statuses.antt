@@ -3,7 +3,7 @@ use Rattle.std.specs.Prelude.{ℕ}
 use Rattle.solv_io.specs.declared.status.Status.{Status}
 use Rattle.solv_io.specs.declared.status.Status.TheVariants.{Done, Differs, Refused, ReadFault, WriteFault, Spent, Usage}
 
--- the exit status of a program: 6 is want of memory, and no `Status`
+-- the exit status of a program: 6 is running out of memory, and no `Status`
 abbrev pub status_number : Status → ℕ
 status_number Done = 0
 status_number Differs = 1

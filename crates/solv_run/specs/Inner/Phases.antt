@@ -10,7 +10,7 @@ use Rattle.solv_run.specs.Dues.{read_fault_due, bad_line_due}
 use Rattle.solv_run.specs.Runs.{SinkRun, IsReported}
 use Rattle.solv_run.specs.declared.reports.Report.{Report}
 
--- the fault is reported; want of memory is not
+-- the fault is reported; running out of memory is not
 abbrev pub IsReportedFault : ScriptFault → Report → SinkRun → SinkRun → Type 0
 IsReportedFault (Refused file line cause) report out err = IsReported (bad_line_due (record { file = file; line = line; cause = cause })) report out err
 IsReportedFault (ReadFault name) report out err = IsReported (read_fault_due name) report out err

@@ -21,7 +21,7 @@ pub record IsTaken (read : Repository) (pool : Held) (old new : Contents) : Type
   pub held : pool ≡ read.held
   pub packages : HasAdded read.packages pool old new
 
--- a refusal for this cause: want of memory may come at any line, and any other cause is the first of the first bad line
+-- a refusal for this cause: running out of memory may come at any line, and any other cause is the first of the first bad line
 abbrev pub IsBadFor : TagCause → TagFault → Result Repository TagFault → Type 0
 IsBadFor Memory fault reading = Unit {0}
 IsBadFor c fault reading = reading ≡ Err fault

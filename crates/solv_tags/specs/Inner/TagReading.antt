@@ -97,7 +97,7 @@ pub record IsOf (pool : Held) (a : Package) : Type 0 where
 abbrev pub with_hand : Tagged → Held → Package → Tagged
 with_hand s pool a = record s { held = pool; hand = Some (written_package pool a) }
 
--- a cause that is not want of memory is this one
+-- a cause that is not running out of memory is this one
 abbrev pub IsCause : {A : Type 0} → TagCause → Result A TagCause → Type 0
 IsCause Memory r = Unit {0}
 IsCause c r = r ≡ Err c

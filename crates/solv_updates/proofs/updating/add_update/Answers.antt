@@ -2,7 +2,7 @@ use Rattle.std.proofs.Common.{◌∙◌, sym, [], ◌∷◌}
 use Rattle.solv_pool.specs.Catalog.{catalog_of}
 use Rattle.solv_pool.specs.HardRules.{update_candidates}
 use Rattle.solv_pool.specs.RuleMeaning.{update}
-use Rattle.solv_updates.proofs.Puts.{nothing_when, refused_unchanged}
+use Rattle.solv_updates.proofs.Appends.{nothing_when, refused_unchanged}
 use Rattle.solv_updates.proofs.updating.add_update.Goals as goal
 use Rattle.std.proofs.lemmas.Bool.{and_left, and_right}
 
