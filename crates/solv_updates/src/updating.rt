@@ -119,7 +119,7 @@ fn add_updates(
     ensures { AppendsRules (is_ok result) (update_rules (catalog_of ready.now.task.now) ready.now.task.now.flags ready.now.marks.now ready.now.task.now.jobs) rules.old rules.new }
 {
     appending_is_transitive();
-    for number in 0..task.universe.count() {
+    for number in 0..ready.task.universe.count() {
         match add_update(alloc, ready, asked, PackNo(number + 1), rules) {
             Ok(()) => {}
             Err(_) => return Err(AllocError),
@@ -133,7 +133,7 @@ fn add_features(alloc: Global, ready: &Ready<'_>, rules: &mut Rules) -> Result<(
     ensures { AppendsRules (is_ok result) (feature_rules (catalog_of ready.now.task.now) ready.now.task.now.flags ready.now.marks.now) rules.old rules.new }
 {
     appending_is_transitive();
-    for number in 0..task.universe.count() {
+    for number in 0..ready.task.universe.count() {
         match add_feature(alloc, ready, PackNo(number + 1), rules) {
             Ok(()) => {}
             Err(_) => return Err(AllocError),
