@@ -16,8 +16,10 @@ use Rattle.solv_trans.specs.Changes.{is_exceeded, same_build, change_by, change_
 use Rattle.solv_trans.specs.Moving.{comes}
 use Rattle.solv_trans.specs.Effects.{takes, brings, is_taken, is_brought, is_there_after, after}
 use Rattle.solv_trans.proofs.Same.{filter_range}
-use Rattle.solv_list.proofs.Booleans.{first_of_both, true_or_false}
+use Rattle.solv_list.proofs.Booleans.{first_of_both, true_or_false, second_of_both}
 use Rattle.solv_list.proofs.Lists.{none_of}
+use Rattle.solv_pool.specs.TaskBelonging.{is_pack}
+use Rattle.solv_trans.proofs.Listing.{a_pack}
 use Rattle.solv_pool.proofs.Among.{among_filter}
 use Rattle.solv_prov.proofs.Obsoleting.{among_range}
 
@@ -129,12 +131,15 @@ module _ (catalog : Catalog) (set : ℕ → Bool) where
   there_is : (p : ℕ) → 0 < p → p < length catalog.universe.packages + 1 → is_there_after catalog (changes catalog set) p ≡ set p
   there_is zero some within = absurd (omega (arith, some))
   there_is (suc k) some within =
+      let pack : is_pack (length catalog.universe.packages) (suc k) ≡ true = a_pack (length catalog.universe.packages) (suc k) some (omega (arith, within)) in
       let among : is_among (packages catalog) (suc k) ≡ true = among_range 1 (length catalog.universe.packages) (suc k) (omega arith) (omega (arith, within)) in
       let own : leaves catalog set (suc k) ≡ (is_among (packages catalog) (suc k) && leaves catalog set (suc k)) = ap (λ b. b && leaves catalog set (suc k)) (sym among) in
       let new : is_installed_anew catalog set (suc k) ≡ (is_among (packages catalog) (suc k) && is_installed_anew catalog set (suc k)) = ap (λ b. b && is_installed_anew catalog set (suc k)) (sym among) in
       ap (λ b. (is_installed catalog (suc k) && not b) || is_brought (changes catalog set) (suc k)) (taken_is (suc k) ∙ sym own)
       ∙ ap (λ b. (is_installed catalog (suc k) && not (leaves catalog set (suc k))) || b) (brought_is (suc k) ∙ ap (λ b. is_brought (lines_of_leaving catalog set) (suc k) || b) (sym new))
-      ∙ settled (is_installed catalog (suc k)) (set (suc k)) (is_brought (lines_of_leaving catalog set) (suc k)) (brought_comes (suc k) (filter (leaves catalog set) (packages catalog)))
+      ∙ ap (λ b. (is_installed catalog (suc k) && not (leaves catalog set (suc k))) || (is_brought (lines_of_leaving catalog set) (suc k) || ((b && (set (suc k) && not (is_installed catalog (suc k)))) && not (is_brought (lines_of_leaving catalog set) (suc k))))) pack
+      ∙ settled (is_installed catalog (suc k)) (set (suc k)) (is_brought (lines_of_leaving catalog set) (suc k))
+      (λ h. second_of_both (is_pack (length catalog.universe.packages) (suc k)) (set (suc k) && not (is_installed catalog (suc k))) (brought_comes (suc k) (filter (leaves catalog set) (packages catalog)) h))
 
   system_stays : is_there_after catalog (changes catalog set) 0 ≡ true
   system_stays = ap (λ b. not b || is_brought (changes catalog set) 0) (taken_is 0 ∙ ap (λ b. b && leaves catalog set 0) (none_below 1 (length catalog.universe.packages) 0 (omega arith)))

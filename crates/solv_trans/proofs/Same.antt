@@ -5,6 +5,7 @@ use Rattle.std.specs.List.{range_with_len}
 use Rattle.std.specs.Option.{option_map_or}
 use Rattle.solv_pool.specs.Catalog.{Catalog, packages, is_installed, same_name}
 use Rattle.solv_pool.specs.Providing.{obsoletes}
+use Rattle.solv_pool.specs.TaskBelonging.{is_pack}
 use Rattle.solv_trans.specs.declared.kinds.Change.{Change}
 use Rattle.solv_trans.specs.declared.kinds.Change.TheVariants.{Install, Erase, Obsolete}
 use Rattle.solv_trans.specs.Changes.{greatest, change_to, leaves, partner, obsoleter, line_of, lines_of_leaving, is_installed_anew, changes}
@@ -30,7 +31,8 @@ module _ (catalog : Catalog) (f g : ℕ → Bool) (same : (p : ℕ) → 0 < p �
   partners : (p : ℕ) → partner catalog f p ≡ partner catalog g p
   partners p =
       ap (greatest catalog)
-      (filtered (λ q. comes catalog f q && same_name catalog p q) (λ q. comes catalog g q && same_name catalog p q) (λ q some within. ap (λ b. (b && not (is_installed catalog q)) && same_name catalog p q) (same q some within)))
+      (filtered (λ q. comes catalog f q && same_name catalog p q) (λ q. comes catalog g q && same_name catalog p q) (λ q some within.
+      ap (λ b. (is_pack (length catalog.universe.packages) q && (b && not (is_installed catalog q))) && same_name catalog p q) (same q some within)))
 
   obsoleters : (p : ℕ) → obsoleter catalog f p ≡ obsoleter catalog g p
   obsoleters p =
@@ -55,5 +57,5 @@ module _ (catalog : Catalog) (f g : ℕ → Bool) (same : (p : ℕ) → 0 < p �
       ∙ ap (λ qs. lines_of_leaving catalog g ++ map Install qs)
       (filtered (λ q. comes catalog f q && not (brought q)) (is_installed_anew catalog g)
       (λ q some within.
-      ap (λ b. (b && not (is_installed catalog q)) && not (brought q)) (same q some within)
+      ap (λ b. (is_pack (length catalog.universe.packages) q && (b && not (is_installed catalog q))) && not (brought q)) (same q some within)
       ∙ ap (λ b. comes catalog g q && not b) (says q some within ∙ ap (λ ls. is_brought ls q) (is ∙ all_lines))))
