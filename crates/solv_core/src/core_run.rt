@@ -4,7 +4,7 @@ ghost use Rattle.std.specs.List.{list_all};
 ghost use Rattle.solv_derive.specs.Range.{are_over};
 ghost use Rattle.solv_trail.specs.Propagated.{in_use};
 ghost use Rattle.solv_watch.specs.Inner.Watching.{AreChained, AreHeads, AreNarrow};
-ghost use Rattle.solv_core.specs.Inner.Ledgers.{are_of_run};
+ghost use Rattle.solv_core.specs.Inner.Ledgers.{GrowsLedger};
 ghost use Rattle.solv_core.specs.Ledgers.{IsGoodLedger};
 ghost use Rattle.solv_core.specs.Inner.Contradictions.{IsWhatRefutes};
 ghost use Rattle.solv_core.specs.Inner.Settling.{HasLearnt};
@@ -216,13 +216,9 @@ impl Core {
         requires budget { ledger.old.budget ≤ 1000000 }
         requires few { length ledger.old.entries ≤ ledger.old.budget + 1 }
         ensures core { self.new ≡ self.old }
-        ensures budget { ledger.new.budget ≡ ledger.old.budget }
-        ensures few { length ledger.new.entries ≤ ledger.new.budget + 1 }
+        ensures ledger { GrowsLedger ledger.old ledger.new }
         ensures run { OnOk result (ledger.new.runs ≡ ledger.old.runs ++ (record { enabled = enabled.now; kept = [] }) ∷ []) }
         ensures runs { OnErr result ((ledger.new ≡ ledger.old) ⊎ (ledger.new.runs ≡ ledger.old.runs ++ (record { enabled = enabled.now; kept = [] }) ∷ [])) }
-        ensures earlier_runs { take (length ledger.old.runs) ledger.new.runs ≡ ledger.old.runs }
-        ensures earlier_entries { take (length ledger.old.entries) ledger.new.entries ≡ ledger.old.entries }
-        ensures own_entries { are_of_run (length ledger.old.runs) (drop (length ledger.old.entries) ledger.new.entries) ≡ true }
         ensures good { IsGoodLedger self.old.clauses self.old.owners self.old.packages (G.asks guide.now) ledger.old → IsGoodLedger self.old.clauses self.old.owners self.old.packages (G.asks guide.now) ledger.new }
         ensures spent { IfOk result (λ v. is_spent_verdict v ≡ (length ledger.new.entries == ledger.new.budget + 1)) }
         ensures refutation { IfOk result (IsRefutation self.old.clauses self.old.owners enabled.now) }
@@ -245,13 +241,9 @@ impl Core {
         requires budget { ledger.old.budget ≤ 1000000 }
         requires few { length ledger.old.entries ≤ ledger.old.budget + 1 }
         ensures core { self.new ≡ self.old }
-        ensures budget { ledger.new.budget ≡ ledger.old.budget }
-        ensures few { length ledger.new.entries ≤ ledger.new.budget + 1 }
+        ensures ledger { GrowsLedger ledger.old ledger.new }
         ensures run { OnOk result (ledger.new.runs ≡ ledger.old.runs ++ (record { enabled = enabled.now; kept = [] }) ∷ []) }
         ensures runs { OnErr result ((ledger.new ≡ ledger.old) ⊎ (ledger.new.runs ≡ ledger.old.runs ++ (record { enabled = enabled.now; kept = [] }) ∷ [])) }
-        ensures earlier_runs { take (length ledger.old.runs) ledger.new.runs ≡ ledger.old.runs }
-        ensures earlier_entries { take (length ledger.old.entries) ledger.new.entries ≡ ledger.old.entries }
-        ensures own_entries { are_of_run (length ledger.old.runs) (drop (length ledger.old.entries) ledger.new.entries) ≡ true }
         ensures good { IsGoodLedger self.old.clauses self.old.owners self.old.packages (G.asks guide.now) ledger.old → IsGoodLedger self.old.clauses self.old.owners self.old.packages (G.asks guide.now) ledger.new }
         ensures spent { IfOk result (λ v. is_spent_verdict v ≡ (length ledger.new.entries == ledger.new.budget + 1)) }
         ensures refutation { IfOk result (IsRefutation self.old.clauses self.old.owners enabled.now) }

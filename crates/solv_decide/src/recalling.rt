@@ -1,7 +1,7 @@
 //! The questions of a task as a guide that remembers what is settled.
 ghost use Rattle.std.specs.Prelude.{◌≡◌, ◌⊎◌, ◌≤◌, ◌+◌, ◌==◌, ◌++◌, ◌∷◌, [], true, length, take, drop, nat_lt, IfOk, IfSome, OnOk, OnErr};
 ghost use Rattle.std.specs.List.{list_all};
-ghost use Rattle.solv_core.specs.Inner.Ledgers.{are_of_run};
+ghost use Rattle.solv_core.specs.Inner.Ledgers.{GrowsLedger};
 ghost use Rattle.solv_pool.specs.Propagation.{is_fact};
 ghost use Rattle.solv_core.specs.Ledgers.{IsGoodLedger};
 ghost use Rattle.solv_core.specs.Inner.Running.{IsFound, IsRefutation, is_log_over, is_spent_verdict};
@@ -114,13 +114,9 @@ pub(crate) fn run_recalling<K: Planned>(
     requires budget { ledger.old.budget ≤ 1000000 }
     requires few { length ledger.old.entries ≤ ledger.old.budget + 1 }
     ensures core { core.new ≡ core.old }
-    ensures budget { ledger.new.budget ≡ ledger.old.budget }
-    ensures few { length ledger.new.entries ≤ ledger.new.budget + 1 }
+    ensures ledger { GrowsLedger ledger.old ledger.new }
     ensures run { OnOk result (ledger.new.runs ≡ ledger.old.runs ++ (record { enabled = enabled.now; kept = [] }) ∷ []) }
     ensures runs { OnErr result ((ledger.new ≡ ledger.old) ⊎ (ledger.new.runs ≡ ledger.old.runs ++ (record { enabled = enabled.now; kept = [] }) ∷ [])) }
-    ensures earlier_runs { take (length ledger.old.runs) ledger.new.runs ≡ ledger.old.runs }
-    ensures earlier_entries { take (length ledger.old.entries) ledger.new.entries ≡ ledger.old.entries }
-    ensures own_entries { are_of_run (length ledger.old.runs) (drop (length ledger.old.entries) ledger.new.entries) ≡ true }
     ensures good { IsGoodLedger core.old.clauses core.old.owners core.old.packages (plan_asks phases.now.plan) ledger.old → IsGoodLedger core.old.clauses core.old.owners core.old.packages (plan_asks phases.now.plan) ledger.new }
     ensures spent { IfOk result (λ v. is_spent_verdict v ≡ (length ledger.new.entries == ledger.new.budget + 1)) }
     ensures refutation { IfOk result (IsRefutation core.old.clauses core.old.owners enabled.now) }

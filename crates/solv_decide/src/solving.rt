@@ -1,7 +1,7 @@
 //! Sets that meet the enabled rules of a task, by its questions.
 ghost use Rattle.std.specs.Prelude.{◌≡◌, ◌⊎◌, ◌≤◌, ◌+◌, ◌==◌, ◌++◌, ◌∷◌, [], true, length, take, drop, nat_lt, IfOk, OnOk, OnErr};
 ghost use Rattle.std.specs.List.{list_all};
-ghost use Rattle.solv_core.specs.Inner.Ledgers.{are_of_run};
+ghost use Rattle.solv_core.specs.Inner.Ledgers.{GrowsLedger};
 ghost use Rattle.solv_core.specs.Ledgers.{IsGoodLedger};
 ghost use Rattle.solv_core.specs.Inner.Running.{is_log_over, is_spent_verdict};
 ghost use Rattle.solv_questions.specs.Questions.{Request, asks};
@@ -32,13 +32,9 @@ pub fn solve(
     requires budget { ledger.old.budget ≤ 1000000 }
     requires few { length ledger.old.entries ≤ ledger.old.budget + 1 }
     ensures core { core.new ≡ core.old }
-    ensures budget { ledger.new.budget ≡ ledger.old.budget }
-    ensures few { length ledger.new.entries ≤ ledger.new.budget + 1 }
+    ensures ledger { GrowsLedger ledger.old ledger.new }
     ensures run { OnOk result (ledger.new.runs ≡ ledger.old.runs ++ (record { enabled = enabled.now; kept = [] }) ∷ []) }
     ensures runs { OnErr result ((ledger.new ≡ ledger.old) ⊎ (ledger.new.runs ≡ ledger.old.runs ++ (record { enabled = enabled.now; kept = [] }) ∷ [])) }
-    ensures earlier_runs { take (length ledger.old.runs) ledger.new.runs ≡ ledger.old.runs }
-    ensures earlier_entries { take (length ledger.old.entries) ledger.new.entries ≡ ledger.old.entries }
-    ensures own_entries { are_of_run (length ledger.old.runs) (drop (length ledger.old.entries) ledger.new.entries) ≡ true }
     ensures good { (r : Request) → IsAskedFor r phases.now core.old → IsGoodLedger core.old.clauses core.old.owners core.old.packages (asks r) ledger.old → IsGoodLedger core.old.clauses core.old.owners core.old.packages (asks r) ledger.new }
     ensures spent { IfOk result (λ v. is_spent_verdict v ≡ (length ledger.new.entries == ledger.new.budget + 1)) }
     ensures log_over { IfOk result (λ v. is_log_over core.old.packages v ≡ true) }
