@@ -13,7 +13,7 @@ ghost use Rattle.solv_rules.specs.Books.{read_rules};
 ghost use Rattle.solv_questions.specs.Questions.{Request, request_of, without_those, close_candidates, far_candidates};
 ghost use Rattle.solv_plan.specs.PlanOf.{numbered, keeps_of};
 ghost use Rattle.solv_jobs.specs.Marking.{HasMarks};
-ghost use Rattle.solv_updates.specs.Inner.Places.{IsPlace};
+ghost use Rattle.solv_policy.specs.Inner.Candidates.{IsPlace};
 ghost use Rattle.solv_planning.specs.Inner.Filling.{filled, entered};
 ghost use Rattle.solv_planning.specs.Inner.Readiness.{IsReady, asks_for_packages};
 ghost use Rattle.solv_planning.specs.Inner.Rows.{no_rules, add_to_pack, keep_with, is_marked, is_other};

@@ -8,7 +8,7 @@ ghost use Rattle.solv_pool.specs.declared.job_marks.Marks.{Marks};
 ghost use Rattle.solv_rules.specs.Books.{read_rules};
 ghost use Rattle.solv_questions.specs.Questions.{request_of};
 ghost use Rattle.solv_plan.specs.PlanOf.{want_of, recommended_by};
-ghost use Rattle.solv_updates.specs.Inner.Places.{IsPlace};
+ghost use Rattle.solv_policy.specs.Inner.Candidates.{IsPlace};
 ghost use Rattle.solv_planning.specs.Inner.Reading.{trees_of};
 ghost use Rattle.solv_planning.specs.Inner.Rows.{wants_of};
 
