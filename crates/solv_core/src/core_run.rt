@@ -15,6 +15,7 @@ use crate::events::events_of;
 use crate::flags::Flags;
 use crate::forgetful::Forgetful;
 use crate::ledger::{Ledger, Run};
+use crate::parts::{Parts, Place, Used};
 use crate::refutation::log_of;
 use crate::refuting::{Contradiction, refuted_over};
 use crate::settling::{Outcome, settle};
@@ -30,22 +31,16 @@ use std::marker::Model;
 /// The clause-learning core over clauses with their owners. Contracts see these and the number of packages.
 pub struct Core {
     packages: u32,
-    book: RuleMem,
     owners: Vec<usize>,
-    watches: Watches,
-    known: Known,
-    search: Search,
+    parts: Parts,
 }
 
 impl Drop for Core {
     fn drop(self) {
         let Core {
             packages: _,
-            book: _,
             owners: _,
-            watches: _,
-            known: _,
-            search: _,
+            parts: _,
         } = self;
     }
 }
@@ -58,17 +53,17 @@ impl Model for Core {
 
     ghost Value = { CoreOf };
 
-    ghost view = { λ c. record { clauses = c.book.rules; owners = c.owners.items; packages = c.packages } };
+    ghost view = { λ c. record { clauses = c.parts.book.rules; owners = c.owners.items; packages = c.packages } };
 
     ghost invariant = { λ c. record {
-      each : length c.owners.items ≡ length c.book.rules;
-      few : length c.book.rules ≤ 2 ^ 27;
-      over : are_over c.packages c.book.rules ≡ true;
-      known : c.known.count ≡ c.packages;
-      marked : c.search.marked.count ≡ c.packages;
-      chained : AreChained c.packages c.book.rules c.watches.book.heads.items c.book.links c.watches.book.watched.items;
-      narrow : AreNarrow c.book.rules c.watches.narrow.items;
-      heads : AreHeads c.packages c.watches.learnt.heads.items c.watches.learnt.watched.items;
+      each : length c.owners.items ≡ length c.parts.book.rules;
+      few : length c.parts.book.rules ≤ 2 ^ 27;
+      over : are_over c.packages c.parts.book.rules ≡ true;
+      known : c.parts.known.count ≡ c.packages;
+      marked : c.parts.search.marked.count ≡ c.packages;
+      chained : AreChained c.packages c.parts.book.rules c.parts.watches.book.heads.items c.parts.book.links c.parts.watches.book.watched.items;
+      narrow : AreNarrow c.parts.book.rules c.parts.watches.narrow.items;
+      heads : AreHeads c.packages c.parts.watches.learnt.heads.items c.parts.watches.learnt.watched.items;
     } };
 }
 
@@ -103,69 +98,57 @@ fn begin(alloc: Global, ledger: &mut Ledger, enabled: &[bool]) -> Result<(), All
 /// A run that is noted, over the parts of a core.
 fn run_over<G: Guide + Recaller>(
     alloc: Global,
-    known: &mut Known,
-    search: &mut Search,
-    book: &mut RuleMem,
-    owners: &[usize],
-    watches: &mut Watches,
-    enabled: &[bool],
+    parts: &mut Parts,
+    used: &Used<'_>,
     guide: &G,
     ledger: &mut Ledger,
     run: usize,
 ) -> Result<Verdict, AllocError>
-    requires over { are_over known.old.count book.old.rules ≡ true }
-    requires each { length owners.now ≡ length book.old.rules }
-    requires owners { list_all (λ o. nat_lt o (length enabled.now)) owners.now ≡ true }
-    requires book { length book.old.rules ≤ 2 ^ 27 }
-    requires marked { search.old.marked.count ≡ known.old.count }
-    requires guide { G.is_for guide.now book.old.rules owners.now }
-    requires packages { G.is_for_packages guide.now known.old.count }
-    requires chained { AreChained known.old.count book.old.rules watches.old.book.heads.items book.old.links watches.old.book.watched.items }
-    requires narrow { AreNarrow book.old.rules watches.old.narrow.items }
-    requires heads { AreHeads known.old.count watches.old.learnt.heads.items watches.old.learnt.watched.items }
+    requires over { are_over parts.old.known.count parts.old.book.rules ≡ true }
+    requires each { length used.now.owners.now ≡ length parts.old.book.rules }
+    requires owners { list_all (λ o. nat_lt o (length used.now.enabled.now)) used.now.owners.now ≡ true }
+    requires book { length parts.old.book.rules ≤ 2 ^ 27 }
+    requires marked { parts.old.search.marked.count ≡ parts.old.known.count }
+    requires guide { G.is_for guide.now parts.old.book.rules used.now.owners.now }
+    requires packages { G.is_for_packages guide.now parts.old.known.count }
+    requires chained { AreChained parts.old.known.count parts.old.book.rules parts.old.watches.book.heads.items parts.old.book.links parts.old.watches.book.watched.items }
+    requires narrow { AreNarrow parts.old.book.rules parts.old.watches.narrow.items }
+    requires heads { AreHeads parts.old.known.count parts.old.watches.learnt.heads.items parts.old.watches.learnt.watched.items }
     requires budget { ledger.old.budget ≤ 1000000 }
     requires unspent { length ledger.old.entries ≤ ledger.old.budget }
-    ensures count { known.new.count ≡ known.old.count }
-    ensures marked { search.new.marked.count ≡ search.old.marked.count }
+    ensures count { parts.new.known.count ≡ parts.old.known.count }
+    ensures marked { parts.new.search.marked.count ≡ parts.old.search.marked.count }
     ensures budget { ledger.new.budget ≡ ledger.old.budget }
     ensures runs { ledger.new.runs ≡ ledger.old.runs }
     ensures few { length ledger.new.entries ≤ ledger.new.budget + 1 }
-    ensures learnt { (new : List Entry) × ((learnt : List (List ℤ)) × HasLearnt book.old.rules (in_use owners.now enabled.now) (λ facts. G.asks guide.now facts enabled.now) (length ledger.old.entries) known.old.count run ledger.old.entries ledger.new.entries learnt new) }
+    ensures learnt { (new : List Entry) × ((learnt : List (List ℤ)) × HasLearnt parts.old.book.rules (in_use used.now.owners.now used.now.enabled.now) (λ facts. G.asks guide.now facts used.now.enabled.now) (length ledger.old.entries) parts.old.known.count run ledger.old.entries ledger.new.entries learnt new) }
     ensures spent { IfOk result (λ v. is_spent_verdict v ≡ (length ledger.new.entries == ledger.new.budget + 1)) }
-    ensures refutation { IfOk result (IsRefutation book.old.rules owners.now enabled.now) }
-    ensures log_over { IfOk result (λ v. is_log_over known.old.count v ≡ true) }
-    ensures found { IfOk result (IsFound known.old.count book.old.rules owners.now enabled.now (λ facts. G.asks guide.now facts enabled.now)) }
-    ensures rules { book.new.rules ≡ book.old.rules }
-    ensures chained { AreChained known.old.count book.old.rules watches.new.book.heads.items book.new.links watches.new.book.watched.items }
-    ensures narrow { AreNarrow book.old.rules watches.new.narrow.items }
-    ensures heads { AreHeads known.old.count watches.new.learnt.heads.items watches.new.learnt.watched.items }
+    ensures refutation { IfOk result (IsRefutation parts.old.book.rules used.now.owners.now used.now.enabled.now) }
+    ensures log_over { IfOk result (λ v. is_log_over parts.old.known.count v ≡ true) }
+    ensures found { IfOk result (IsFound parts.old.known.count parts.old.book.rules used.now.owners.now used.now.enabled.now (λ facts. G.asks guide.now facts used.now.enabled.now)) }
+    ensures rules { parts.new.book.rules ≡ parts.old.book.rules }
+    ensures chained { AreChained parts.old.known.count parts.old.book.rules parts.new.watches.book.heads.items parts.new.book.links parts.new.watches.book.watched.items }
+    ensures narrow { AreNarrow parts.old.book.rules parts.new.watches.narrow.items }
+    ensures heads { AreHeads parts.old.known.count parts.new.watches.learnt.heads.items parts.new.watches.learnt.watched.items }
 {
     let first = ledger.entries.len();
-    known.clear();
-    let mut learnt = RuleMem::new(alloc);
-    watches.learnt.forget();
-    match settle(
-        alloc,
-        known,
-        search,
-        book,
-        owners,
-        &mut learnt,
-        watches,
-        enabled,
-        guide,
-        ledger,
-        first,
-        run,
-    )? {
+    parts.known.clear();
+    parts.learnt = RuleMem::new(alloc);
+    parts.watches.learnt.forget();
+    match settle(alloc, parts, used, guide, ledger, Place { first, run })? {
         Outcome::Spent => Ok(Verdict::Spent),
         Outcome::Refuted => {
-            let log = log_of(alloc, &ledger.entries.held()[first..], first, &search.hints)?;
+            let log = log_of(
+                alloc,
+                &ledger.entries.held()[first..],
+                first,
+                &parts.search.hints,
+            )?;
             Ok(Verdict::Unsat(log))
         }
         Outcome::Settled => {
-            known.keep_apart();
-            let events = events_of(alloc, known)?;
+            parts.known.keep_apart();
+            let events = events_of(alloc, &parts.known)?;
             Ok(Verdict::Sat(Trail {
                 events: Items::wrap(events),
             }))
@@ -191,11 +174,14 @@ impl Core {
         let watches = Watches::over(alloc, &mut book, packages)?;
         Ok(Core {
             packages,
-            book,
-            watches,
             owners: Vec::from_slice(alloc, owners)?,
-            known: Known::new(alloc, packages)?,
-            search: Search::for_packages(alloc, packages)?,
+            parts: Parts {
+                known: Known::new(alloc, packages)?,
+                search: Search::for_packages(alloc, packages)?,
+                book,
+                learnt: RuleMem::new(alloc),
+                watches,
+            },
         })
     }
 
@@ -256,18 +242,11 @@ impl Core {
         if ledger.spent() {
             return Ok(Verdict::Spent);
         }
-        run_over(
-            alloc,
-            &mut self.known,
-            &mut self.search,
-            &mut self.book,
-            &self.owners,
-            &mut self.watches,
+        let used = Used {
+            owners: &self.owners,
             enabled,
-            guide,
-            ledger,
-            run,
-        )
+        };
+        run_over(alloc, &mut self.parts, &used, guide, ledger, run)
     }
 
     /// What the clauses of enabled owners refute where nothing is chosen: each other, or some of the owners of these clauses,
@@ -282,15 +261,10 @@ impl Core {
         ensures refuted { IfOk result (IsWhatRefutes self.old.clauses self.old.owners self.old.packages enabled.now clauses.now) }
     {
         let alloc = *self.owners.allocator();
-        refuted_over(
-            alloc,
-            &mut self.known,
-            &mut self.search,
-            &mut self.book,
-            &self.owners,
-            &mut self.watches,
+        let used = Used {
+            owners: &self.owners,
             enabled,
-            clauses,
-        )
+        };
+        refuted_over(alloc, &mut self.parts, &used, clauses)
     }
 }

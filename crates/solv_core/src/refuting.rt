@@ -9,6 +9,7 @@ ghost use Rattle.solv_trail.specs.Inner.Propagated.{IsReasoned, Propagated};
 ghost use Rattle.solv_watch.specs.Inner.Watching.{AreChained, AreHeads, AreNarrow};
 ghost use Rattle.solv_core.specs.Inner.Contradictions.{AreRefuted, IsLogWith, IsRefutedRule, IsWhatRefutes};
 
+use crate::parts::{Parts, Used};
 use crate::refutation::log_of;
 use solv_derive::Log;
 use solv_learn::Search;
@@ -53,8 +54,7 @@ fn log_by(
     known: &Known,
     search: &mut Search,
     book: &RuleMem,
-    owners: &[usize],
-    enabled: &[bool],
+    used: &Used<'_>,
     clause: u32,
 ) -> Result<Log, AllocError>
     requires over { are_over known.now.count book.now.rules ≡ true }
@@ -62,13 +62,12 @@ fn log_by(
     requires few { length book.now.rules ≤ 2 ^ 27 }
     requires clause { clause < length book.now.rules }
     requires clash { (c : List ℤ) → slice_get book.now.rules clause ≡ Some c → is_false known.now.lits c ≡ true }
-    requires reasoned { IsReasoned book.now.rules (in_use owners.now enabled.now) known.now }
+    requires reasoned { IsReasoned book.now.rules (in_use used.now.owners.now used.now.enabled.now) known.now }
     requires no_choice { known.now.marks ≡ [] }
     ensures count { search.new.marked.count ≡ search.old.marked.count }
-    ensures log { IfOk result (λ log. (other : ℕ → Bool) → (in_use owners.now enabled.now clause || other clause) ≡ true → IsLogWith book.now.rules owners.now known.now.count enabled.now other log) }
+    ensures log { IfOk result (λ log. (other : ℕ → Bool) → (in_use used.now.owners.now used.now.enabled.now clause || other clause) ≡ true → IsLogWith book.now.rules used.now.owners.now known.now.count used.now.enabled.now other log) }
 {
-    let _ = owners;
-    let _ = enabled;
+    let _ = used;
     let none = RuleMem::new(alloc);
     search.refute(known, book, &none, 0, clause)?;
     let log = log_of(alloc, &[], 0, &search.hints)?;
@@ -81,18 +80,17 @@ fn consider(
     known: &Known,
     search: &mut Search,
     book: &RuleMem,
-    owners: &[usize],
-    enabled: &[bool],
+    used: &Used<'_>,
     clause: RuleNo,
 ) -> Result<Option<RefutedRule>, AllocError>
     requires over { are_over known.now.count book.now.rules ≡ true }
     requires count { search.old.marked.count ≡ known.now.count }
-    requires each { length owners.now ≡ length book.now.rules }
+    requires each { length used.now.owners.now ≡ length book.now.rules }
     requires few { length book.now.rules ≤ 2 ^ 27 }
-    requires reasoned { IsReasoned book.now.rules (in_use owners.now enabled.now) known.now }
+    requires reasoned { IsReasoned book.now.rules (in_use used.now.owners.now used.now.enabled.now) known.now }
     requires no_choice { known.now.marks ≡ [] }
     ensures count { search.new.marked.count ≡ search.old.marked.count }
-    ensures refuted { IfOk result (λ found. IfSome found (IsRefutedRule book.now.rules owners.now known.now.count enabled.now (clause ∷ []))) }
+    ensures refuted { IfOk result (λ found. IfSome found (IsRefutedRule book.now.rules used.now.owners.now known.now.count used.now.enabled.now (clause ∷ []))) }
 {
     if clause.0 as usize >= book.len() {
         return Ok(None);
@@ -100,9 +98,9 @@ fn consider(
     if !is_falsified(known, book.lits(clause)) {
         return Ok(None);
     }
-    let log = log_by(alloc, known, search, book, owners, enabled, clause.0)?;
+    let log = log_by(alloc, known, search, book, used, clause.0)?;
     Ok(Some(RefutedRule {
-        rule: owners[clause.0 as usize],
+        rule: used.owners[clause.0 as usize],
         log,
     }))
 }
@@ -124,25 +122,24 @@ fn refuted_among(
     known: &Known,
     search: &mut Search,
     book: &RuleMem,
-    owners: &[usize],
-    enabled: &[bool],
+    used: &Used<'_>,
     clauses: &[RuleNo],
 ) -> Result<Vec<RefutedRule>, AllocError>
     requires over { are_over known.now.count book.now.rules ≡ true }
     requires count { search.old.marked.count ≡ known.now.count }
-    requires each { length owners.now ≡ length book.now.rules }
+    requires each { length used.now.owners.now ≡ length book.now.rules }
     requires few { length book.now.rules ≤ 2 ^ 27 }
-    requires reasoned { IsReasoned book.now.rules (in_use owners.now enabled.now) known.now }
+    requires reasoned { IsReasoned book.now.rules (in_use used.now.owners.now used.now.enabled.now) known.now }
     requires no_choice { known.now.marks ≡ [] }
     ensures count { search.new.marked.count ≡ search.old.marked.count }
-    ensures refuted { IfOk result (λ found. AreRefuted book.now.rules owners.now known.now.count enabled.now clauses.now found.items) }
+    ensures refuted { IfOk result (λ found. AreRefuted book.now.rules used.now.owners.now known.now.count used.now.enabled.now clauses.now found.items) }
 {
     let mut found = Vec::new(alloc);
     for clause in clauses {
-        if is_last(&found, owners, *clause) {
+        if is_last(&found, used.owners, *clause) {
             continue;
         }
-        if let Some(one) = consider(alloc, known, search, book, owners, enabled, *clause)? {
+        if let Some(one) = consider(alloc, known, search, book, used, *clause)? {
             found.push(one)?;
         }
     }
@@ -154,21 +151,20 @@ fn force(
     alloc: Global,
     known: &mut Known,
     book: &mut RuleMem,
-    owners: &[usize],
     watches: &mut Watches,
-    enabled: &[bool],
+    used: &Used<'_>,
 ) -> Option<u32>
     requires over { are_over known.old.count book.old.rules ≡ true }
-    requires each { length owners.now ≡ length book.old.rules }
-    requires owners { list_all (λ o. nat_lt o (length enabled.now)) owners.now ≡ true }
+    requires each { length used.now.owners.now ≡ length book.old.rules }
+    requires owners { list_all (λ o. nat_lt o (length used.now.enabled.now)) used.now.owners.now ≡ true }
     requires few { length book.old.rules ≤ 2 ^ 27 }
     requires chained { AreChained known.old.count book.old.rules watches.old.book.heads.items book.old.links watches.old.book.watched.items }
     requires narrow { AreNarrow book.old.rules watches.old.narrow.items }
     requires heads { AreHeads known.old.count watches.old.learnt.heads.items watches.old.learnt.watched.items }
     ensures count { known.new.count ≡ known.old.count }
     ensures no_choice { known.new.marks ≡ [] }
-    ensures reasoned { IsReasoned book.old.rules (in_use owners.now enabled.now) known.new }
-    ensures done { Propagated book.old.rules (in_use owners.now enabled.now) known.new.lits result }
+    ensures reasoned { IsReasoned book.old.rules (in_use used.now.owners.now used.now.enabled.now) known.new }
+    ensures done { Propagated book.old.rules (in_use used.now.owners.now used.now.enabled.now) known.new.lits result }
     ensures rules { book.new.rules ≡ book.old.rules }
     ensures chained { AreChained known.old.count book.old.rules watches.new.book.heads.items book.new.links watches.new.book.watched.items }
     ensures narrow { AreNarrow book.old.rules watches.new.narrow.items }
@@ -177,42 +173,60 @@ fn force(
     known.clear();
     let mut none = RuleMem::new(alloc);
     watches.learnt.forget();
-    propagate(known, book, &mut none, watches, owners, enabled)
+    propagate(known, book, &mut none, watches, used.owners, used.enabled)
 }
 
 /// What enabled rules refute, over the parts of a core: themselves, or some of the rules of these clauses.
 pub fn refuted_over(
     alloc: Global,
-    known: &mut Known,
-    search: &mut Search,
-    book: &mut RuleMem,
-    owners: &[usize],
-    watches: &mut Watches,
-    enabled: &[bool],
+    parts: &mut Parts,
+    used: &Used<'_>,
     clauses: &[RuleNo],
 ) -> Result<Contradiction, AllocError>
-    requires over { are_over known.old.count book.old.rules ≡ true }
-    requires count { search.old.marked.count ≡ known.old.count }
-    requires each { length owners.now ≡ length book.old.rules }
-    requires owners { list_all (λ o. nat_lt o (length enabled.now)) owners.now ≡ true }
-    requires few { length book.old.rules ≤ 2 ^ 27 }
-    requires chained { AreChained known.old.count book.old.rules watches.old.book.heads.items book.old.links watches.old.book.watched.items }
-    requires narrow { AreNarrow book.old.rules watches.old.narrow.items }
-    requires heads { AreHeads known.old.count watches.old.learnt.heads.items watches.old.learnt.watched.items }
-    ensures count { known.new.count ≡ known.old.count }
-    ensures marked { search.new.marked.count ≡ search.old.marked.count }
-    ensures rules { book.new.rules ≡ book.old.rules }
-    ensures chained { AreChained known.old.count book.old.rules watches.new.book.heads.items book.new.links watches.new.book.watched.items }
-    ensures narrow { AreNarrow book.old.rules watches.new.narrow.items }
-    ensures heads { AreHeads known.old.count watches.new.learnt.heads.items watches.new.learnt.watched.items }
-    ensures refuted { IfOk result (IsWhatRefutes book.old.rules owners.now known.old.count enabled.now clauses.now) }
+    requires over { are_over parts.old.known.count parts.old.book.rules ≡ true }
+    requires count { parts.old.search.marked.count ≡ parts.old.known.count }
+    requires each { length used.now.owners.now ≡ length parts.old.book.rules }
+    requires owners { list_all (λ o. nat_lt o (length used.now.enabled.now)) used.now.owners.now ≡ true }
+    requires few { length parts.old.book.rules ≤ 2 ^ 27 }
+    requires chained { AreChained parts.old.known.count parts.old.book.rules parts.old.watches.book.heads.items parts.old.book.links parts.old.watches.book.watched.items }
+    requires narrow { AreNarrow parts.old.book.rules parts.old.watches.narrow.items }
+    requires heads { AreHeads parts.old.known.count parts.old.watches.learnt.heads.items parts.old.watches.learnt.watched.items }
+    ensures count { parts.new.known.count ≡ parts.old.known.count }
+    ensures marked { parts.new.search.marked.count ≡ parts.old.search.marked.count }
+    ensures rules { parts.new.book.rules ≡ parts.old.book.rules }
+    ensures chained { AreChained parts.old.known.count parts.old.book.rules parts.new.watches.book.heads.items parts.new.book.links parts.new.watches.book.watched.items }
+    ensures narrow { AreNarrow parts.old.book.rules parts.new.watches.narrow.items }
+    ensures heads { AreHeads parts.old.known.count parts.new.watches.learnt.heads.items parts.new.watches.learnt.watched.items }
+    ensures refuted { IfOk result (IsWhatRefutes parts.old.book.rules used.now.owners.now parts.old.known.count used.now.enabled.now clauses.now) }
 {
-    match force(alloc, known, book, owners, watches, enabled) {
-        Some(clause) => Ok(Contradiction::Themselves(log_by(
-            alloc, known, search, book, owners, enabled, clause,
-        )?)),
-        None => Ok(Contradiction::Others(Items::wrap(refuted_among(
-            alloc, known, search, book, owners, enabled, clauses,
-        )?))),
+    match force(
+        alloc,
+        &mut parts.known,
+        &mut parts.book,
+        &mut parts.watches,
+        used,
+    ) {
+        Some(clause) => {
+            let log = log_by(
+                alloc,
+                &parts.known,
+                &mut parts.search,
+                &parts.book,
+                used,
+                clause,
+            )?;
+            Ok(Contradiction::Themselves(log))
+        }
+        None => {
+            let others = refuted_among(
+                alloc,
+                &parts.known,
+                &mut parts.search,
+                &parts.book,
+                used,
+                clauses,
+            )?;
+            Ok(Contradiction::Others(Items::wrap(others)))
+        }
     }
 }
