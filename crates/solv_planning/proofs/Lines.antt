@@ -1,5 +1,5 @@
 -- What rules add to the rows of jobs and of packages.
-use Rattle.std.proofs.Common.{◌≡◌, ◌+◌, ℕ, suc, Bool, true, false, cond, List, [], ◌∷◌, ◌++◌, map, length, refl, sym, ap, ◌∙◌, arith, add-one, append_assoc, append-nil, eq-eqb}
+use Rattle.std.proofs.Common.{◌≡◌, ℕ, suc, Bool, true, false, cond, List, [], ◌∷◌, ◌++◌, map, length, refl, sym, ap, ◌∙◌, arith, add-one, append_assoc, append-nil, eq-eqb}
 use Rattle.std.specs.Prelude.{filter, flat_map, ◌==◌, nat_le}
 use Rattle.std.specs.List.{list_all, enumerate_from}
 use Rattle.solv_pool.specs.Words.{when}

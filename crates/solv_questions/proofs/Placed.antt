@@ -3,7 +3,7 @@ use Rattle.std.proofs.Common.{◌≡◌, ℕ, zero, suc, ◌+◌, Bool, true, fa
 use Rattle.std.specs.Prelude.{◌==◌, slice_get, unwrap_or}
 use Rattle.std.specs.List.{list_all}
 use Rattle.std.proofs.lemmas.Bool.{and_parts, false≢true}
-use Rattle.solv_base.specs.Dependency.{Dep, one, namespace, and, or, with, without, if_then, if_else, unless, unless_else, missing, package_wise, operators}
+use Rattle.solv_base.specs.Dependency.{Dep, one, namespace, or, with, without, package_wise, operators}
 use Rattle.solv_base.specs.Places.{fits_place, unconditional}
 use Rattle.solv_pool.specs.Catalog.{package_at, dependency}
 use Rattle.solv_pool.specs.Counting.{requirement_counts, rich_conflict_counts}
