@@ -13,6 +13,8 @@ mod call_tests;
 #[cfg(test)]
 mod fixture;
 #[cfg(test)]
+mod grow_tests;
+#[cfg(test)]
 mod log_tests;
 #[cfg(test)]
 mod order_tests;

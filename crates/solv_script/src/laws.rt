@@ -1,5 +1,6 @@
 //! Laws of scripts.
 ghost use Rattle.solv_script.specs.FileRuns.{FetchesAreDetermined};
+ghost use Rattle.solv_script.specs.GrownTasks.{GrownTextIsRead};
 ghost use Rattle.solv_script.specs.LateLines.{NotBuiltIsLateLine};
 ghost use Rattle.solv_script.specs.ScriptsOf.{ScriptsAreDetermined};
 
@@ -18,4 +19,9 @@ pub fn scripts_are_determined()
 /// What is fetched for a script is determined, where the files tell what they hold.
 pub fn fetches_are_determined()
     ensures { FetchesAreDetermined }
+{}
+
+/// The text of the large script is accepted for every seed, names no file, and gives 6,300 packages and 41 jobs.
+pub fn grown_text_is_read()
+    ensures { GrownTextIsRead }
 {}
