@@ -19,3 +19,7 @@ system x86_64 rpm system
 job install name vim
 job install name nano
 job install name mc
+result transaction,problems <inline>
+#>install mc-4.8.32^git1-1.fc42.noarch@extra
+#>install nano-8.2-1.fc41.noarch@updates
+#>install vim-9.1-1.fc41.noarch@updates
