@@ -9,5 +9,5 @@ returns-clause-runs c =
     let old = c.args.ledger.now in
     let new = c.solve.new.ledger in
     let e = c.solve.ensures in
-    runs_one c.args.phases.now c.args.core.now c.args.fixed.now run old new c.requires.fixed e.budget e.few e.earlier_runs e.earlier_entries e.good
+    runs_one c.args.phases.now c.args.core.now c.args.fixed.now run old new c.requires.fixed e.ledger.budget e.ledger.few e.ledger.earlier_runs e.ledger.earlier_entries e.good
     (noted (new.runs ≡ old.runs ++ run ∷ []) (new ≡ old) c.solve.result e.run e.runs)
