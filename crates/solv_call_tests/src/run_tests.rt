@@ -99,14 +99,15 @@ fn names_what_cannot_be_read(rt: HostRuntime) -> Result<(), Fail> {
 }
 
 #[test]
-fn wants_a_file(rt: HostRuntime) -> Result<(), Fail> {
+fn wants_a_file_or_a_seed(rt: HostRuntime) -> Result<(), Fail> {
     let usage = "usage: testsolv [-r] [--budget N] [--grow SEED] FILE\n";
-    let lines: [&[&str]; 5] = [
+    let lines: [&[&str]; 6] = [
         &[],
         &["testsolv"],
         &["testsolv", "-r"],
         &["testsolv", "--help"],
-        &["testsolv", "case.t", "-r"],
+        &["testsolv", "--grow", "1", "case.t"],
+        &["testsolv", "--budget", "1000001", "case.t"],
     ];
     for words in lines {
         expect_run(&rt, rt.alloc(), words, "", Status::Usage, ("", usage))?;
@@ -118,6 +119,33 @@ fn wants_a_file(rt: HostRuntime) -> Result<(), Fail> {
         "",
         Status::ReadFault,
         ("", "testsolv: cannot read d.t\n"),
+    )?;
+    Ok(())
+}
+
+/// P needs lib: la needs x and y, which conflict, and lb needs nothing. That la is out is learnt.
+const ONE_LEARNT: &str =
+    "repo system 0 empty\nrepo available 0 testtags <inline>\n#>=Pkg: P 1 1 noarch\n#>=Req: lib\n#>=Pkg: la 1 1 noarch\n#>=Prv: lib\n#>=Req: x\n#>=Req: y\n#>=Pkg: lb 1 1 noarch\n#>=Prv: lib\n#>=Pkg: x 1 1 noarch\n#>=Con: y\n#>=Pkg: y 1 1 noarch\nsystem x86_64 rpm system\njob install name P\n";
+
+#[test]
+fn budgets_are_those_of_the_words(rt: HostRuntime) -> Result<(), Fail> {
+    let spent = "testsolv: budget of 0 learnt rules spent\n";
+    let found = "install P-1-1.noarch@available\ninstall lb-1-1.noarch@available\n";
+    expect_run(
+        &rt,
+        rt.alloc(),
+        &["testsolv", "-r", "--budget", "0", "case.t"],
+        ONE_LEARNT,
+        Status::Spent,
+        ("", spent),
+    )?;
+    expect_run(
+        &rt,
+        rt.alloc(),
+        &["testsolv", "case.t", "--budget=1", "-r"],
+        ONE_LEARNT,
+        Status::Done,
+        (found, ""),
     )?;
     Ok(())
 }

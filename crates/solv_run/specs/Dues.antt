@@ -1,10 +1,10 @@
 -- What is due in a run: its status, the texts for both sinks, and the answers.
-use Rattle.std.specs.Prelude.{ℕ, Bool, ◌&&◌, List, [], ◌∷◌, ◌++◌, codes, if◌then◌else◌}
+use Rattle.std.specs.Prelude.{ℕ, ◌&&◌, List, [], ◌∷◌, ◌++◌, codes, length, if◌then◌else◌}
 use Rattle.std.specs.Fmt.{decimal}
 use Rattle.solv_io.specs.declared.status.Status.{Status}
 use Rattle.solv_io.specs.declared.status.Status.TheVariants as status
 use Rattle.solv_commands.specs.Causes.{cause_name}
-use Rattle.solv_pool.specs.Catalog.{catalog_of}
+use Rattle.solv_pool.specs.HardRules.{hard_rules}
 use Rattle.solv_pool.specs.PackageText.{package_text}
 use Rattle.solv_pool.specs.declared.tasks.Task.{Task}
 use Rattle.solv_rules.specs.declared.fault.BookFault.{BookFault}
@@ -12,21 +12,20 @@ use Rattle.solv_rules.specs.declared.fault.BookFault.TheVariants.{TooRich, TooMa
 use Rattle.solv_script.specs.Grammar.{Bad}
 use Rattle.solv_script.specs.declared.scripts.Script.{Script}
 use Rattle.solv_answers.specs.declared.answers.Answer.{Answer}
+use Rattle.solv_answers.specs.declared.answers.Answer.TheVariants.{Transaction, Problems, Spent}
+use Rattle.solv_words.specs.declared.command_line.Command.{Command}
 use Rattle.solv_run.specs.Checks.{are_true}
-use Rattle.solv_run.specs.CommandLine.{usage_line}
 use Rattle.solv_run.specs.Texts.{is_spent, is_as_wanted, printed}
-
-pub record Due : Type 0 where
-  pub status : Status
-  pub out : List ℕ
-  pub err : List ℕ
-  pub answers : List Answer
+use Rattle.solv_run.specs.declared.dues.Due.{Due}
 
 -- one line, and nothing else
 abbrev pub line_due : Status → List ℕ → Due
 line_due status line = record { status = status; out = []; err = line; answers = [] }
 
 -- words that are not of the form
+abbrev pub usage_line : List ℕ
+usage_line = codes "usage: testsolv [-r] [--budget N] [--grow SEED] FILE\n"
+
 abbrev pub usage_due : Due
 usage_due = line_due status.Usage usage_line
 
@@ -53,13 +52,12 @@ limit_line task Memory = []
 abbrev pub limit_due : Task → BookFault → Due
 limit_due task fault = line_due status.Refused (limit_line task fault)
 
--- the budget of learnt rules
-abbrev pub budget : ℕ
-budget = 100000
+-- a budget of learnt rules that is spent
+abbrev pub spent_line : ℕ → List ℕ
+spent_line budget = codes "testsolv: budget of " ++ (decimal budget ++ codes " learnt rules spent\n")
 
--- a budget that is spent
-abbrev pub spent_line : List ℕ
-spent_line = codes "testsolv: budget of 100000 learnt rules spent\n"
+abbrev pub spent_line_of : ℕ → Answer → List ℕ
+spent_line_of budget answer = if is_spent answer then spent_line budget else []
 
 -- the status of an answer: whether the budget is spent, and else whether all comparisons are true and the lines are as the script expects them
 abbrev pub answer_status : Script → Answer → Status
@@ -68,10 +66,32 @@ answer_status script answer =
     else (if are_true script.checks && is_as_wanted script answer then status.Done else status.Differs)
 
 -- an answer to a script
-abbrev pub answer_due : Bool → Script → Answer → Due
-answer_due shows script answer = record {
+abbrev pub answer_due : Command → Script → Answer → Due
+answer_due command script answer = record {
   status = answer_status script answer;
-  out = printed shows script answer;
-  err = if is_spent answer then spent_line else [];
+  out = printed command.shows script answer;
+  err = spent_line_of command.budget answer;
+  answers = answer ∷ [];
+}
+
+-- an answer in few words
+abbrev pub answer_words : Answer → List ℕ
+answer_words (Transaction trail set made ordered) = codes "transaction of " ++ (decimal (length made) ++ codes " changes")
+answer_words (Problems problems) = decimal (length problems) ++ codes " problems"
+answer_words (Spent ledger) = codes "spent"
+
+-- the line on the task of a seed: its packages besides the system, its hard rules, and its answer
+abbrev pub grown_line : ℕ → Task → Answer → List ℕ
+grown_line seed task answer = codes "grow " ++ (decimal seed ++ (codes ": " ++ (decimal (length task.universe.packages) ++ (codes " packages, " ++ (decimal (length (hard_rules task)) ++ (codes " rules, " ++ (answer_words answer ++ codes "\n")))))))
+
+abbrev pub grown_status : Answer → Status
+grown_status answer = if is_spent answer then status.Spent else status.Done
+
+-- an answer to the task of a seed
+abbrev pub grown_due : ℕ → ℕ → Task → Answer → Due
+grown_due budget seed task answer = record {
+  status = grown_status answer;
+  out = grown_line seed task answer;
+  err = spent_line_of budget answer;
   answers = answer ∷ [];
 }

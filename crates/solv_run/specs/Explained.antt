@@ -1,13 +1,15 @@
 -- Why a run ends with its status.
-use Rattle.std.specs.Prelude.{ℕ, ◌≡◌, ◌<◌, ◌⊎◌, Bool, true, false, ◌&&◌, List, [], ◌∷◌, ◌++◌, map, Option, Some, None, Result, Ok, Err}
+use Rattle.std.specs.Prelude.{ℕ, ◌≡◌, ◌<◌, ◌⊎◌, true, false, ◌&&◌, List, [], ◌∷◌, ◌++◌, map, Option, Some, None, Result, Ok, Err}
 use Rattle.solv_io.specs.Counters.{Rose}
 use Rattle.solv_io.specs.declared.status.Status.TheVariants as status
 use Rattle.solv_pool.specs.Catalog.{catalog_of}
 use Rattle.solv_pool.specs.HardRules.{hard_rules}
+use Rattle.solv_pool.specs.declared.tasks.Task.{Task}
 use Rattle.solv_rules.specs.Books.{first_fault}
 use Rattle.solv_rules.specs.declared.fault.BookFault.{BookFault}
 use Rattle.solv_script.specs.FileRuns.{FilesRun, AskedBesides, bytes_in}
 use Rattle.solv_script.specs.Grammar.{Bad, script_due, script_read}
+use Rattle.solv_script.specs.GrownTasks.{IsGrown}
 use Rattle.solv_script.specs.ScriptsOf.{IsScriptOf}
 use Rattle.solv_script.specs.States.{State}
 use Rattle.solv_script.specs.declared.scripts.Script.{Script}
@@ -15,9 +17,11 @@ use Rattle.solv_answers.specs.Answers.{IsAnswer, is_transaction, choices_clash}
 use Rattle.solv_answers.specs.declared.answers.Answer.{Answer}
 use Rattle.solv_answers.specs.declared.answers.Answer.TheVariants.{Spent}
 use Rattle.solv_core.specs.declared.ledger.Ledger.{Ledger}
-use Rattle.solv_run.specs.Cases.{IsNamed, HasAskedAll, HasScript}
+use Rattle.solv_words.specs.declared.command_line.Command.{Command}
+use Rattle.solv_words.specs.declared.command_line.Source.TheVariants.{Seed}
+use Rattle.solv_run.specs.Cases.{IsNamed, HasAskedAll, WasGrown, WasRead, file_in}
 use Rattle.solv_run.specs.Checks.{are_true}
-use Rattle.solv_run.specs.Dues.{read_fault_line, bad_line, limit_line, spent_line, budget}
+use Rattle.solv_run.specs.Dues.{read_fault_line, bad_line, grown_line, limit_line, spent_line}
 use Rattle.solv_run.specs.Runs.{SinkRun, WroteAll, HasWriteFault}
 use Rattle.solv_run.specs.Texts.{is_spent, is_as_wanted, printed}
 use Rattle.solv_run.specs.declared.reports.Report.{Report}
@@ -27,22 +31,24 @@ pub record HoldScript (held : List ℕ → Option (List ℕ)) (file bytes : List
   pub script : held file ≡ Some bytes
   pub others : fetched ≡ map (bytes_in held) (script_due file fetched bytes)
 
-module _ (shows : Bool) (form : Option (List ℕ)) (files : FilesRun) (report : Report) (out err : SinkRun) where
-  -- a script that was read whole
-  pub record WasRead (script : Script) : Type 0 where
-    pub file : List ℕ
-    pub bytes : List ℕ
-    pub fetched : List (List ℕ)
-    pub named : IsNamed form files file bytes
-    pub asked : HasAskedAll form files file bytes fetched
-    pub read : HasScript file bytes fetched script
-
-  -- it has this answer, which is reported, and printed whole
+module _ (form : Option Command) (files : FilesRun) (report : Report) (out err : SinkRun) where
+  -- a script that was read whole has this answer, which is reported, and printed whole
   pub record HasAnswer (script : Script) (answer : Answer) : Type 0 where
-    pub read : WasRead script
-    pub is : IsAnswer script.task budget answer
+    pub command : Command
+    pub read : WasRead form files command script
+    pub is : IsAnswer script.task command.budget answer
     pub answers : report.answers ≡ answer ∷ []
-    pub text : WroteAll out (printed shows script answer)
+    pub text : WroteAll out (printed command.shows script answer)
+
+  -- the task of a seed has this answer, which is reported, and its line is written whole
+  pub record HasGrownAnswer (answer : Answer) : Type 0 where
+    pub command : Command
+    pub seed : ℕ
+    pub task : Task
+    pub grown : WasGrown form files command seed task
+    pub is : IsAnswer task command.budget answer
+    pub answers : report.answers ≡ answer ∷ []
+    pub text : WroteAll out (grown_line seed task answer)
 
   -- a transaction or problems, with every comparison true and the lines that the script expects, if it expects any
   pub record IsDone : Type 0 where
@@ -53,6 +59,12 @@ module _ (shows : Bool) (form : Option (List ℕ)) (files : FilesRun) (report : 
     pub all_true : are_true script.checks ≡ true
     pub as_wanted : is_as_wanted script answer ≡ true
 
+  -- a transaction or problems for the task of a seed
+  pub record IsGrownDone : Type 0 where
+    pub answer : Answer
+    pub has : HasGrownAnswer answer
+    pub unspent : is_spent answer ≡ false
+
   -- a transaction or problems, with some comparison false, or with lines that differ from those that the script expects
   pub record IsDiffering : Type 0 where
     pub script : Script
@@ -61,12 +73,17 @@ module _ (shows : Bool) (form : Option (List ℕ)) (files : FilesRun) (report : 
     pub unspent : is_spent answer ≡ false
     pub some_false : (are_true script.checks && is_as_wanted script answer) ≡ false
 
-  -- the budget is spent, which is the one line on `err`
+  -- the budget of the words is spent, which is the one line on `err`
   pub record IsSpentRun : Type 0 where
     pub script : Script
     pub ledger : Ledger
     pub has : HasAnswer script (Spent ledger)
-    pub line : WroteAll err spent_line
+    pub line : WroteAll err (spent_line has.command.budget)
+
+  pub record IsGrownSpent : Type 0 where
+    pub ledger : Ledger
+    pub has : HasGrownAnswer (Spent ledger)
+    pub line : WroteAll err (spent_line has.command.budget)
 
   -- the first bad line, which is the one line on `err`
   pub record IsBad : Type 0 where
@@ -74,18 +91,23 @@ module _ (shows : Bool) (form : Option (List ℕ)) (files : FilesRun) (report : 
     pub bytes : List ℕ
     pub fetched : List (List ℕ)
     pub bad : Bad
-    pub named : IsNamed form files file bytes
-    pub asked : HasAskedAll form files file bytes fetched
+    pub named : IsNamed (file_in form) files file bytes
+    pub asked : HasAskedAll (file_in form) files file bytes fetched
     pub first_bad : script_read file fetched bytes ≡ Err bad
     pub line : WroteAll err (bad_line bad)
 
-  -- the first limit that the clauses of a script's task pass, which is the one line on `err`
+  -- the task that is solved: that of a script that was read, or that of a seed
+  pub data HasTask : Task → Type 0 where
+    of_script : (command : Command) (script : Script) → WasRead form files command script → HasTask script.task
+    of_seed : (command : Command) (seed : ℕ) (task : Task) → WasGrown form files command seed task → HasTask task
+
+  -- the first limit that the clauses of a task pass, which is the one line on `err`
   pub record IsLimited : Type 0 where
-    pub script : Script
+    pub task : Task
     pub fault : BookFault
-    pub read : WasRead script
-    pub passed : first_fault (catalog_of script.task) 0 (hard_rules script.task) ≡ Some fault
-    pub line : WroteAll err (limit_line script.task fault)
+    pub has : HasTask task
+    pub passed : first_fault (catalog_of task) 0 (hard_rules task) ≡ Some fault
+    pub line : WroteAll err (limit_line task fault)
 
   -- a file that could not be read: it is the one asked for last, the count of the files rose, and the one line on `err` names it
   pub record IsReadFault : Type 0 where
@@ -115,6 +137,14 @@ module _ (shows : Bool) (form : Option (List ℕ)) (files : FilesRun) (report : 
     pub direct : first_fault (catalog_of script.task) 0 (hard_rules script.task) ≡ None → choices_clash script.task ≡ false → GaveTransaction
     pub limited : (fault : BookFault) → first_fault (catalog_of script.task) 0 (hard_rules script.task) ≡ Some fault → report.status ≡ status.Refused
 
+  -- what becomes of a seed: the same of its task, and no line differs
+  pub record IsGrownComplete (seed : ℕ) : Type 0 where
+    pub task : Task
+    pub grown : IsGrown seed task
+    pub answered : first_fault (catalog_of task) 0 (hard_rules task) ≡ None → (report.status ≡ status.Done) ⊎ (report.status ≡ status.Spent)
+    pub direct : first_fault (catalog_of task) 0 (hard_rules task) ≡ None → choices_clash task ≡ false → GaveTransaction
+    pub limited : (fault : BookFault) → first_fault (catalog_of task) 0 (hard_rules task) ≡ Some fault → report.status ≡ status.Refused
+
   -- what the grammar says of a script, where files with these bytes are fetched, decides
   pub record IsDecidedBy (given : Result State Bad) : Type 0 where
     pub bad_line : (bad : Bad) → given ≡ Err bad → report.status ≡ status.Refused
@@ -124,23 +154,24 @@ module _ (shows : Bool) (form : Option (List ℕ)) (files : FilesRun) (report : 
   pub record IsDecided (file : List ℕ) : Type 0 where
     pub bytes : List ℕ
     pub fetched : List (List ℕ)
-    pub named : IsNamed form files file bytes
-    pub asked : HasAskedAll form files file bytes fetched
+    pub named : IsNamed (file_in form) files file bytes
+    pub asked : HasAskedAll (file_in form) files file bytes fetched
     pub by : IsDecidedBy (script_read file fetched bytes)
 
   -- what each status says, and which status must come
   pub record IsExplained : Type 0 where
-    pub done : report.status ≡ status.Done → IsDone
+    pub done : report.status ≡ status.Done → IsDone ⊎ IsGrownDone
     pub differs : report.status ≡ status.Differs → IsDiffering
     pub refused : report.status ≡ status.Refused → IsBad ⊎ IsLimited
     pub read_fault : report.status ≡ status.ReadFault → IsReadFault
     pub write_fault : report.status ≡ status.WriteFault → HasWriteFault out err
-    pub spent : report.status ≡ status.Spent → IsSpentRun
+    pub spent : report.status ≡ status.Spent → IsSpentRun ⊎ IsGrownSpent
     pub usage : report.status ≡ status.Usage → form ≡ None
     pub file_fault : files.faults_before < files.faults_after → (report.status ≡ status.ReadFault) ⊎ (report.status ≡ status.WriteFault)
     pub out_fault : out.faults_before < out.faults_after → report.status ≡ status.WriteFault
     pub err_fault : err.faults_before < err.faults_after → report.status ≡ status.WriteFault
     pub bad_words : form ≡ None → (report.status ≡ status.Usage) ⊎ (report.status ≡ status.WriteFault)
-    pub decided : (file : List ℕ) → form ≡ Some file → IsCalm → IsDecided file
-    pub told : (file bytes : List ℕ) (fetched : List (List ℕ)) (held : List ℕ → Option (List ℕ)) → form ≡ Some file → files.contents ≡ Some held
+    pub decided : (file : List ℕ) → file_in form ≡ Some file → IsCalm → IsDecided file
+    pub told : (file bytes : List ℕ) (fetched : List (List ℕ)) (held : List ℕ → Option (List ℕ)) → file_in form ≡ Some file → files.contents ≡ Some held
         → HoldScript held file bytes fetched → IsCalm → IsDecidedBy (script_read file fetched bytes)
+    pub grown : (command : Command) (seed : ℕ) → form ≡ Some command → command.source ≡ Seed seed → IsCalm → IsGrownComplete seed

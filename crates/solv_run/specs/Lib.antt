@@ -1,4 +1,3 @@
-pub mod CommandLine
 pub mod Checks
 pub mod Texts
 pub mod Dues

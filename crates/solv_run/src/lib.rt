@@ -1,12 +1,16 @@
 //! The top call.
+//!
+//! [`run`] solves what the words of a command line say: a script in a file, or that of a seed. It answers with a [`Report`].
 #![tactic(auto)]
 
 mod checks;
-mod command_line;
+mod dues;
+mod growing;
 mod printing;
 mod reports;
 mod running;
 mod saying;
+mod texts;
 mod top;
 
 pub use reports::Report;

@@ -1,5 +1,5 @@
-//! What is said for a script.
-ghost use Rattle.std.specs.Prelude.{◌≡◌, ◌∷◌, [], true, Some, None, IfOk, if◌then◌else◌};
+//! What is due for a script that was read.
+ghost use Rattle.std.specs.Prelude.{◌≡◌, ◌≤◌, true, Some, IfOk};
 ghost use Rattle.std.specs.List.{list_all};
 ghost use Rattle.solv_pool.specs.Catalog.{catalog_of};
 ghost use Rattle.solv_pool.specs.HardRules.{hard_rules};
@@ -7,25 +7,22 @@ ghost use Rattle.solv_pool.specs.TaskBelonging.{IsClosed};
 ghost use Rattle.solv_pool.specs.TaskForms.{HasForms};
 ghost use Rattle.solv_tags.specs.Inner.EntryForms.{conflicts_unconditionally};
 ghost use Rattle.solv_rules.specs.Books.{first_fault};
-ghost use Rattle.solv_answers.specs.Answers.{IsAnswer, IsPrepared};
-ghost use Rattle.solv_run.specs.Cases.{IsSaidFor};
-ghost use Rattle.solv_run.specs.Dues.{answer_due, answer_status, spent_line};
-ghost use Rattle.solv_run.specs.Runs.{SinkRun, IsReported};
-ghost use Rattle.solv_run.specs.Texts.{is_as_wanted, is_spent};
+ghost use Rattle.solv_answers.specs.Answers.{IsPrepared};
+ghost use Rattle.solv_run.specs.Cases.{IsDueFor};
+ghost use Rattle.solv_run.specs.Dues.{answer_due, answer_status};
+ghost use Rattle.solv_run.specs.Texts.{is_as_wanted};
 
 use crate::checks::are_true;
+use crate::dues::{Due, limit_due};
 use crate::printing::printed;
-use crate::reports::Report;
-use crate::saying::{SPENT, limit_text, say, say_line};
+use crate::texts::spent_text_of;
 use solv_answers::{Answer, Prepared, answer, prepare};
-use solv_io::{Sink, Status};
-use solv_list::Items;
+use solv_io::Status;
+use solv_list::{Bytes, Items};
 use solv_rules::BookFault;
 use solv_script::Script;
+use solv_words::Command;
 use std::alloc::{AllocError, Global};
-
-/// The most rules that are learnt.
-const BUDGET: u32 = 100_000;
 
 /// The status of an answer, whose lines are as the script expects them or not.
 fn status_of(script: &Script, answer: &Answer, as_wanted: bool) -> Status
@@ -42,98 +39,78 @@ fn status_of(script: &Script, answer: &Answer, as_wanted: bool) -> Status
     }
 }
 
-/// The line on `err` for an answer: a spent budget has one, and any other answer none.
-fn line_of(answer: &Answer) -> &'static [u8]
-    ensures { result.now ≡ (if is_spent answer.now then spent_line else []) }
-{
-    match answer {
-        Answer::Spent(_) => SPENT,
-        _ => b"",
-    }
-}
-
-/// Says an answer to a script.
-fn say_answer<O: Sink, E: Sink>(
+/// What is due for an answer to a script.
+fn answer_due(
     alloc: Global,
-    shows: bool,
+    command: &Command,
     script: &Script,
     prepared: &Prepared,
     answer: Answer,
-    out: &mut O,
-    err: &mut E,
-) -> Result<Report, AllocError>
+) -> Result<Due, AllocError>
     requires closed { IsClosed script.now.task }
     requires prepared { IsPrepared script.now.task prepared.now }
-    ensures { IfOk result (λ report. IsReported (answer_due shows script.now answer) report
-        (record { before = O.written out.old; after = O.written out.new; faults_before = O.faults out.old; faults_after = O.faults out.new })
-        (record { before = E.written err.old; after = E.written err.new; faults_before = E.faults err.old; faults_after = E.faults err.new })) }
+    ensures { IfOk result (λ due. due ≡ answer_due command.now script.now answer) }
 {
-    let printed = printed(alloc, shows, script, prepared, &answer)?;
+    let printed = printed(alloc, command.shows, script, prepared, &answer)?;
     let status = status_of(script, &answer, printed.as_wanted);
-    let line = line_of(&answer);
+    let err = spent_text_of(alloc, command.budget, &answer)?;
     let mut answers = Items::wrap(Vec::new(alloc));
     answers.push(answer)?;
-    say(out, err, &printed.text, line, status, answers)
+    Ok(Due {
+        status,
+        out: Bytes::wrap(printed.text),
+        err: Bytes::wrap(err),
+        answers,
+    })
 }
 
-/// Answers a script and says it.
-fn say_answered<O: Sink, E: Sink>(
+/// Answers a script.
+fn answered_due(
     alloc: Global,
-    shows: bool,
+    command: &Command,
     script: &Script,
     prepared: &Prepared,
-    out: &mut O,
-    err: &mut E,
-) -> Result<Report, AllocError>
+) -> Result<Due, AllocError>
     requires closed { IsClosed script.now.task }
     requires forms { HasForms script.now.task }
     requires unconditional { list_all (conflicts_unconditionally (catalog_of script.now.task)) script.now.task.universe.packages ≡ true }
     requires prepared { IsPrepared script.now.task prepared.now }
-    ensures { IfOk result (λ report. IsSaidFor shows script.now report
-        (record { before = O.written out.old; after = O.written out.new; faults_before = O.faults out.old; faults_after = O.faults out.new })
-        (record { before = E.written err.old; after = E.written err.new; faults_before = E.faults err.old; faults_after = E.faults err.new })) }
+    requires budget { command.now.budget ≤ 1000000 }
+    ensures { IfOk result (IsDueFor command.now script.now) }
 {
-    let answer = answer(alloc, &script.task, prepared, BUDGET)?;
-    say_answer(alloc, shows, script, prepared, answer, out, err)
+    let answer = answer(alloc, &script.task, prepared, command.budget)?;
+    answer_due(alloc, command, script, prepared, answer)
 }
 
-/// Says the limit that the clauses of a script's task pass.
-fn say_limit<O: Sink, E: Sink>(
+/// What is due for a limit that the clauses of a script's task pass.
+fn passed_due(
     alloc: Global,
-    shows: bool,
+    command: &Command,
     script: &Script,
     fault: BookFault,
-    out: &mut O,
-    err: &mut E,
-) -> Result<Report, AllocError>
+) -> Result<Due, AllocError>
     requires closed { IsClosed script.now.task }
     requires passed { first_fault (catalog_of script.now.task) 0 (hard_rules script.now.task) ≡ Some fault }
-    ensures { IfOk result (λ report. IsSaidFor shows script.now report
-        (record { before = O.written out.old; after = O.written out.new; faults_before = O.faults out.old; faults_after = O.faults out.new })
-        (record { before = E.written err.old; after = E.written err.new; faults_before = E.faults err.old; faults_after = E.faults err.new })) }
+    ensures { IfOk result (IsDueFor command.now script.now) }
 {
-    let line = limit_text(alloc, &script.task, fault)?;
-    say_line(alloc, &line, Status::Refused, out, err)
+    limit_due(alloc, &script.task, fault)
 }
 
-/// Says what is due for a script that was read.
-pub(crate) fn run_script<O: Sink, E: Sink>(
+/// What is due for a script that was read.
+pub(crate) fn script_due(
     alloc: Global,
-    shows: bool,
+    command: &Command,
     script: &Script,
-    out: &mut O,
-    err: &mut E,
-) -> Result<Report, AllocError>
+) -> Result<Due, AllocError>
     requires closed { IsClosed script.now.task }
     requires forms { HasForms script.now.task }
     requires unconditional { list_all (conflicts_unconditionally (catalog_of script.now.task)) script.now.task.universe.packages ≡ true }
-    ensures { IfOk result (λ report. IsSaidFor shows script.now report
-        (record { before = O.written out.old; after = O.written out.new; faults_before = O.faults out.old; faults_after = O.faults out.new })
-        (record { before = E.written err.old; after = E.written err.new; faults_before = E.faults err.old; faults_after = E.faults err.new })) }
+    requires budget { command.now.budget ≤ 1000000 }
+    ensures { IfOk result (IsDueFor command.now script.now) }
 {
     match prepare(alloc, &script.task) {
-        Ok(prepared) => say_answered(alloc, shows, script, &prepared, out, err),
+        Ok(prepared) => answered_due(alloc, command, script, &prepared),
         Err(BookFault::Memory) => Err(AllocError),
-        Err(fault) => say_limit(alloc, shows, script, fault, out, err),
+        Err(fault) => passed_due(alloc, command, script, fault),
     }
 }

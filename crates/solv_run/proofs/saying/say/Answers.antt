@@ -5,4 +5,6 @@ use Rattle.solv_run.proofs.saying.say.Goals as goal
 
 pub returns-in-Err-Failed-put : goal.returns-in-Err-Failed-put
 returns-in-Err-Failed-put g c =
-    cut_off refl refl (inr (rw c.in-Err-Failed-put.field-0-is at c.in-Err-Failed-put.ensures.faults)) (all_prefix _ _ c.args.out_text.now c.in-Ok.ensures.whole) c.in-Err-Failed-put.ensures.prefix
+    let whole = rw c.held.ensures at c.in-Ok.ensures.whole in
+    let prefix = rw c.held-2.ensures at c.in-Err-Failed-put.ensures.prefix in
+    cut_off refl refl (inr (rw c.in-Err-Failed-put.field-0-is at c.in-Err-Failed-put.ensures.faults)) (all_prefix _ _ c.args.due.out whole) prefix

@@ -1,5 +1,0 @@
-use Rattle.solv_run.proofs.Forming.{asks_formed}
-use Rattle.solv_run.proofs.running.run_script.Goals as goal
-
-pub prepare-requires-clause-formed : goal.prepare-requires-clause-formed
-prepare-requires-clause-formed g c = asks_formed c.args.script.now.task c.requires.forms c.requires.unconditional

@@ -1,0 +1,5 @@
+use Rattle.solv_run.proofs.Forming.{asks_formed}
+use Rattle.solv_run.proofs.running.script_due.Goals as goal
+
+pub prepare-requires-clause-formed : goal.prepare-requires-clause-formed
+prepare-requires-clause-formed c = asks_formed c.args.script.now.task c.requires.forms c.requires.unconditional

@@ -1,0 +1,5 @@
+pub mod ClapArguments
+pub mod ClapForm
+pub mod ClapNumbers
+pub mod ClapWalk
+pub mod ClapWords

@@ -1,0 +1,136 @@
+-- The words of a command line: `testsolv [-r] [--budget N] [--grow SEED] FILE`.
+use Rattle.std.specs.Prelude.{ℕ, ◌==◌, ◌&&◌, ◌||◌, not, Bool, true, false, List, [], ◌∷◌, map, take, drop, length, find, codes, nat_lt, nat_le, Option, Some, None, is_some, option_map, option_and_then, unwrap_or, if◌then◌else◌}
+use Rattle.std.specs.Char.{digit_value}
+use Rattle.std.specs.List.{list_all, list_any}
+use Rattle.std.specs.Str.{bytes_eq}
+use Rattle.std.specs.Str.Parse.{digits_value, starts_with_minus, without_leading_sign}
+use Rattle.solv_words.specs.declared.command_line.Command.{Command}
+use Rattle.solv_words.specs.declared.command_line.Source.{Source}
+use Rattle.solv_words.specs.declared.command_line.Source.TheVariants.{File, Seed}
+
+-- what an argument gives: `-r` asks for the result lines; `--budget N` and `--grow SEED` have a number; FILE names a script
+pub data Kind : Type 0 where
+  lines : Kind
+  budget : Kind
+  seed : Kind
+  file : Kind
+
+abbrev pub is_same : Kind → Kind → Bool
+is_same lines lines = true
+is_same budget budget = true
+is_same seed seed = true
+is_same file file = true
+is_same a b = false
+
+-- an argument with its value, which is empty for `-r`
+pub record Argument : Type 0 where
+  pub kind : Kind
+  pub value : List ℕ
+
+abbrev pub argument : Kind → List ℕ → Argument
+argument kind value = record { kind = kind; value = value }
+
+-- what a word is, where no option waits for its value: an argument; an option whose value is the next word; `--`, behind which each word is a FILE; or nothing
+-- that is known
+pub data Word : Type 0 where
+  whole : Argument → Word
+  option : Kind → Word
+  end_of_options : Word
+  unknown : Word
+
+-- a word that may be a value or a FILE: it does not begin with `-`, or is `-`
+abbrev pub is_value : List ℕ → Bool
+is_value word = not (bytes_eq (take 1 word) (codes "-")) || bytes_eq word (codes "-")
+
+abbrev pub value_or_unknown : List ℕ → Word
+value_or_unknown word = if is_value word then whole (argument file word) else unknown
+
+-- `--budget=N` and `--grow=SEED`
+abbrev pub with_attached : List ℕ → Word
+with_attached word =
+    if bytes_eq (take 9 word) (codes "--budget=") then whole (argument budget (drop 9 word))
+    else (if bytes_eq (take 7 word) (codes "--grow=") then whole (argument seed (drop 7 word))
+    else value_or_unknown word)
+
+abbrev pub word_of : List ℕ → Word
+word_of word =
+    if bytes_eq word (codes "--") then end_of_options
+    else (if bytes_eq word (codes "-r") then whole (argument lines [])
+    else (if bytes_eq word (codes "--budget") then option budget
+    else (if bytes_eq word (codes "--grow") then option seed
+    else with_attached word)))
+
+abbrev pub with_argument : Argument → Option (List Argument) → Option (List Argument)
+with_argument a = option_map (λ behind. a ∷ behind)
+
+-- the arguments that words are, the first of which may be the value that an option waits for; none where some word is unknown or a value is missing
+abbrev pub arguments_from : Option Kind → List (List ℕ) → Option (List Argument)
+arguments_from None [] = Some []
+arguments_from (Some kind) [] = None
+arguments_from (Some kind) (word ∷ words) = if is_value word then with_argument (argument kind word) (arguments_from None words) else None
+arguments_from None (word ∷ words) = elim (word_of word) [
+  | whole a ↦ with_argument a (arguments_from None words)
+  | option kind ↦ arguments_from (Some kind) words
+  | end_of_options ↦ Some (map (argument file) words)
+  | unknown ↦ None
+]
+
+-- a number as it may be written: digits, behind a sign or none
+abbrev pub number_of : List ℕ → ℕ
+number_of text = digits_value 10 (without_leading_sign text)
+
+abbrev pub are_digits : List ℕ → Bool
+are_digits text = nat_lt 0 (length text) && list_all (λ d. nat_lt (digit_value d) 10) text
+
+-- it is one, up to a most, and only 0 has the sign `-`
+abbrev pub is_number : ℕ → List ℕ → Bool
+is_number most text = are_digits (without_leading_sign text) && (nat_le (number_of text) most && (not (starts_with_minus text) || number_of text == 0))
+
+abbrev pub is_in_range : Argument → Bool
+is_in_range a = elim a.kind [
+  | lines ↦ true
+  | budget ↦ is_number 1000000 a.value
+  | seed ↦ is_number 4294967295 a.value
+  | file ↦ true
+]
+
+-- no two arguments give the same
+abbrev pub is_each_once : List Argument → Bool
+is_each_once [] = true
+is_each_once (a ∷ behind) = not (list_any (λ b. is_same a.kind b.kind) behind) && is_each_once behind
+
+-- the value that an argument gives
+abbrev pub value_of : Kind → List Argument → Option (List ℕ)
+value_of kind arguments = option_map (λ a. a.value) (find (λ a. is_same kind a.kind) arguments)
+
+-- either a FILE or a seed
+abbrev pub source_of : Option (List ℕ) → Option ℕ → Option Source
+source_of (Some name) None = Some (File name)
+source_of None (Some number) = Some (Seed number)
+source_of named grown = None
+
+-- the number that an argument gives
+abbrev pub number_by : Kind → List Argument → Option ℕ
+number_by kind arguments = option_map number_of (value_of kind arguments)
+
+abbrev pub is_accepted : List Argument → Bool
+is_accepted arguments = is_each_once arguments && list_all is_in_range arguments
+
+-- the command of arguments that name this source
+abbrev pub command_from : List Argument → Source → Command
+command_from arguments source = record {
+  shows = is_some (value_of lines arguments);
+  budget = unwrap_or (number_by budget arguments) 100000;
+  source = source;
+}
+
+abbrev pub command_by : List Argument → Option Command
+command_by arguments = option_map (command_from arguments) (source_of (value_of file arguments) (number_by seed arguments))
+
+abbrev pub command_if_accepted : List Argument → Option Command
+command_if_accepted arguments = if is_accepted arguments then command_by arguments else None
+
+-- What the words say, the first of which is the program's name. Each argument is given at most once, in any order, with a number in its range; and either FILE
+-- or a seed. Without `--budget` the budget is 100000.
+abbrev pub command_of : List (List ℕ) → Option Command
+command_of words = option_and_then command_if_accepted (arguments_from None (drop 1 words))

@@ -1,0 +1,2 @@
+-- Words of inner contracts.
+pub mod Clap

@@ -1,0 +1,123 @@
+//! The words of a command line.
+ghost use Rattle.std.specs.Prelude.{◌≡◌, ◌≤◌, ℕ, true, List, Option, is_some, IfOk, IfSome, map, string_bytes};
+ghost use Rattle.std.specs.List.{list_all};
+ghost use Rattle.std.specs.Option.{option_copied};
+ghost use Rattle.clap.specs.Words.{app_of};
+ghost use Rattle.solv_words.specs.CommandLine.{Argument, budget, command_by, command_of, file, is_accepted, is_in_range, lines, number_by, seed, source_of, value_of};
+ghost use Rattle.solv_words.specs.Inner.Clap.{HasRows, form};
+
+use clap::error::ErrorKind;
+use clap::{Arg, ArgAction, ArgMatches, value_parser};
+use solv_list::Text;
+use std::alloc::{AllocError, Global};
+
+/// What is solved: the script in a file, or the one that a seed gives.
+#[derive(Drop)]
+pub enum Source {
+    File(Text),
+    Seed(u32),
+}
+
+/// What a command line says: whether the result lines are printed also where a script says which it expects, how many rules
+/// may be learnt, and what is solved.
+#[derive(Drop)]
+pub struct Command {
+    pub shows: bool,
+    pub budget: u32,
+    pub source: Source,
+}
+
+/// How many rules may be learnt where no word says it.
+const BUDGET: u32 = 100_000;
+
+/// The form of a command line. A request for help is no argument of it.
+fn form<'a>(alloc: Global) -> Result<clap::Command<'a>, AllocError>
+    ensures { IfOk result (λ command. app_of command ≡ form) }
+{
+    let lines = Arg::new(alloc, "lines")
+        .short('r')
+        .action(ArgAction::SetTrue);
+    let budget = Arg::new(alloc, "budget")
+        .long("budget")
+        .value_parser(value_parser!(u32).range(0..=1_000_000));
+    let seed = Arg::new(alloc, "grow")
+        .long("grow")
+        .value_parser(value_parser!(u32));
+    let file = Arg::new(alloc, "FILE");
+    let command = clap::Command::new(alloc, "testsolv").disable_help_flag(true);
+    command.arg(lines)?.arg(budget)?.arg(seed)?.arg(file)
+}
+
+/// Whether `-r` is given.
+fn shows_in(matches: &ArgMatches) -> bool
+    ensures { (arguments : List Argument) → HasRows arguments matches.now → result ≡ is_some (value_of lines arguments) }
+{
+    matches.get_flag("lines")
+}
+
+/// The number of `--budget`.
+fn budget_in(matches: &ArgMatches) -> Option<u32>
+    ensures { (arguments : List Argument) → HasRows arguments matches.now → list_all is_in_range arguments ≡ true → result ≡ number_by budget arguments }
+{
+    matches.get_one::<u32>("budget")
+}
+
+/// The number of `--grow`.
+fn seed_in(matches: &ArgMatches) -> Option<u32>
+    ensures { (arguments : List Argument) → HasRows arguments matches.now → list_all is_in_range arguments ≡ true → result ≡ number_by seed arguments }
+{
+    matches.get_one::<u32>("grow")
+}
+
+/// The name of the file.
+fn file_in<'a>(matches: &ArgMatches<'a>) -> Option<&'a str>
+    ensures { (arguments : List Argument) → HasRows arguments matches.now → option_copied result ≡ value_of file arguments }
+{
+    matches.get_str("FILE")
+}
+
+/// What is solved: a file or a seed, and not both.
+fn source_of(
+    alloc: Global,
+    file: Option<&str>,
+    seed: Option<u32>,
+) -> Result<Option<Source>, AllocError>
+    ensures { IfOk result (λ source. source ≡ source_of (option_copied file.entry) seed) }
+{
+    match (file, seed) {
+        (Some(name), None) => {
+            let name = String::from_str(alloc, name)?;
+            Ok(Some(Source::File(Text::wrap(name))))
+        }
+        (None, Some(seed)) => Ok(Some(Source::Seed(seed))),
+        _ => Ok(None),
+    }
+}
+
+/// What a command line says, by its matches.
+fn command_in(alloc: Global, matches: &ArgMatches) -> Result<Option<Command>, AllocError>
+    ensures { (arguments : List Argument) → HasRows arguments matches.now → is_accepted arguments ≡ true → IfOk result (λ command. command ≡ command_by arguments) }
+{
+    match source_of(alloc, file_in(matches), seed_in(matches))? {
+        None => Ok(None),
+        Some(source) => Ok(Some(Command {
+            shows: shows_in(matches),
+            budget: budget_in(matches).unwrap_or(BUDGET),
+            source,
+        })),
+    }
+}
+
+/// What the words of a command line say, the first of which is the program's name; none where they are not of the form.
+///
+/// Running out of memory is the one refusal.
+pub fn command_of(alloc: Global, words: &[String]) -> Result<Option<Command>, AllocError>
+    ensures said { IfOk result (λ command. command ≡ command_of (map string_bytes words.now)) }
+    ensures within { IfOk result (λ command. IfSome command (λ said. said.budget ≤ 1000000)) }
+{
+    match form(alloc)?.try_get_matches_from(words) {
+        Ok(matches) => command_in(alloc, &matches),
+        Err(error) if error.kind() == ErrorKind::OutOfMemory => Err(AllocError),
+        Err(_) => Ok(None),
+    }
+}
