@@ -6,13 +6,14 @@
 FROM has libsolv's script testcase.t and what it names; TO is made, and must not be there yet. Repositories are unpacked. Lines and
 words that docs/FORMATS.md does not have are left out, and each kind of them is told once on stderr, with how often it
 stood there. An expected transaction is kept where the result has no problems, whose numbers are libsolv's own; an erased package
-that another one obsoletes is `obsolete` here.
+that another one obsoletes is `obsolete` here. Where anything fails, TO is not left behind.
 """
 import bz2
 import collections
 import gzip
 import lzma
 import pathlib
+import shutil
 import sys
 
 UNPACK = {".gz": gzip.decompress, ".bz2": bz2.decompress, ".xz": lzma.decompress, ".lzma": lzma.decompress}
@@ -32,13 +33,25 @@ class Unpacking:
         self.left_out = collections.Counter()
 
     def file(self, name):
-        """Unpacks a file that the script names, and gives the name that it has then."""
+        """Unpacks a file that the script names, and gives the name that it has then; it stands under the same path."""
+        if name == "<inline>":
+            return name
         path = pathlib.PurePosixPath(name)
-        data = (self.source / name).read_bytes()
+        if path.is_absolute() or ".." in path.parts:
+            raise ValueError(f"{name} stands outside of the folder")
+        data = (self.source / path).read_bytes()
         if path.suffix in UNPACK:
             data, path = UNPACK[path.suffix](data), path.with_suffix("")
-        (self.target / path.name).write_bytes(data)
-        return path.name
+        elif path.suffix == ".zst":
+            self.left_out["the packages of a repository that is compressed as .zst"] += 1
+            return None
+        self.write(path, data)
+        return str(path)
+
+    def write(self, path, data):
+        place = self.target / path
+        place.parent.mkdir(parents=True, exist_ok=True)
+        place.write_bytes(data)
 
     def repo(self, words):
         name, priority, kind = words[1:4]
@@ -46,7 +59,8 @@ class Unpacking:
         if dot:
             self.left_out[f"the second part of a priority, {second}"] += 1
         if kind == "testtags" and len(words) == 5:
-            return f"repo {name} {first} testtags {self.file(words[4])}"
+            file = self.file(words[4])
+            return f"repo {name} {first} testtags {file}" if file else f"repo {name} {first} empty"
         if kind != "empty":
             self.left_out[f"the packages of a repository of the type {kind}"] += 1
         return f"repo {name} {first} empty"
@@ -74,12 +88,14 @@ class Unpacking:
 
     def result(self, words):
         kinds, name = words[1].split(","), words[2]
-        lines = (self.source / name).read_text().splitlines() if name != "<inline>" else []
-        if name == "<inline>" or "transaction" not in kinds or any(line.startswith("problem ") for line in lines):
+        path = pathlib.PurePosixPath(name)
+        inside = name != "<inline>" and not path.is_absolute() and ".." not in path.parts
+        lines = (self.source / path).read_text().splitlines() if inside else []
+        if not inside or "transaction" not in kinds or any(line.startswith("problem ") for line in lines):
             self.left_out["the expected lines"] += 1
             return None
         wanted = [self.change(line) for line in lines if line.strip()]
-        (self.target / name).write_text("".join(line + "\n" for line in wanted))
+        self.write(path, "".join(line + "\n" for line in wanted).encode())
         for kind in kinds:
             if kind != "transaction":
                 self.left_out[f"expected lines of the kind {kind}"] += 1
@@ -128,8 +144,12 @@ def main():
         sys.exit(f"{source}: there is no testcase.t")
     try:
         target.mkdir(parents=True)
+    except OSError as error:
+        sys.exit(f"{target}: {error}")
+    try:
         Unpacking(source, target).run()
     except (OSError, EOFError, ValueError, lzma.LZMAError) as error:
+        shutil.rmtree(target)
         sys.exit(f"{source}: {error}")
 
 
