@@ -21,3 +21,6 @@ pub use faults::{ProofCause, ProofFault};
 pub use kinds::{Due, Proof};
 pub use reading::read_proof;
 pub use writing::write_proof;
+
+#[cfg(test)]
+mod tests;
