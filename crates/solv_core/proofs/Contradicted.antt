@@ -1,5 +1,5 @@
 -- The derivation by a clause that is falsified without a choice.
-use Rattle.std.proofs.Common.{◌≡◌, ℕ, inl, inr, eq-eqb, ◌<◌, ◌==◌, Bool, true, false, ◌||◌, List, [], ◌∷◌, ◌++◌, length, Option, Some, None, refl, sym, ap, ◌∙◌, subst}
+use Rattle.std.proofs.Common.{◌≡◌, ℕ, inl, inr, arith, eq-eqb, ◌<◌, ◌==◌, Bool, true, false, ◌||◌, List, [], ◌∷◌, ◌++◌, length, Option, Some, None, refl, sym, ap, ◌∙◌, subst}
 use Rattle.std.specs.Prelude.{ℤ, nat_lt, ◌&&◌, slice_get, unwrap_or}
 use Rattle.std.specs.List.{list_all, list_any}
 use Rattle.std.proofs.lemmas.Bool.{or_left, or_right, or_cases, false≢true}
@@ -13,10 +13,9 @@ use Rattle.solv_trail.specs.Inner.Held.{Held}
 use Rattle.solv_trail.specs.Inner.Propagated.{Reason, choice, by_rule, IsReasoned, Propagated, clash, rest}
 use Rattle.solv_trail.specs.Propagated.{in_use}
 use Rattle.solv_learn.specs.Inner.Learning.{IsRefuted}
-use Rattle.solv_core.specs.Inner.Refutation.{log_steps}
 use Rattle.solv_core.specs.Inner.Contradictions.{is_of, IsLogWith, IsRefutedRule, AreRefuted}
 use Rattle.solv_core.specs.declared.refuting.RefutedRule.{RefutedRule}
-use Rattle.solv_core.proofs.Refuted.{log_good, log_leaves}
+use Rattle.solv_core.proofs.Refuted.{AreInUse, log_good, log_leaves}
 
 -- more rules may be in use
 pub reasoned_wider : (rules : List (List ℤ)) (used wider : ℕ → Bool) (held : Held) → ((r : ℕ) → used r ≡ true → wider r ≡ true) → IsReasoned rules used held → IsReasoned rules wider held
@@ -26,15 +25,22 @@ reasoned_wider rules used wider held more h = record { sizes = h.sizes; each = �
     go j (choice k few at) = choice k few at
     go j (by_rule c u f) = by_rule c (record { found = u.found; on = more _ u.on }) f
 
-pub log_by_clause : (book : List (List ℤ)) (owners : List ℕ) (packages : ℕ) (enabled : List Bool) (other : ℕ → Bool) (hints : List Hint) (log : Log) → log.steps ≡ log_steps 0 [] hints
+-- where nothing is learnt, nothing is in use but the book
+nothing_in_use : (book : List (List ℤ)) (used : ℕ → Bool) (packages : ℕ) → AreInUse book used packages [] (λ n. n) [] []
+nothing_in_use book used packages = record {
+  derived = record { are = refl; good = refl; over = refl };
+  held = record { few = omega arith; rising = λ i k less within. absurd (omega (arith, within)); earlier = λ i n s at h. absurd (cc); held = λ i s at. absurd (cc) };
+  rests = refl;
+}
+
+pub log_by_clause : (book : List (List ℤ)) (owners : List ℕ) (packages : ℕ) (enabled : List Bool) (other : ℕ → Bool) (hints : List Hint) (log : Log) → log.steps ≡ (record { clause = []; hints = hints }) ∷ []
     → IsRefuted (book ++ []) (λ r. in_use owners enabled r || other r) (length book) 0 hints → IsLogWith book owners packages enabled other log
 log_by_clause book owners packages enabled other hints log e r =
     let used : ℕ → Bool = λ r. in_use owners enabled r || other r in
-    let asks : (ℤ → Bool) → Option ℕ = λ known. None in
     record {
-      good = ap (is_good_log book) e ∙ log_good book used asks 0 packages 0 hints [] tt r;
+      good = ap (is_good_log book) e ∙ log_good book used packages [] (λ n. n) [] [] (nothing_in_use book used packages) hints r;
       over = ap (steps_over packages) e;
-      rests = ap (λ s. list_all (λ clause. nat_lt clause (length book) && used clause) (leaves s)) e ∙ log_leaves book used asks 0 packages 0 hints [] tt r;
+      rests = ap (λ s. list_all (λ clause. nat_lt clause (length book) && used clause) (leaves s)) e ∙ log_leaves book used packages [] (λ n. n) [] [] (nothing_in_use book used packages) hints r;
     }
 
 module _ (book : List (List ℤ)) (owners : List ℕ) (packages : ℕ) (enabled : List Bool) where

@@ -1,10 +1,11 @@
 -- Words of contracts between layers, and what holds inside.
 pub mod Contradictions
+pub mod Cores
 pub mod Happened
+pub mod Holding
 pub mod Learnings
 pub mod Ledgers
 pub mod Numbered
 pub mod NumberedLaw
-pub mod Refutation
 pub mod Running
 pub mod Settling

@@ -1,21 +1,25 @@
 //! A core, and its runs.
-ghost use Rattle.std.specs.Prelude.{◌≡◌, ◌⊎◌, ◌^◌, ◌≤◌, ◌+◌, ◌*◌, ◌==◌, ◌++◌, ◌∷◌, [], ℤ, true, List, length, take, drop, nat_lt, IfOk, OnOk, OnErr};
+ghost use Rattle.std.specs.Prelude.{◌≡◌, ◌⊎◌, ◌^◌, ◌≤◌, ◌+◌, ◌*◌, ◌==◌, ◌++◌, ◌∷◌, [], true, List, length, nat_lt, IfOk, OnOk, OnErr};
 ghost use Rattle.std.specs.List.{list_all};
 ghost use Rattle.solv_derive.specs.Range.{are_over};
 ghost use Rattle.solv_trail.specs.Propagated.{in_use};
 ghost use Rattle.solv_watch.specs.Inner.Watching.{AreChained, AreHeads, AreNarrow};
-ghost use Rattle.solv_core.specs.Inner.Ledgers.{GrowsLedger};
+ghost use Rattle.solv_core.specs.Inner.Cores.{none_in_use, numbers_in_use};
+ghost use Rattle.solv_core.specs.Inner.Holding.{IsBegun, IsHeldBy, entry_of};
+ghost use Rattle.solv_core.specs.Inner.Ledgers.{GrowsLedger, in_use_after, run_of};
 ghost use Rattle.solv_core.specs.Ledgers.{IsGoodLedger};
 ghost use Rattle.solv_core.specs.Inner.Contradictions.{IsWhatRefutes};
 ghost use Rattle.solv_core.specs.Inner.Settling.{HasLearnt};
 ghost use Rattle.solv_core.specs.Inner.Running.{is_spent_verdict, is_log_over, IsRefutation, IsFound};
 ghost use Rattle.solv_core.specs.declared.ledger.Entry.{Entry};
+ghost use Rattle.solv_core.specs.declared.ledger.Ledger.{Ledger as LedgerOf};
 
 use crate::events::events_of;
 use crate::flags::Flags;
 use crate::forgetful::Forgetful;
+use crate::keeping::{flags_of, kept_of};
 use crate::ledger::{Ledger, Run};
-use crate::parts::{Parts, Place, Used};
+use crate::parts::{Numbers, Parts, Used};
 use crate::refutation::log_of;
 use crate::refuting::{Contradiction, refuted_over};
 use crate::settling::{Outcome, settle};
@@ -28,7 +32,8 @@ use solv_watch::Watches;
 use std::alloc::{AllocError, Global};
 use std::marker::Model;
 
-/// The clause-learning core over clauses with their owners. Contracts see these and the number of packages.
+/// The clause-learning core over clauses with their owners. Contracts see these and the number of packages, and what it has learnt and
+/// still uses.
 pub struct Core {
     packages: u32,
     owners: Vec<usize>,
@@ -49,11 +54,14 @@ impl Model for Core {
     ghost use Rattle.std.specs.Prelude.{◌≡◌, ◌≤◌, ◌+◌, ◌*◌, ◌^◌, true, length};
     ghost use Rattle.solv_watch.specs.Inner.Watching.{AreChained, AreHeads, AreNarrow};
     ghost use Rattle.solv_derive.specs.Range.{are_over};
-    ghost use Rattle.solv_core.specs.Cores.{CoreOf};
+    ghost use Rattle.solv_core.specs.Inner.Cores.{LearningCore};
 
-    ghost Value = { CoreOf };
+    ghost Value = { LearningCore };
 
-    ghost view = { λ c. record { clauses = c.parts.book.rules; owners = c.owners.items; packages = c.packages } };
+    ghost view = { λ c. record {
+      made = record { clauses = c.parts.book.rules; owners = c.owners.items; packages = c.packages };
+      in_use = record { kept = c.parts.numbers.kept.items; first = c.parts.numbers.first; clauses = c.parts.learnt.rules };
+    } };
 
     ghost invariant = { λ c. record {
       each : length c.owners.items ≡ length c.parts.book.rules;
@@ -81,18 +89,45 @@ fn copy_of(alloc: Global, memory: &RuleMem) -> Result<RuleMem, AllocError>
     Ok(copy)
 }
 
-/// Notes a run in the ledger.
-fn begin(alloc: Global, ledger: &mut Ledger, enabled: &[bool]) -> Result<(), AllocError>
+/// Notes a run in the ledger, and closes up the learnt rules that stay in use: those whose leaves are clauses of enabled rules. Room
+/// for the run's record is found first.
+fn begin(
+    alloc: Global,
+    parts: &mut Parts,
+    used: &Used<'_>,
+    ledger: &mut Ledger,
+) -> Result<(), AllocError>
+    requires each { length used.now.owners.now ≡ length parts.old.book.rules }
+    requires owners { list_all (λ o. nat_lt o (length used.now.enabled.now)) used.now.owners.now ≡ true }
+    requires few { length ledger.old.entries ≤ 1000001 }
+    requires held { IsHeldBy (record { made = record { clauses = parts.old.book.rules; owners = used.now.owners.now; packages = parts.old.known.count }; in_use = record { kept = parts.old.numbers.kept.items; first = parts.old.numbers.first; clauses = parts.old.learnt.rules } }) ledger.old }
     ensures budget { ledger.new.budget ≡ ledger.old.budget }
     ensures entries { ledger.new.entries ≡ ledger.old.entries }
-    ensures added { OnOk result (ledger.new.runs ≡ ledger.old.runs ++ (record { enabled = enabled.now; kept = [] }) ∷ []) }
+    ensures begun { OnOk result (IsBegun parts.old.book.rules used.now.owners.now parts.old.known.count used.now.enabled.now ledger.old.entries (run_of (record { made = record { clauses = parts.old.book.rules; owners = used.now.owners.now; packages = parts.old.known.count }; in_use = record { kept = parts.old.numbers.kept.items; first = parts.old.numbers.first; clauses = parts.old.learnt.rules } }) used.now.enabled.now ledger.old.entries).kept parts.new.numbers.kept.items parts.new.numbers.first parts.new.learnt.rules) }
+    ensures added { OnOk result (ledger.new.runs ≡ ledger.old.runs ++ run_of (record { made = record { clauses = parts.old.book.rules; owners = used.now.owners.now; packages = parts.old.known.count }; in_use = record { kept = parts.old.numbers.kept.items; first = parts.old.numbers.first; clauses = parts.old.learnt.rules } }) used.now.enabled.now ledger.old.entries ∷ []) }
     ensures refused { OnErr result (ledger.new ≡ ledger.old) }
+    ensures refused_numbers { OnErr result (parts.new.numbers ≡ parts.old.numbers) }
+    ensures refused_learnt { OnErr result (parts.new.learnt ≡ parts.old.learnt) }
+    ensures known { parts.new.known ≡ parts.old.known }
+    ensures search { parts.new.search ≡ parts.old.search }
+    ensures book { parts.new.book ≡ parts.old.book }
+    ensures watches { parts.new.watches ≡ parts.old.watches }
 {
-    let enabled_rules = Flags::from_slice(alloc, enabled)?;
+    let count = parts.learnt.len();
+    let flags = flags_of(alloc, &parts.numbers, used, ledger.entries.held(), count)?;
+    let kept = kept_of(alloc, &parts.numbers, &flags)?;
+    let enabled = Flags::from_slice(alloc, used.enabled)?;
+    let noted = Vec::from_slice(alloc, &kept)?;
     ledger.runs.push(Run {
-        enabled: enabled_rules,
-        kept: Items::wrap(Vec::new(alloc)),
-    })
+        enabled,
+        kept: Items::wrap(noted),
+    })?;
+    parts.learnt.keep_only(&flags);
+    parts.numbers = Numbers {
+        kept,
+        first: ledger.entries.len(),
+    };
+    Ok(())
 }
 
 /// A run that is noted, over the parts of a core.
@@ -100,10 +135,12 @@ fn run_over<G: Guide + Recaller>(
     alloc: Global,
     parts: &mut Parts,
     used: &Used<'_>,
+    packages: u32,
     guide: &G,
     ledger: &mut Ledger,
     run: usize,
 ) -> Result<Verdict, AllocError>
+    requires count { packages ≡ parts.old.known.count }
     requires over { are_over parts.old.known.count parts.old.book.rules ≡ true }
     requires each { length used.now.owners.now ≡ length parts.old.book.rules }
     requires owners { list_all (λ o. nat_lt o (length used.now.enabled.now)) used.now.owners.now ≡ true }
@@ -114,6 +151,7 @@ fn run_over<G: Guide + Recaller>(
     requires chained { AreChained parts.old.known.count parts.old.book.rules parts.old.watches.book.heads.items parts.old.book.links parts.old.watches.book.watched.items }
     requires narrow { AreNarrow parts.old.book.rules parts.old.watches.narrow.items }
     requires heads { AreHeads parts.old.known.count parts.old.watches.learnt.heads.items parts.old.watches.learnt.watched.items }
+    requires begun { IsBegun parts.old.book.rules used.now.owners.now parts.old.known.count used.now.enabled.now ledger.old.entries parts.old.numbers.kept.items parts.old.numbers.kept.items parts.old.numbers.first parts.old.learnt.rules }
     requires budget { ledger.old.budget ≤ 1000000 }
     requires unspent { length ledger.old.entries ≤ ledger.old.budget }
     ensures count { parts.new.known.count ≡ parts.old.known.count }
@@ -121,7 +159,8 @@ fn run_over<G: Guide + Recaller>(
     ensures budget { ledger.new.budget ≡ ledger.old.budget }
     ensures runs { ledger.new.runs ≡ ledger.old.runs }
     ensures few { length ledger.new.entries ≤ ledger.new.budget + 1 }
-    ensures learnt { (new : List Entry) × ((learnt : List (List ℤ)) × HasLearnt parts.old.book.rules (in_use used.now.owners.now used.now.enabled.now) (λ facts. G.asks guide.now facts used.now.enabled.now) (length ledger.old.entries) parts.old.known.count run ledger.old.entries ledger.new.entries learnt new) }
+    ensures learnt { (new : List Entry) × HasLearnt parts.old.book.rules parts.old.learnt.rules (in_use used.now.owners.now used.now.enabled.now) (λ facts. G.asks guide.now facts used.now.enabled.now) (entry_of parts.old.numbers.kept.items parts.old.numbers.first) parts.old.known.count run ledger.old.entries ledger.new.entries parts.new.learnt.rules new }
+    ensures numbers { parts.new.numbers ≡ parts.old.numbers }
     ensures spent { IfOk result (λ v. is_spent_verdict v ≡ (length ledger.new.entries == ledger.new.budget + 1)) }
     ensures refutation { IfOk result (IsRefutation parts.old.book.rules used.now.owners.now used.now.enabled.now) }
     ensures log_over { IfOk result (λ v. is_log_over parts.old.known.count v ≡ true) }
@@ -131,17 +170,17 @@ fn run_over<G: Guide + Recaller>(
     ensures narrow { AreNarrow parts.old.book.rules parts.new.watches.narrow.items }
     ensures heads { AreHeads parts.old.known.count parts.new.watches.learnt.heads.items parts.new.watches.learnt.watched.items }
 {
-    let first = ledger.entries.len();
     parts.known.clear();
-    parts.learnt = RuleMem::new(alloc);
-    parts.watches.learnt.forget();
-    match settle(alloc, parts, used, guide, ledger, Place { first, run })? {
+    parts.watches.learnt.hang_anew(&mut parts.learnt, packages)?;
+    match settle(alloc, parts, used, guide, ledger, run)? {
         Outcome::Spent => Ok(Verdict::Spent),
         Outcome::Refuted => {
+            let count = parts.learnt.len();
             let log = log_of(
                 alloc,
-                &ledger.entries.held()[first..],
-                first,
+                &parts.numbers,
+                ledger.entries.held(),
+                count,
                 &parts.search.hints,
             )?;
             Ok(Verdict::Unsat(log))
@@ -168,7 +207,8 @@ impl Core {
         requires few { length memory.now.rules ≤ 2 ^ 27 }
         requires over { are_over packages memory.now.rules ≡ true }
         requires packages { packages ≤ 1048575 }
-        ensures { IfOk result (λ core. core ≡ record { clauses = memory.now.rules; owners = owners.now; packages = packages }) }
+        ensures core { IfOk result (λ core. core ≡ record { made = record { clauses = memory.now.rules; owners = owners.now; packages = packages }; in_use = none_in_use }) }
+        ensures held { IfOk result (λ core. (ledger : LedgerOf) → IsHeldBy core ledger) }
     {
         let mut book = copy_of(alloc, memory)?;
         let watches = Watches::over(alloc, &mut book, packages)?;
@@ -180,6 +220,10 @@ impl Core {
                 search: Search::for_packages(alloc, packages)?,
                 book,
                 learnt: RuleMem::new(alloc),
+                numbers: Numbers {
+                    kept: Vec::new(alloc),
+                    first: 0,
+                },
                 watches,
             },
         })
@@ -188,28 +232,35 @@ impl Core {
     /// Looks for a set that meets the clauses of enabled owners: choices as the guide asks, what follows from them, and
     /// what is learnt where they clash. The ledger gets this run, and what it learnt.
     ///
-    /// Where memory runs out, the core may be run again. The ledger is as before, or has this run, and what it learnt until
-    /// then.
+    /// The ledger is the one of the runs before, as they left it, or both are new. Of what was learnt in them the core keeps what rests
+    /// on enabled rules alone.
+    ///
+    /// Where memory runs out, the core may be run again. Core and ledger are as before, or the ledger has this run, and what it learnt
+    /// until then.
     pub fn run<G: Guide>(
         &mut self,
         enabled: &[bool],
         guide: &G,
         ledger: &mut Ledger,
     ) -> Result<Verdict, AllocError>
-        requires enabled { list_all (λ o. nat_lt o (length enabled.now)) self.old.owners ≡ true }
-        requires guide { G.is_for guide.now self.old.clauses self.old.owners }
-        requires packages { G.is_for_packages guide.now self.old.packages }
+        requires enabled { list_all (λ o. nat_lt o (length enabled.now)) self.old.made.owners ≡ true }
+        requires guide { G.is_for guide.now self.old.made.clauses self.old.made.owners }
+        requires packages { G.is_for_packages guide.now self.old.made.packages }
         requires budget { ledger.old.budget ≤ 1000000 }
         requires few { length ledger.old.entries ≤ ledger.old.budget + 1 }
-        ensures core { self.new ≡ self.old }
+        requires held { IsHeldBy self.old ledger.old }
+        ensures core { self.new.made ≡ self.old.made }
+        ensures held { IsHeldBy self.new ledger.new }
         ensures ledger { GrowsLedger ledger.old ledger.new }
-        ensures run { OnOk result (ledger.new.runs ≡ ledger.old.runs ++ (record { enabled = enabled.now; kept = [] }) ∷ []) }
-        ensures runs { OnErr result ((ledger.new ≡ ledger.old) ⊎ (ledger.new.runs ≡ ledger.old.runs ++ (record { enabled = enabled.now; kept = [] }) ∷ [])) }
-        ensures good { IsGoodLedger self.old.clauses self.old.owners self.old.packages (G.asks guide.now) ledger.old → IsGoodLedger self.old.clauses self.old.owners self.old.packages (G.asks guide.now) ledger.new }
+        ensures run { OnOk result (ledger.new.runs ≡ ledger.old.runs ++ run_of self.old enabled.now ledger.old.entries ∷ []) }
+        ensures runs { OnErr result ((ledger.new ≡ ledger.old) ⊎ (ledger.new.runs ≡ ledger.old.runs ++ run_of self.old enabled.now ledger.old.entries ∷ [])) }
+        ensures in_use { OnOk result (numbers_in_use self.new.in_use ≡ in_use_after (run_of self.old enabled.now ledger.old.entries) ledger.old.entries ledger.new.entries) }
+        ensures refused { OnErr result ((self.new ≡ self.old) ⊎ (numbers_in_use self.new.in_use ≡ in_use_after (run_of self.old enabled.now ledger.old.entries) ledger.old.entries ledger.new.entries)) }
+        ensures good { IsGoodLedger self.old.made.clauses self.old.made.owners self.old.made.packages (G.asks guide.now) ledger.old → IsGoodLedger self.old.made.clauses self.old.made.owners self.old.made.packages (G.asks guide.now) ledger.new }
         ensures spent { IfOk result (λ v. is_spent_verdict v ≡ (length ledger.new.entries == ledger.new.budget + 1)) }
-        ensures refutation { IfOk result (IsRefutation self.old.clauses self.old.owners enabled.now) }
-        ensures log_over { IfOk result (λ v. is_log_over self.old.packages v ≡ true) }
-        ensures found { IfOk result (IsFound self.old.packages self.old.clauses self.old.owners enabled.now (λ facts. G.asks guide.now facts enabled.now)) }
+        ensures refutation { IfOk result (IsRefutation self.old.made.clauses self.old.made.owners enabled.now) }
+        ensures log_over { IfOk result (λ v. is_log_over self.old.made.packages v ≡ true) }
+        ensures found { IfOk result (IsFound self.old.made.packages self.old.made.clauses self.old.made.owners enabled.now (λ facts. G.asks guide.now facts enabled.now)) }
     {
         self.run_recalling(enabled, &Forgetful { guide }, ledger)
     }
@@ -221,32 +272,44 @@ impl Core {
         guide: &G,
         ledger: &mut Ledger,
     ) -> Result<Verdict, AllocError>
-        requires enabled { list_all (λ o. nat_lt o (length enabled.now)) self.old.owners ≡ true }
-        requires guide { G.is_for guide.now self.old.clauses self.old.owners }
-        requires packages { G.is_for_packages guide.now self.old.packages }
+        requires enabled { list_all (λ o. nat_lt o (length enabled.now)) self.old.made.owners ≡ true }
+        requires guide { G.is_for guide.now self.old.made.clauses self.old.made.owners }
+        requires packages { G.is_for_packages guide.now self.old.made.packages }
         requires budget { ledger.old.budget ≤ 1000000 }
         requires few { length ledger.old.entries ≤ ledger.old.budget + 1 }
-        ensures core { self.new ≡ self.old }
+        requires held { IsHeldBy self.old ledger.old }
+        ensures core { self.new.made ≡ self.old.made }
+        ensures held { IsHeldBy self.new ledger.new }
         ensures ledger { GrowsLedger ledger.old ledger.new }
-        ensures run { OnOk result (ledger.new.runs ≡ ledger.old.runs ++ (record { enabled = enabled.now; kept = [] }) ∷ []) }
-        ensures runs { OnErr result ((ledger.new ≡ ledger.old) ⊎ (ledger.new.runs ≡ ledger.old.runs ++ (record { enabled = enabled.now; kept = [] }) ∷ [])) }
-        ensures good { IsGoodLedger self.old.clauses self.old.owners self.old.packages (G.asks guide.now) ledger.old → IsGoodLedger self.old.clauses self.old.owners self.old.packages (G.asks guide.now) ledger.new }
+        ensures run { OnOk result (ledger.new.runs ≡ ledger.old.runs ++ run_of self.old enabled.now ledger.old.entries ∷ []) }
+        ensures runs { OnErr result ((ledger.new ≡ ledger.old) ⊎ (ledger.new.runs ≡ ledger.old.runs ++ run_of self.old enabled.now ledger.old.entries ∷ [])) }
+        ensures in_use { OnOk result (numbers_in_use self.new.in_use ≡ in_use_after (run_of self.old enabled.now ledger.old.entries) ledger.old.entries ledger.new.entries) }
+        ensures refused { OnErr result ((self.new ≡ self.old) ⊎ (numbers_in_use self.new.in_use ≡ in_use_after (run_of self.old enabled.now ledger.old.entries) ledger.old.entries ledger.new.entries)) }
+        ensures good { IsGoodLedger self.old.made.clauses self.old.made.owners self.old.made.packages (G.asks guide.now) ledger.old → IsGoodLedger self.old.made.clauses self.old.made.owners self.old.made.packages (G.asks guide.now) ledger.new }
         ensures spent { IfOk result (λ v. is_spent_verdict v ≡ (length ledger.new.entries == ledger.new.budget + 1)) }
-        ensures refutation { IfOk result (IsRefutation self.old.clauses self.old.owners enabled.now) }
-        ensures log_over { IfOk result (λ v. is_log_over self.old.packages v ≡ true) }
-        ensures found { IfOk result (IsFound self.old.packages self.old.clauses self.old.owners enabled.now (λ facts. G.asks guide.now facts enabled.now)) }
+        ensures refutation { IfOk result (IsRefutation self.old.made.clauses self.old.made.owners enabled.now) }
+        ensures log_over { IfOk result (λ v. is_log_over self.old.made.packages v ≡ true) }
+        ensures found { IfOk result (IsFound self.old.made.packages self.old.made.clauses self.old.made.owners enabled.now (λ facts. G.asks guide.now facts enabled.now)) }
     {
         let alloc = *self.owners.allocator();
         let run = ledger.runs.len();
-        begin(alloc, ledger, enabled)?;
-        if ledger.spent() {
-            return Ok(Verdict::Spent);
-        }
         let used = Used {
             owners: &self.owners,
             enabled,
         };
-        run_over(alloc, &mut self.parts, &used, guide, ledger, run)
+        begin(alloc, &mut self.parts, &used, ledger)?;
+        if ledger.spent() {
+            return Ok(Verdict::Spent);
+        }
+        run_over(
+            alloc,
+            &mut self.parts,
+            &used,
+            self.packages,
+            guide,
+            ledger,
+            run,
+        )
     }
 
     /// What the clauses of enabled owners refute where nothing is chosen: each other, or some of the owners of these clauses,
@@ -256,9 +319,9 @@ impl Core {
         enabled: &[bool],
         clauses: &[RuleNo],
     ) -> Result<Contradiction, AllocError>
-        requires enabled { list_all (λ o. nat_lt o (length enabled.now)) self.old.owners ≡ true }
+        requires enabled { list_all (λ o. nat_lt o (length enabled.now)) self.old.made.owners ≡ true }
         ensures core { self.new ≡ self.old }
-        ensures refuted { IfOk result (IsWhatRefutes self.old.clauses self.old.owners self.old.packages enabled.now clauses.now) }
+        ensures refuted { IfOk result (IsWhatRefutes self.old.made.clauses self.old.made.owners self.old.made.packages enabled.now clauses.now) }
     {
         let alloc = *self.owners.allocator();
         let used = Used {

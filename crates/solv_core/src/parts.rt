@@ -1,17 +1,42 @@
 //! What a running search works on.
+ghost use Rattle.std.specs.Prelude.{◌≡◌, ◌<◌, ◌+◌, ◌^◌};
+ghost use Rattle.solv_core.specs.Inner.Holding.{entry_of};
+
 use solv_learn::Search;
 use solv_pack::RuleMem;
 use solv_trail::Known;
 use solv_watch::Watches;
 
-/// The parts of a core that a run changes: what is known, the analysis of conflicts, the book, the clauses that were learnt, and the
-/// watches of both.
+/// The numbers of the entries of learnt rules: first those that the last run kept, then those that it learnt, from a first one on.
+#[derive(Drop)]
+pub struct Numbers {
+    pub kept: Vec<u32>,
+    pub first: usize,
+}
+
+impl Numbers {
+    /// The number of the entry of a learnt rule.
+    pub fn entry_of(&self, rule: usize) -> usize
+        requires { self.now.first + rule < 2 ^ 64 }
+        ensures { result ≡ entry_of self.now.kept.items self.now.first rule }
+    {
+        if rule < self.kept.len() {
+            self.kept[rule] as usize
+        } else {
+            self.first + (rule - self.kept.len())
+        }
+    }
+}
+
+/// The parts of a core that a run changes: what is known, the analysis of conflicts, the book, the learnt clauses in use with the
+/// numbers of their entries, and the watches of both. What is known, and where learnt clauses hang, begins anew with each run.
 #[derive(Drop)]
 pub struct Parts {
     pub known: Known,
     pub search: Search,
     pub book: RuleMem,
     pub learnt: RuleMem,
+    pub numbers: Numbers,
     pub watches: Watches,
 }
 
@@ -20,11 +45,4 @@ pub struct Parts {
 pub struct Used<'a> {
     pub owners: &'a [usize],
     pub enabled: &'a [bool],
-}
-
-/// Where a run writes into a ledger: the number of its first entry, and its own.
-#[derive(Clone, Copy)]
-pub struct Place {
-    pub first: usize,
-    pub run: usize,
 }

@@ -10,7 +10,7 @@ ghost use Rattle.solv_watch.specs.Inner.Watching.{AreChained, AreHeads, AreNarro
 ghost use Rattle.solv_core.specs.Inner.Contradictions.{AreRefuted, IsLogWith, IsRefutedRule, IsWhatRefutes};
 
 use crate::parts::{Parts, Used};
-use crate::refutation::log_of;
+use crate::refutation::last_step;
 use solv_derive::Log;
 use solv_learn::Search;
 use solv_list::Items;
@@ -70,8 +70,11 @@ fn log_by(
     let _ = used;
     let none = RuleMem::new(alloc);
     search.refute(known, book, &none, 0, clause)?;
-    let log = log_of(alloc, &[], 0, &search.hints)?;
-    Ok(log)
+    let mut steps = Vec::new(alloc);
+    steps.push(last_step(alloc, &search.hints)?)?;
+    Ok(Log {
+        steps: Items::wrap(steps),
+    })
 }
 
 /// The rule of a clause, if the clause is falsified, and the derivation that refutes it.
@@ -197,6 +200,8 @@ pub fn refuted_over(
     ensures chained { AreChained parts.old.known.count parts.old.book.rules parts.new.watches.book.heads.items parts.new.book.links parts.new.watches.book.watched.items }
     ensures narrow { AreNarrow parts.old.book.rules parts.new.watches.narrow.items }
     ensures heads { AreHeads parts.old.known.count parts.new.watches.learnt.heads.items parts.new.watches.learnt.watched.items }
+    ensures learnt { parts.new.learnt.rules ≡ parts.old.learnt.rules }
+    ensures numbers { parts.new.numbers ≡ parts.old.numbers }
     ensures refuted { IfOk result (IsWhatRefutes parts.old.book.rules used.now.owners.now parts.old.known.count used.now.enabled.now clauses.now) }
 {
     match force(

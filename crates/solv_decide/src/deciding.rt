@@ -6,8 +6,11 @@ ghost use Rattle.solv_pool.specs.TaskBelonging.{IsClosed};
 ghost use Rattle.solv_prov.specs.Index.{IsIndexOf};
 ghost use Rattle.solv_jobs.specs.Marking.{HasMarks};
 ghost use Rattle.solv_rules.specs.Books.{IsBook, first_fault, is_bookable, read_rules};
+ghost use Rattle.solv_core.specs.Inner.Cores.{none_in_use};
+ghost use Rattle.solv_core.specs.Inner.Holding.{IsHeldBy};
 ghost use Rattle.solv_core.specs.Ledgers.{IsGoodLedger};
 ghost use Rattle.solv_core.specs.Inner.Running.{is_spent_verdict};
+ghost use Rattle.solv_core.specs.declared.ledger.Ledger.{Ledger as LedgerOf};
 ghost use Rattle.solv_rules.specs.Making.{asks_in_form};
 ghost use Rattle.solv_questions.specs.Questions.{asks, request_of, rules_of};
 ghost use Rattle.solv_decide.specs.Deciding.{IsAskedFor, IsDecided};
@@ -43,7 +46,8 @@ fn core_of(alloc: Global, task: &Task, book: &Book) -> Result<Core, AllocError>
     requires book { IsBook (catalog_of task.now) book.now }
     requires bookable { list_all (is_bookable (catalog_of task.now)) (read_rules book.now.rules) ≡ true }
     requires fits { first_fault (catalog_of task.now) 0 (read_rules book.now.rules) ≡ None }
-    ensures { IfOk result (λ core. core ≡ record { clauses = book.now.clauses; owners = book.now.owners; packages = length task.now.universe.packages }) }
+    ensures held { IfOk result (λ core. (ledger : LedgerOf) → IsHeldBy core ledger) }
+    ensures core { IfOk result (λ core. core ≡ record { made = record { clauses = book.now.clauses; owners = book.now.owners; packages = length task.now.universe.packages }; in_use = none_in_use }) }
 {
     clauses_name_packages();
     task.universe.marks_each();
@@ -70,8 +74,9 @@ pub fn decide(
     requires budget { budget ≤ 1000000 }
     ensures budget { IfOk result (λ d. d.ledger.budget ≡ budget) }
     ensures few { IfOk result (λ d. length d.ledger.entries ≤ d.ledger.budget + 1) }
-    ensures asked { IfOk result (λ d. IsAskedFor (request_of task.now marks.now) d.phases d.core) }
-    ensures core { IfOk result (λ d. d.core ≡ record { clauses = book.now.clauses; owners = book.now.owners; packages = length task.now.universe.packages }) }
+    ensures asked { IfOk result (λ d. IsAskedFor (request_of task.now marks.now) d.phases d.core.made) }
+    ensures held { IfOk result (λ d. IsHeldBy d.core d.ledger) }
+    ensures core { IfOk result (λ d. d.core.made ≡ record { clauses = book.now.clauses; owners = book.now.owners; packages = length task.now.universe.packages }) }
     ensures run { IfOk result (λ d. d.ledger.runs ≡ (record { enabled = replicate (length book.now.rules.list) true; kept = [] }) ∷ []) }
     ensures good { IfOk result (λ d. IsGoodLedger book.now.clauses book.now.owners (length task.now.universe.packages) (asks (request_of task.now marks.now)) d.ledger) }
     ensures spent { IfOk result (λ d. is_spent_verdict d.verdict ≡ (length d.ledger.entries == budget + 1)) }

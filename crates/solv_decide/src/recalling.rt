@@ -1,7 +1,8 @@
 //! The questions of a task as a guide that remembers what is settled.
 ghost use Rattle.std.specs.Prelude.{◌≡◌, ◌⊎◌, ◌≤◌, ◌+◌, ◌==◌, ◌++◌, ◌∷◌, [], true, length, take, drop, nat_lt, IfOk, IfSome, OnOk, OnErr};
 ghost use Rattle.std.specs.List.{list_all};
-ghost use Rattle.solv_core.specs.Inner.Ledgers.{GrowsLedger};
+ghost use Rattle.solv_core.specs.Inner.Holding.{IsHeldBy};
+ghost use Rattle.solv_core.specs.Inner.Ledgers.{GrowsLedger, run_of};
 ghost use Rattle.solv_pool.specs.Propagation.{is_fact};
 ghost use Rattle.solv_core.specs.Ledgers.{IsGoodLedger};
 ghost use Rattle.solv_core.specs.Inner.Running.{IsFound, IsRefutation, is_log_over, is_spent_verdict};
@@ -108,20 +109,22 @@ pub(crate) fn run_recalling<K: Planned>(
 ) -> Result<Verdict, AllocError>
     requires plan { phases.now.plan ≡ K.plan }
     requires right { is_right_for phases.now.plan memory ≡ true }
-    requires enabled { list_all (λ o. nat_lt o (length enabled.now)) core.old.owners ≡ true }
-    requires lawful { IsLawful phases.now core.old.clauses core.old.owners }
-    requires packages { phases.now.packages ≡ core.old.packages }
+    requires enabled { list_all (λ o. nat_lt o (length enabled.now)) core.old.made.owners ≡ true }
+    requires lawful { IsLawful phases.now core.old.made.clauses core.old.made.owners }
+    requires packages { phases.now.packages ≡ core.old.made.packages }
     requires budget { ledger.old.budget ≤ 1000000 }
     requires few { length ledger.old.entries ≤ ledger.old.budget + 1 }
-    ensures core { core.new ≡ core.old }
+    requires held { IsHeldBy core.old ledger.old }
+    ensures core { core.new.made ≡ core.old.made }
+    ensures held { IsHeldBy core.new ledger.new }
     ensures ledger { GrowsLedger ledger.old ledger.new }
-    ensures run { OnOk result (ledger.new.runs ≡ ledger.old.runs ++ (record { enabled = enabled.now; kept = [] }) ∷ []) }
-    ensures runs { OnErr result ((ledger.new ≡ ledger.old) ⊎ (ledger.new.runs ≡ ledger.old.runs ++ (record { enabled = enabled.now; kept = [] }) ∷ [])) }
-    ensures good { IsGoodLedger core.old.clauses core.old.owners core.old.packages (plan_asks phases.now.plan) ledger.old → IsGoodLedger core.old.clauses core.old.owners core.old.packages (plan_asks phases.now.plan) ledger.new }
+    ensures run { OnOk result (ledger.new.runs ≡ ledger.old.runs ++ run_of core.old enabled.now ledger.old.entries ∷ []) }
+    ensures runs { OnErr result ((ledger.new ≡ ledger.old) ⊎ (ledger.new.runs ≡ ledger.old.runs ++ run_of core.old enabled.now ledger.old.entries ∷ [])) }
+    ensures good { IsGoodLedger core.old.made.clauses core.old.made.owners core.old.made.packages (plan_asks phases.now.plan) ledger.old → IsGoodLedger core.old.made.clauses core.old.made.owners core.old.made.packages (plan_asks phases.now.plan) ledger.new }
     ensures spent { IfOk result (λ v. is_spent_verdict v ≡ (length ledger.new.entries == ledger.new.budget + 1)) }
-    ensures refutation { IfOk result (IsRefutation core.old.clauses core.old.owners enabled.now) }
-    ensures log_over { IfOk result (λ v. is_log_over core.old.packages v ≡ true) }
-    ensures found { IfOk result (IsFound core.old.packages core.old.clauses core.old.owners enabled.now (λ facts. plan_asks phases.now.plan facts enabled.now)) }
+    ensures refutation { IfOk result (IsRefutation core.old.made.clauses core.old.made.owners enabled.now) }
+    ensures log_over { IfOk result (λ v. is_log_over core.old.made.packages v ≡ true) }
+    ensures found { IfOk result (IsFound core.old.made.packages core.old.made.clauses core.old.made.owners enabled.now (λ facts. plan_asks phases.now.plan facts enabled.now)) }
 {
     let remembered = Remembered::<K> {
         memory,

@@ -1,7 +1,8 @@
 //! Sets that meet the enabled rules of a task, by its questions.
 ghost use Rattle.std.specs.Prelude.{◌≡◌, ◌⊎◌, ◌≤◌, ◌+◌, ◌==◌, ◌++◌, ◌∷◌, [], true, length, take, drop, nat_lt, IfOk, OnOk, OnErr};
 ghost use Rattle.std.specs.List.{list_all};
-ghost use Rattle.solv_core.specs.Inner.Ledgers.{GrowsLedger};
+ghost use Rattle.solv_core.specs.Inner.Holding.{IsHeldBy};
+ghost use Rattle.solv_core.specs.Inner.Ledgers.{GrowsLedger, run_of};
 ghost use Rattle.solv_core.specs.Ledgers.{IsGoodLedger};
 ghost use Rattle.solv_core.specs.Inner.Running.{is_log_over, is_spent_verdict};
 ghost use Rattle.solv_questions.specs.Questions.{Request, asks};
@@ -27,18 +28,20 @@ pub fn solve(
     enabled: &[bool],
     ledger: &mut Ledger,
 ) -> Result<Verdict, AllocError>
-    requires enabled { list_all (λ o. nat_lt o (length enabled.now)) core.old.owners ≡ true }
-    requires asked { (r : Request) × IsAskedFor r phases.now core.old }
+    requires enabled { list_all (λ o. nat_lt o (length enabled.now)) core.old.made.owners ≡ true }
+    requires asked { (r : Request) × IsAskedFor r phases.now core.old.made }
     requires budget { ledger.old.budget ≤ 1000000 }
     requires few { length ledger.old.entries ≤ ledger.old.budget + 1 }
-    ensures core { core.new ≡ core.old }
+    requires held { IsHeldBy core.old ledger.old }
+    ensures core { core.new.made ≡ core.old.made }
+    ensures held { IsHeldBy core.new ledger.new }
     ensures ledger { GrowsLedger ledger.old ledger.new }
-    ensures run { OnOk result (ledger.new.runs ≡ ledger.old.runs ++ (record { enabled = enabled.now; kept = [] }) ∷ []) }
-    ensures runs { OnErr result ((ledger.new ≡ ledger.old) ⊎ (ledger.new.runs ≡ ledger.old.runs ++ (record { enabled = enabled.now; kept = [] }) ∷ [])) }
-    ensures good { (r : Request) → IsAskedFor r phases.now core.old → IsGoodLedger core.old.clauses core.old.owners core.old.packages (asks r) ledger.old → IsGoodLedger core.old.clauses core.old.owners core.old.packages (asks r) ledger.new }
+    ensures run { OnOk result (ledger.new.runs ≡ ledger.old.runs ++ run_of core.old enabled.now ledger.old.entries ∷ []) }
+    ensures runs { OnErr result ((ledger.new ≡ ledger.old) ⊎ (ledger.new.runs ≡ ledger.old.runs ++ run_of core.old enabled.now ledger.old.entries ∷ [])) }
+    ensures good { (r : Request) → IsAskedFor r phases.now core.old.made → IsGoodLedger core.old.made.clauses core.old.made.owners core.old.made.packages (asks r) ledger.old → IsGoodLedger core.old.made.clauses core.old.made.owners core.old.made.packages (asks r) ledger.new }
     ensures spent { IfOk result (λ v. is_spent_verdict v ≡ (length ledger.new.entries == ledger.new.budget + 1)) }
-    ensures log_over { IfOk result (λ v. is_log_over core.old.packages v ≡ true) }
-    ensures decided { (r : Request) → IsAskedFor r phases.now core.old → IfOk result (IsDecided r enabled.now core.old) }
+    ensures log_over { IfOk result (λ v. is_log_over core.old.made.packages v ≡ true) }
+    ensures decided { (r : Request) → IsAskedFor r phases.now core.old.made → IfOk result (IsDecided r enabled.now core.old.made) }
 {
     clauses_say_the_rule();
     questions_keep_the_law();

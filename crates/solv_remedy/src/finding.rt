@@ -7,6 +7,7 @@ ghost use Rattle.solv_pool.specs.Words.{is_among};
 ghost use Rattle.solv_derive.specs.Leaves.{leaves};
 ghost use Rattle.solv_derive.specs.Logs.{is_good_log};
 ghost use Rattle.solv_derive.specs.Range.{steps_over};
+ghost use Rattle.solv_core.specs.Inner.Holding.{IsHeldBy};
 ghost use Rattle.solv_core.specs.Cores.{CoreOf};
 ghost use Rattle.solv_questions.specs.Questions.{Request};
 ghost use Rattle.solv_decide.specs.Deciding.{Asker};
@@ -82,17 +83,19 @@ fn ways_out(
     unlisted: &[usize],
     clauses: &[RuleNo],
 ) -> Result<Option<Vec<Solution>>, AllocError>
-    requires set_up { (r : Request) × (IsSetUp r phases.now core.old book.now fixed.now × IsSettled r core.old conflict.now) }
+    requires set_up { (r : Request) × (IsSetUp r phases.now core.old.made book.now fixed.now × IsSettled r core.old.made conflict.now) }
     requires rules { rules.now ≡ conflict.now.rules }
     requires droppable { list_all (is_off_in fixed.now) rules.now ≡ true }
     requires apart { (k : ℕ) → is_among rules.now k ≡ true → is_among unlisted.now k ≡ false }
-    requires clauses { list_all (is_of_some core.old.owners unlisted.now) clauses.now ≡ true }
+    requires clauses { list_all (is_of_some core.old.made.owners unlisted.now) clauses.now ≡ true }
     requires budget { ledger.old.budget ≤ 1000000 }
     requires unspent { length ledger.old.entries ≤ ledger.old.budget }
-    ensures core { core.new ≡ core.old }
-    ensures runs { HasRuns phases.now core.old fixed.now (length rules.now * ((length unlisted.now + 1) + length unlisted.now)) ledger.old ledger.new }
+    requires held { IsHeldBy core.old ledger.old }
+    ensures core { core.new.made ≡ core.old.made }
+    ensures held { IsHeldBy core.new ledger.new }
+    ensures runs { HasRuns phases.now core.old.made fixed.now (length rules.now * ((length unlisted.now + 1) + length unlisted.now)) ledger.old ledger.new }
     ensures spent { IfOk result (λ o. is_none o ≡ is_spent ledger.new) }
-    ensures ways_out { (r : Request) (listed : List ℕ) → IsSetUp r phases.now core.old book.now fixed.now → IsConflictAmong r core.old conflict.now.rules conflict.now.log listed unlisted.now → IfOk result (λ o. IfSome o (λ s. AllZip (IsWayOut r core.old conflict.now.rules listed) rules.now s.items)) }
+    ensures ways_out { (r : Request) (listed : List ℕ) → IsSetUp r phases.now core.old.made book.now fixed.now → IsConflictAmong r core.old.made conflict.now.rules conflict.now.log listed unlisted.now → IfOk result (λ o. IfSome o (λ s. AllZip (IsWayOut r core.old.made conflict.now.rules listed) rules.now s.items)) }
 {
     let mut solutions = Vec::new(alloc);
     for rule in rules {
@@ -136,16 +139,18 @@ fn each_way_out(
     clauses: &[RuleNo],
     trail: &Trail,
 ) -> Result<Option<Vec<Solution>>, AllocError>
-    requires set_up { (r : Request) × (IsSetUp r phases.now core.old book.now fixed.now × IsSettled r core.old conflict.now) }
+    requires set_up { (r : Request) × (IsSetUp r phases.now core.old.made book.now fixed.now × IsSettled r core.old.made conflict.now) }
     requires droppable { list_all (is_off_in fixed.now) conflict.now.rules ≡ true }
     requires apart { (k : ℕ) → is_among conflict.now.rules k ≡ true → is_among unlisted.now k ≡ false }
-    requires clauses { list_all (is_of_some core.old.owners unlisted.now) clauses.now ≡ true }
+    requires clauses { list_all (is_of_some core.old.made.owners unlisted.now) clauses.now ≡ true }
     requires budget { ledger.old.budget ≤ 1000000 }
     requires unspent { length ledger.old.entries ≤ ledger.old.budget }
-    ensures core { core.new ≡ core.old }
-    ensures runs { HasRuns phases.now core.old fixed.now (length conflict.now.rules * ((length unlisted.now + 1) + length unlisted.now)) ledger.old ledger.new }
+    requires held { IsHeldBy core.old ledger.old }
+    ensures core { core.new.made ≡ core.old.made }
+    ensures held { IsHeldBy core.new ledger.new }
+    ensures runs { HasRuns phases.now core.old.made fixed.now (length conflict.now.rules * ((length unlisted.now + 1) + length unlisted.now)) ledger.old ledger.new }
     ensures spent { IfOk result (λ o. is_none o ≡ is_spent ledger.new) }
-    ensures ways_out { (r : Request) (listed : List ℕ) → IsSetUp r phases.now core.old book.now fixed.now → IsConflictAmong r core.old conflict.now.rules conflict.now.log listed unlisted.now → IsFoundOn r (λ k. not (is_among listed k)) trail.now → IfOk result (λ o. IfSome o (λ s. AllZip (IsWayOut r core.old conflict.now.rules listed) conflict.now.rules s.items)) }
+    ensures ways_out { (r : Request) (listed : List ℕ) → IsSetUp r phases.now core.old.made book.now fixed.now → IsConflictAmong r core.old.made conflict.now.rules conflict.now.log listed unlisted.now → IsFoundOn r (λ k. not (is_among listed k)) trail.now → IfOk result (λ o. IfSome o (λ s. AllZip (IsWayOut r core.old.made conflict.now.rules listed) conflict.now.rules s.items)) }
 {
     let own = conflict.rules.held();
     if own.len() == 1 {
@@ -169,16 +174,18 @@ fn problem_with(
     clauses: &[RuleNo],
     trail: &Trail,
 ) -> Result<Option<Problem>, AllocError>
-    requires set_up { (r : Request) × (IsSetUp r phases.now core.old book.now fixed.now × IsSettled r core.old conflict.now) }
+    requires set_up { (r : Request) × (IsSetUp r phases.now core.old.made book.now fixed.now × IsSettled r core.old.made conflict.now) }
     requires droppable { list_all (is_off_in fixed.now) conflict.now.rules ≡ true }
     requires apart { (k : ℕ) → is_among conflict.now.rules k ≡ true → is_among unlisted.now k ≡ false }
-    requires clauses { list_all (is_of_some core.old.owners unlisted.now) clauses.now ≡ true }
+    requires clauses { list_all (is_of_some core.old.made.owners unlisted.now) clauses.now ≡ true }
     requires budget { ledger.old.budget ≤ 1000000 }
     requires unspent { length ledger.old.entries ≤ ledger.old.budget }
-    ensures core { core.new ≡ core.old }
-    ensures runs { HasRuns phases.now core.old fixed.now (length conflict.now.rules * ((length unlisted.now + 1) + length unlisted.now)) ledger.old ledger.new }
+    requires held { IsHeldBy core.old ledger.old }
+    ensures core { core.new.made ≡ core.old.made }
+    ensures held { IsHeldBy core.new ledger.new }
+    ensures runs { HasRuns phases.now core.old.made fixed.now (length conflict.now.rules * ((length unlisted.now + 1) + length unlisted.now)) ledger.old ledger.new }
     ensures spent { IfOk result (λ o. is_none o ≡ is_spent ledger.new) }
-    ensures problem { (r : Request) (listed : List ℕ) → IsSetUp r phases.now core.old book.now fixed.now → IsConflictAmong r core.old conflict.now.rules conflict.now.log listed unlisted.now → IsFoundOn r (λ k. not (is_among listed k)) trail.now → IfOk result (λ o. IfSome o (IsProblemOf r core.old listed conflict.now)) }
+    ensures problem { (r : Request) (listed : List ℕ) → IsSetUp r phases.now core.old.made book.now fixed.now → IsConflictAmong r core.old.made conflict.now.rules conflict.now.log listed unlisted.now → IsFoundOn r (λ k. not (is_among listed k)) trail.now → IfOk result (λ o. IfSome o (IsProblemOf r core.old.made listed conflict.now)) }
 {
     match each_way_out(
         alloc, phases, core, ledger, book, fixed, conflict, unlisted, clauses, trail,
@@ -205,16 +212,18 @@ fn problems_with(
     clauses: &[RuleNo],
     trail: &Trail,
 ) -> Result<Option<Vec<Problem>>, AllocError>
-    requires set_up { (r : Request) × (IsSetUp r phases.now core.old book.now fixed.now × AreSettled r core.old conflicts.now) }
+    requires set_up { (r : Request) × (IsSetUp r phases.now core.old.made book.now fixed.now × AreSettled r core.old.made conflicts.now) }
     requires droppable { list_all (is_off_in fixed.now) (listed_of conflicts.now) ≡ true }
     requires unlisted { (k : ℕ) → is_among unlisted.now k ≡ (is_off_in fixed.now k && not (is_among (listed_of conflicts.now) k)) }
-    requires clauses { list_all (is_of_some core.old.owners unlisted.now) clauses.now ≡ true }
+    requires clauses { list_all (is_of_some core.old.made.owners unlisted.now) clauses.now ≡ true }
     requires budget { ledger.old.budget ≤ 1000000 }
     requires unspent { length ledger.old.entries ≤ ledger.old.budget }
-    ensures core { core.new ≡ core.old }
-    ensures runs { HasRuns phases.now core.old fixed.now (length (listed_of conflicts.now) * ((length unlisted.now + 1) + length unlisted.now)) ledger.old ledger.new }
+    requires held { IsHeldBy core.old ledger.old }
+    ensures core { core.new.made ≡ core.old.made }
+    ensures held { IsHeldBy core.new ledger.new }
+    ensures runs { HasRuns phases.now core.old.made fixed.now (length (listed_of conflicts.now) * ((length unlisted.now + 1) + length unlisted.now)) ledger.old ledger.new }
     ensures spent { IfOk result (λ o. is_none o ≡ is_spent ledger.new) }
-    ensures problems { (r : Request) → IsSetUp r phases.now core.old book.now fixed.now → AreSettled r core.old conflicts.now → IsFoundOn r (λ k. not (is_among (listed_of conflicts.now) k)) trail.now → IfOk result (λ o. IfSome o (λ found. AllZip (IsProblemOf r core.old (listed_of conflicts.now)) conflicts.now found.items)) }
+    ensures problems { (r : Request) → IsSetUp r phases.now core.old.made book.now fixed.now → AreSettled r core.old.made conflicts.now → IsFoundOn r (λ k. not (is_among (listed_of conflicts.now) k)) trail.now → IfOk result (λ o. IfSome o (λ found. AllZip (IsProblemOf r core.old.made (listed_of conflicts.now)) conflicts.now found.items)) }
 {
     let mut problems = Vec::new(alloc);
     for conflict in conflicts {
@@ -238,15 +247,17 @@ fn remedies_of(
     fixed: &[bool],
     found: &Collected,
 ) -> Result<Remedies, AllocError>
-    requires set_up { (r : Request) × (IsSetUp r phases.now core.old book.now fixed.now × AreAll r core.old found.now) }
+    requires set_up { (r : Request) × (IsSetUp r phases.now core.old.made book.now fixed.now × AreAll r core.old.made found.now) }
     requires apart { AreApart fixed.now found.now.conflicts }
     requires some { 0 < length found.now.conflicts }
     requires budget { ledger.old.budget ≤ 1000000 }
     requires unspent { length ledger.old.entries ≤ ledger.old.budget }
-    ensures core { core.new ≡ core.old }
-    ensures runs { HasRuns phases.now core.old fixed.now (droppable_count fixed.now * ((droppable_count fixed.now + 1) + droppable_count fixed.now)) ledger.old ledger.new }
+    requires held { IsHeldBy core.old ledger.old }
+    ensures core { core.new.made ≡ core.old.made }
+    ensures held { IsHeldBy core.new ledger.new }
+    ensures runs { HasRuns phases.now core.old.made fixed.now (droppable_count fixed.now * ((droppable_count fixed.now + 1) + droppable_count fixed.now)) ledger.old ledger.new }
     ensures spent { IfOk result (λ m. is_spent_remedies m ≡ is_spent ledger.new) }
-    ensures listed { (r : Request) → IsSetUp r phases.now core.old book.now fixed.now → AreAll r core.old found.now → IfOk result (IsRemedies r core.old) }
+    ensures listed { (r : Request) → IsSetUp r phases.now core.old.made book.now fixed.now → AreAll r core.old.made found.now → IfOk result (IsRemedies r core.old.made) }
 {
     good_logs_refute_their_rules();
     let conflicts = found.conflicts.held();
@@ -279,14 +290,16 @@ fn remedies_from(
     fixed: &[bool],
     first: Conflict,
 ) -> Result<Remedies, AllocError>
-    requires set_up { (r : Request) × (IsSetUp r phases.now core.old book.now fixed.now × IsLogOf r core.old first.rules first.log) }
+    requires set_up { (r : Request) × (IsSetUp r phases.now core.old.made book.now fixed.now × IsLogOf r core.old.made first.rules first.log) }
     requires rules { IsRuleList fixed.now first.rules }
     requires budget { ledger.old.budget ≤ 1000000 }
     requires unspent { length ledger.old.entries ≤ ledger.old.budget }
-    ensures core { core.new ≡ core.old }
-    ensures runs { HasRuns phases.now core.old fixed.now (most_runs (droppable_count fixed.now)) ledger.old ledger.new }
+    requires held { IsHeldBy core.old ledger.old }
+    ensures core { core.new.made ≡ core.old.made }
+    ensures held { IsHeldBy core.new ledger.new }
+    ensures runs { HasRuns phases.now core.old.made fixed.now (most_runs (droppable_count fixed.now)) ledger.old ledger.new }
     ensures spent { IfOk result (λ m. is_spent_remedies m ≡ is_spent ledger.new) }
-    ensures listed { (r : Request) → IsSetUp r phases.now core.old book.now fixed.now → IsLogOf r core.old first.rules first.log → IfOk result (IsRemedies r core.old) }
+    ensures listed { (r : Request) → IsSetUp r phases.now core.old.made book.now fixed.now → IsLogOf r core.old.made first.rules first.log → IfOk result (IsRemedies r core.old.made) }
 {
     let start = singles(alloc, phases, core, book, fixed)?;
     match all_conflicts(alloc, phases, core, ledger, book, fixed, start, first)? {
@@ -307,16 +320,18 @@ pub fn problems(
     first: Log,
     ledger: &mut Ledger,
 ) -> Result<Remedies, AllocError>
-    requires made { (r : Request) × IsMadeFor r phases.now core.old book.now }
-    requires good { is_good_log core.old.clauses first.steps ≡ true }
-    requires over { steps_over core.old.packages first.steps ≡ true }
-    requires leaves { list_all (λ n. nat_lt n (length core.old.clauses)) (leaves first.steps) ≡ true }
+    requires made { (r : Request) × IsMadeFor r phases.now core.old.made book.now }
+    requires good { is_good_log core.old.made.clauses first.steps ≡ true }
+    requires over { steps_over core.old.made.packages first.steps ≡ true }
+    requires leaves { list_all (λ n. nat_lt n (length core.old.made.clauses)) (leaves first.steps) ≡ true }
     requires budget { ledger.old.budget ≤ 1000000 }
     requires few { length ledger.old.entries ≤ ledger.old.budget + 1 }
-    ensures core { core.new ≡ core.old }
-    ensures runs { HasRuns phases.now core.old (map is_fixed_rule (read_rules book.now.rules)) (most_runs (droppable_rules (read_rules book.now.rules))) ledger.old ledger.new }
+    requires held { IsHeldBy core.old ledger.old }
+    ensures core { core.new.made ≡ core.old.made }
+    ensures held { IsHeldBy core.new ledger.new }
+    ensures runs { HasRuns phases.now core.old.made (map is_fixed_rule (read_rules book.now.rules)) (most_runs (droppable_rules (read_rules book.now.rules))) ledger.old ledger.new }
     ensures spent { IfOk result (λ m. is_spent_remedies m ≡ is_spent ledger.new) }
-    ensures listed { (r : Request) → IsMadeFor r phases.now core.old book.now → IfOk result (IsRemedies r core.old) }
+    ensures listed { (r : Request) → IsMadeFor r phases.now core.old.made book.now → IfOk result (IsRemedies r core.old.made) }
 {
     good_logs_refute_their_rules();
     if ledger.spent() {

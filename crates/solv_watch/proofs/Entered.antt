@@ -126,9 +126,10 @@ concluded book learnt2 learnt used watches new lits watched marks e f g h b l =
     let bc : IsKeptAtChoices book used watches.book.watched.items new.lits new.marks = rw (g, h) (b.0) in
     let bu : IsKeptUpto book used watches.book.watched.items new.lits (length new.lits - 1) = rw g (b.1) in
     let lc : C learnt watched = rw (g, h) (l.0) in
-    let lu : U learnt watched = rw g (l.1) in (
+    let lu : U learnt watched = rw g (l.1) in
+    let here : U learnt watched → U learnt2 watches.learnt.watched.items = λ u. subst (λ rs. U rs watches.learnt.watched.items) (sym e) (subst (U learnt) (sym f) u) in (
       record { book_choices = bc; learnt_choices = subst (λ rs. C rs watches.learnt.watched.items) (sym e) (subst (C learnt) (sym f) lc) },
-      record { guards = bu.guards; narrow = λ k. bu.narrow; learnt_kept = subst (λ rs. U rs watches.learnt.watched.items) (sym e) (subst (U learnt) (sym f) lu) },
+      record { guards = bu.guards; narrow = λ k. bu.narrow; learnt_guards = (here lu).guards; learnt_narrow = λ k. (here lu).narrow },
     )
 
 -- a rule was put behind and hung
@@ -156,8 +157,8 @@ some_behind x l [] h = absurd (false≢true h)
 some_behind x l (m ∷ ls) h = omega arith
 
 -- where nothing is known, all holds
-pub nothing_known : (book : List (List ℤ)) (used : ℕ → Bool) (watches : Watches) (held : Held) → held.lits ≡ [] → held.marks ≡ [] → AreKeptAtChoices book [] used watches held × AreReady book [] used watches held
-nothing_known book used watches held none_lits none_marks =
+pub nothing_known : (book learnt : List (List ℤ)) (used : ℕ → Bool) (watches : Watches) (held : Held) → held.lits ≡ [] → held.marks ≡ [] → AreKeptAtChoices book learnt used watches held × AreReady book learnt used watches held
+nothing_known book learnt used watches held none_lits none_marks =
     let few : length held.marks ≡ 0 = ap (λ m. length m) none_marks in
     let short : length held.lits ≡ 0 = ap (λ m. length m) none_lits in
     let void : (rules : List (List ℤ)) (u : ℕ → Bool) (w : List ℤ) → AreGuards rules u w Each (take (length held.lits - 1) held.lits) held.lits = λ rules u w v is on h r.
@@ -169,6 +170,7 @@ nothing_known book used watches held none_lits none_marks =
       record {
         guards = void book used watches.book.watched.items;
         narrow = λ h. absurd (omega arith);
-        learnt_kept = record { guards = void [] always watches.learnt.watched.items; narrow = λ r c u s. absurd (let h = u.found in cc) };
+        learnt_guards = void learnt always watches.learnt.watched.items;
+        learnt_narrow = λ h. absurd (omega arith);
       },
     )

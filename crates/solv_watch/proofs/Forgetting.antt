@@ -16,3 +16,14 @@ heads_of count rules heads links watched h = record { room = h.room; each = λ p
         let o = h.hung.own p w (subst P (sym e) (inl refl)) in
         let n : w < length links = o.0 in
         inr (w, (omega arith, (omega (arith, h.linked, h.two), o.2)))
+
+-- where no rule hangs, no head leads somewhere
+pub leads_nowhere : (count : ℕ) (heads : List ℕ) (watched : List ℤ) → AreChained count [] heads [] watched → (p : ℕ) → p < length heads → get_or heads p 0 ≡ no_link
+leads_nowhere count heads watched h p n = elim ((heads_of count [] heads [] watched h).each p n) [
+  | inl e ↦ e
+  | inr f ↦ let less : f.0 < length watched = f.1.1.0 in absurd (omega (arith, less, h.two))
+]
+
+pub none_watched : (count : ℕ) (heads : List ℕ) (watched : List ℤ) → AreChained count [] heads [] watched → watched ≡ []
+none_watched count heads [] h = refl
+none_watched count heads (w ∷ ws) h = absurd (omega (arith, h.two))

@@ -98,6 +98,27 @@ impl Chains {
     }
 }
 
+/// Hangs the next rule at its first two literals, or passes it, where it has fewer.
+fn hang_rule(chains: &mut Chains, rules: &mut RuleMem, rule: u32, packages: u32)
+    requires room { length chains.old.watched.items + 2 ≤ vec_capacity chains.old.watched }
+    requires over { are_over packages rules.old.rules ≡ true }
+    requires rule { rule < length rules.old.rules }
+    requires chained { AreChainedTo packages rule rules.old.rules chains.old.heads.items rules.old.links chains.old.watched.items }
+    ensures rules { rules.new.rules ≡ rules.old.rules }
+    ensures watched { length chains.new.watched.items ≡ length chains.old.watched.items + 2 }
+    ensures room { vec_capacity chains.old.watched ≤ vec_capacity chains.new.watched }
+    ensures chained { AreChainedTo packages (rule + 1) rules.old.rules chains.new.heads.items rules.new.links chains.new.watched.items }
+{
+    let clause = rules.lits(RuleNo(rule));
+    if clause.len() < 2 {
+        chains.pass();
+        return;
+    }
+    let first = clause[0];
+    let second = clause[1];
+    chains.add(rules, rule, first, second);
+}
+
 /// Hangs the next rule, or notes that it has fewer than two literals.
 fn chain_rule(
     chains: &mut Chains,
@@ -122,12 +143,10 @@ fn chain_rule(
         if narrow.push(rule).is_err() {
             return Err(AllocError);
         }
-        chains.pass();
+        hang_rule(chains, rules, rule, packages);
         return Ok(());
     }
-    let first = clause[0];
-    let second = clause[1];
-    chains.add(rules, rule, first, second);
+    hang_rule(chains, rules, rule, packages);
     Ok(())
 }
 
@@ -151,6 +170,39 @@ fn chain_all(
         chain_rule(chains, &mut narrow, rules, rule, packages)?;
     }
     Ok(narrow)
+}
+
+/// Hangs all rules, of which none hangs yet.
+fn hang_all(chains: &mut Chains, rules: &mut RuleMem, packages: u32)
+    requires room { 2 * length rules.old.rules ≤ vec_capacity chains.old.watched }
+    requires over { are_over packages rules.old.rules ≡ true }
+    requires few { length rules.old.rules ≤ 2 ^ 28 }
+    requires chained { AreChainedTo packages 0 rules.old.rules chains.old.heads.items rules.old.links chains.old.watched.items }
+    ensures rules { rules.new.rules ≡ rules.old.rules }
+    ensures chained { AreChained packages rules.old.rules chains.new.heads.items rules.new.links chains.new.watched.items }
+{
+    let count = rules.len() as u32;
+    for rule in 0..count {
+        hang_rule(chains, rules, rule, packages);
+    }
+}
+
+impl Chains {
+    /// Lets all rules go, and hangs these. Where memory runs out, none hangs.
+    pub fn hang_anew(&mut self, rules: &mut RuleMem, packages: u32) -> Result<(), AllocError>
+        requires over { are_over packages rules.old.rules ≡ true }
+        requires few { length rules.old.rules ≤ 2 ^ 28 }
+        requires heads { AreHeads packages self.old.heads.items self.old.watched.items }
+        ensures rules { rules.new.rules ≡ rules.old.rules }
+        ensures chained { OnOk result (AreChained packages rules.old.rules self.new.heads.items rules.new.links self.new.watched.items) }
+        ensures heads { AreHeads packages self.new.heads.items self.new.watched.items }
+    {
+        rules.keeps_its_limits();
+        self.forget();
+        self.watched.reserve(2 * rules.len())?;
+        hang_all(self, rules, packages);
+        Ok(())
+    }
 }
 
 impl Watches {

@@ -9,11 +9,11 @@
 //!
 //! - [`Watches`]: the watches of a book and of learnt rules; `Watches::over` makes those of a book.
 //! - [`Chains`]: the watches of one memory. `add` hangs a rule that was learnt, `pass` passes one with fewer than two
-//!   literals, and `forget` lets all go.
+//!   literals, `forget` lets all go, and `hang_anew` hangs the rules of a memory in their place.
 //! - [`propagate`]: adds what is forced, until a rule is falsified or nothing more is forced.
 //! - [`descend`]: propagation and choices in turn, until a rule is falsified or nothing is asked.
 //!
-//! None of these takes memory but `Watches::over`.
+//! None of these takes memory but `Watches::over` and `Chains::hang_anew`.
 //!
 //! `specs/Inner/Propagating` says what propagation needs of the watches and keeps, `specs/Inner/Watching` what the watches of one memory
 //! keep, `specs/Inner/Chains` how watches are linked, and `specs/Inner/Spares` which literals a rule may watch.

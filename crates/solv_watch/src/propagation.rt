@@ -99,19 +99,22 @@ fn follow(
     None
 }
 
-/// Looks at a rule with fewer than two literals, and adds what it forces. Answers whether it is not falsified.
+/// Looks at a rule with fewer than two literals, and adds what it forces, where the rules begin at base among all. Answers whether it is not
+/// falsified.
 fn visit_narrow(
     known: &mut Known,
     rules: &RuleMem,
     owners: &[usize],
     enabled: &[bool],
+    base: u32,
     rule: u32,
 ) -> bool
     requires over { are_over known.old.count rules.now.rules ≡ true }
     requires owners { list_all (λ o. nat_lt o (length enabled.now)) owners.now ≡ true }
+    requires base { base + length rules.now.rules ≤ 2 ^ 28 }
     requires rule { rule < length rules.now.rules }
     requires narrow { (c : List ℤ) → slice_get rules.now.rules rule ≡ Some c → length c < 2 }
-    ensures grown { (all : List (List ℤ)) (used : ℕ → Bool) → IsPart all used 0 rules.now.rules (in_use owners.now enabled.now) → IsGrown all used known.old known.new }
+    ensures grown { (all : List (List ℤ)) (used : ℕ → Bool) → IsPart all used base rules.now.rules (in_use owners.now enabled.now) → IsGrown all used known.old known.new }
     ensures satisfied { result ≡ true → (c : List ℤ) → IsUsed rules.now.rules (in_use owners.now enabled.now) rule c → is_satisfied known.new.lits c ≡ true }
     ensures falsified { result ≡ false → (c : List ℤ) × IsUsed rules.now.rules (in_use owners.now enabled.now) rule c × (is_falsified known.new.lits c ≡ true) }
 {
@@ -129,7 +132,7 @@ fn visit_narrow(
     if known.is_fact(lit.negated()) {
         return false;
     }
-    known.push(lit, rule);
+    known.push(lit, base + rule);
     true
 }
 
@@ -143,14 +146,48 @@ fn look_at_narrow(
 ) -> Option<u32>
     requires over { are_over known.old.count rules.now.rules ≡ true }
     requires owners { list_all (λ o. nat_lt o (length enabled.now)) owners.now ≡ true }
+    requires few { length rules.now.rules ≤ 2 ^ 28 }
     requires narrow { AreNarrow rules.now.rules narrow.now }
     ensures grown { (all : List (List ℤ)) (used : ℕ → Bool) → IsPart all used 0 rules.now.rules (in_use owners.now enabled.now) → IsGrown all used known.old known.new }
     ensures satisfied { result ≡ None → AreNarrowTrue rules.now.rules (in_use owners.now enabled.now) known.new.lits }
     ensures clash { IfSome result (λ rule. (c : List ℤ) × IsUsed rules.now.rules (in_use owners.now enabled.now) rule c × (is_falsified known.new.lits c ≡ true)) }
 {
     for rule in narrow {
-        if !visit_narrow(known, rules, owners, enabled, *rule) {
+        if !visit_narrow(known, rules, owners, enabled, 0, *rule) {
             return Some(*rule);
+        }
+    }
+    None
+}
+
+/// Looks at a learnt rule, and adds what it forces, if it has fewer than two literals. Answers whether it is not falsified then.
+fn visit_learnt(known: &mut Known, rules: &RuleMem, base: u32, rule: u32) -> bool
+    requires over { are_over known.old.count rules.now.rules ≡ true }
+    requires base { base + length rules.now.rules ≤ 2 ^ 28 }
+    requires rule { rule < length rules.now.rules }
+    ensures grown { (all : List (List ℤ)) (used : ℕ → Bool) → IsPart all used base rules.now.rules always → IsGrown all used known.old known.new }
+    ensures satisfied { result ≡ true → (c : List ℤ) → IsUsed rules.now.rules always rule c → length c < 2 → is_satisfied known.new.lits c ≡ true }
+    ensures falsified { result ≡ false → (c : List ℤ) × IsUsed rules.now.rules always rule c × (is_falsified known.new.lits c ≡ true) }
+{
+    let size = rules.lits(RuleNo(rule)).len();
+    if size >= 2 {
+        return true;
+    }
+    visit_narrow(known, rules, &[], &[], base, rule)
+}
+
+/// Looks at all learnt rules with fewer than two literals, until one is falsified, which it names, by its number among all rules.
+fn look_at_learnt(known: &mut Known, rules: &RuleMem, base: u32) -> Option<u32>
+    requires over { are_over known.old.count rules.now.rules ≡ true }
+    requires base { base + length rules.now.rules ≤ 2 ^ 28 }
+    ensures grown { (all : List (List ℤ)) (used : ℕ → Bool) → IsPart all used base rules.now.rules always → IsGrown all used known.old known.new }
+    ensures satisfied { result ≡ None → AreNarrowTrue rules.now.rules always known.new.lits }
+    ensures clash { IfSome result (λ rule. (all : List (List ℤ)) (used : ℕ → Bool) → IsPart all used base rules.now.rules always → (c : List ℤ) × IsUsed all used rule c × (is_falsified known.new.lits c ≡ true)) }
+{
+    let count = rules.len() as u32;
+    for rule in 0..count {
+        if !visit_learnt(known, rules, base, rule) {
+            return Some(base + rule);
         }
     }
     None
@@ -159,23 +196,31 @@ fn look_at_narrow(
 /// Looks at the rules with fewer than two literals, where nothing is known yet.
 fn begin(
     known: &mut Known,
-    rules: &RuleMem,
+    book: &RuleMem,
+    learnt: &RuleMem,
     narrow: &[u32],
     owners: &[usize],
     enabled: &[bool],
 ) -> Option<u32>
-    requires over { are_over known.old.count rules.now.rules ≡ true }
+    requires over { are_over known.old.count (book.now.rules ++ learnt.now.rules) ≡ true }
     requires owners { list_all (λ o. nat_lt o (length enabled.now)) owners.now ≡ true }
-    requires narrow { AreNarrow rules.now.rules narrow.now }
-    requires satisfied { 0 < length known.old.lits → AreNarrowTrue rules.now.rules (in_use owners.now enabled.now) known.old.lits }
-    ensures grown { (all : List (List ℤ)) (used : ℕ → Bool) → IsPart all used 0 rules.now.rules (in_use owners.now enabled.now) → IsGrown all used known.old known.new }
-    ensures satisfied { result ≡ None → AreNarrowTrue rules.now.rules (in_use owners.now enabled.now) known.new.lits }
-    ensures clash { IfSome result (λ rule. (c : List ℤ) × IsUsed rules.now.rules (in_use owners.now enabled.now) rule c × (is_falsified known.new.lits c ≡ true)) }
+    requires each { length owners.now ≡ length book.now.rules }
+    requires rules { length (book.now.rules ++ learnt.now.rules) ≤ 2 ^ 28 }
+    requires narrow { AreNarrow book.now.rules narrow.now }
+    requires satisfied { 0 < length known.old.lits → AreNarrowTrue book.now.rules (in_use owners.now enabled.now) known.old.lits }
+    requires learnt_satisfied { 0 < length known.old.lits → AreNarrowTrue learnt.now.rules always known.old.lits }
+    ensures grown { IsGrown (book.now.rules ++ learnt.now.rules) (in_use owners.now enabled.now) known.old known.new }
+    ensures satisfied { result ≡ None → AreNarrowTrue book.now.rules (in_use owners.now enabled.now) known.new.lits }
+    ensures learnt_satisfied { result ≡ None → AreNarrowTrue learnt.now.rules always known.new.lits }
+    ensures clash { IfSome result (λ rule. (c : List ℤ) × IsUsed (book.now.rules ++ learnt.now.rules) (in_use owners.now enabled.now) rule c × (is_falsified known.new.lits c ≡ true)) }
 {
     if known.len() > 0 {
         return None;
     }
-    look_at_narrow(known, rules, narrow, owners, enabled)
+    if let Some(rule) = look_at_narrow(known, book, narrow, owners, enabled) {
+        return Some(rule);
+    }
+    look_at_learnt(known, learnt, book.len() as u32)
 }
 
 /// Adds what the rules in use force, until one is falsified (which it names) or nothing more is forced. All literals but the last are to have
@@ -204,7 +249,7 @@ pub fn propagate(
     ensures seen { result ≡ None → AreSeen book.old.rules learnt.old.rules (in_use owners.now enabled.now) watches.new known.new }
 {
     let from = known.len().saturating_sub(1);
-    if let Some(rule) = begin(known, book, &watches.narrow, owners, enabled) {
+    if let Some(rule) = begin(known, book, learnt, &watches.narrow, owners, enabled) {
         return Some(rule);
     }
     follow(known, book, learnt, watches, owners, enabled, from)

@@ -11,6 +11,7 @@ use Rattle.solv_trail.specs.Walk.{met_by_choices}
 use Rattle.solv_learn.specs.Collecting.{is_plain}
 use Rattle.solv_learn.specs.Inner.Learning.{IsLearnt}
 use Rattle.solv_learn.specs.Inner.Refuting.{Finds, is_in_use}
+use Rattle.solv_core.specs.Inner.Holding.{numbered_entry}
 use Rattle.solv_core.specs.declared.ledger.Entry.{Entry}
 
 -- an entry that is learnt over these rules, the learnt ones being entries from `first` on
@@ -27,12 +28,12 @@ abbrev pub AreLearnt : List (List ℤ) → (ℕ → Bool) → ((ℤ → Bool) �
 AreLearnt rules used asks count first packages run [] = Unit {0}
 AreLearnt rules used asks count first packages run (e ∷ entries) = IsEntry rules used asks count first packages run e × AreLearnt (rules ++ e.clause ∷ []) used asks count first packages run entries
 
--- a conflict over these rules was analysed: the learnt clause is an entry, the last choices are taken back, and its first literal is known
-pub record IsEntered (rules : List (List ℤ)) (count first run rule : ℕ) (old new : Held) (before after : List Entry) (entry : Entry) (back : ℕ) (lit : ℤ) (rest : List ℤ) : Type 0 where
-  pub added : after ≡ before ++ entry ∷ []
+-- a conflict over these rules was analysed: the learnt clause is an entry, whose hints name learnt rules by the numbers of their entries; the last choices are taken back, and its first literal is known
+pub record IsEntered (rules : List (List ℤ)) (count : ℕ) (number : ℕ → ℕ) (run rule : ℕ) (old new : Held) (before after : List Entry) (entry : Entry) (back : ℕ) (lit : ℤ) (rest : List ℤ) : Type 0 where
+  pub added : after ≡ before ++ numbered_entry number entry ∷ []
   pub of_run : entry.run ≡ run
   pub clause : entry.clause ≡ lit ∷ rest
-  pub learnt : (used : ℕ → Bool) → IsReasoned rules used old → used rule ≡ true → IsLearnt rules used count first old entry.clause entry.hints back
+  pub learnt : (used : ℕ → Bool) → IsReasoned rules used old → used rule ≡ true → IsLearnt rules used count 0 old entry.clause entry.hints back
   pub known : new ≡ record old {
     lits = take (slice_index old.marks back) old.lits ++ lit ∷ [];
     reasons = take (slice_index old.marks back) old.reasons ++ length rules ∷ [];

@@ -1,8 +1,11 @@
--- Good ledgers: each entry stands for a conflict that the guide's choices meet.
-use Rattle.std.specs.Prelude.{◌≡◌, ◌≤◌, ◌+◌, ◌==◌, ℕ, Bool, true, List, length, take, drop}
-use Rattle.std.specs.List.{list_all}
+-- What runs leave of a ledger.
+use Rattle.std.specs.Prelude.{◌≡◌, ◌≤◌, ◌+◌, ◌-◌, ◌==◌, ◌++◌, ℕ, Bool, true, List, length, filter, take, drop}
+use Rattle.std.specs.List.{list_all, range_with_len}
+use Rattle.solv_core.specs.Ledgers.{rests_on_enabled}
+use Rattle.solv_core.specs.Inner.Cores.{LearningCore, numbers_in_use}
 use Rattle.solv_core.specs.declared.ledger.Entry.{Entry}
 use Rattle.solv_core.specs.declared.ledger.Ledger.{Ledger}
+use Rattle.solv_core.specs.declared.ledger.Run.{Run}
 
 -- each entry is of this run
 abbrev pub are_of_run : ℕ → List Entry → Bool
@@ -15,3 +18,11 @@ pub record GrowsLedger (old new : Ledger) : Type 0 where
   pub earlier_runs : take (length old.runs) new.runs ≡ old.runs
   pub earlier_entries : take (length old.entries) new.entries ≡ old.entries
   pub own_entries : are_of_run (length old.runs) (drop (length old.entries) new.entries) ≡ true
+
+-- the next run of a core, with these rules enabled: of the entries in use it keeps those whose leaves are clauses of enabled rules
+abbrev pub run_of : LearningCore → List Bool → List Entry → Run
+run_of core enabled entries = record { enabled = enabled; kept = filter (rests_on_enabled core.made.clauses core.made.owners enabled entries) (numbers_in_use core.in_use) }
+
+-- the entries in use at the end of a run: those that it kept, and those behind the earlier ones
+abbrev pub in_use_after : Run → List Entry → List Entry → List ℕ
+in_use_after run before after = run.kept ++ range_with_len (length before) (length after - length before)

@@ -20,7 +20,8 @@ pub record AreKeptAtChoices (book learnt : List (List ℤ)) (used : ℕ → Bool
 pub record AreReady (book learnt : List (List ℤ)) (used : ℕ → Bool) (watches : Watches) (held : Held) : Type 0 where
   pub guards : AreGuards book used watches.book.watched.items Each (take (length held.lits - 1) held.lits) held.lits
   pub narrow : 0 < length held.lits → AreNarrowTrue book used held.lits
-  pub learnt_kept : IsKeptUpto learnt always watches.learnt.watched.items held.lits (length held.lits - 1)
+  pub learnt_guards : AreGuards learnt always watches.learnt.watched.items Each (take (length held.lits - 1) held.lits) held.lits
+  pub learnt_narrow : 0 < length held.lits → AreNarrowTrue learnt always held.lits
 
 -- all literals were looked at
 pub record AreSeen (book learnt : List (List ℤ)) (used : ℕ → Bool) (watches : Watches) (held : Held) : Type 0 where

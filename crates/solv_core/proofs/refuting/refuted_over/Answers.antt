@@ -1,4 +1,4 @@
-use Rattle.std.proofs.Common.{◌<◌, ℕ, List, Bool, true, false, length, subst, sym, ap, refl, Some}
+use Rattle.std.proofs.Common.{◌<◌, ℕ, List, Bool, false, length, subst, sym, refl, Some}
 use Rattle.std.specs.Prelude.{ℤ}
 use Rattle.std.proofs.lemmas.Bool.{or_left}
 use Rattle.solv_trail.specs.Propagated.{in_use}

@@ -9,7 +9,7 @@ use Rattle.solv_watch.proofs.propagation.propagate.Goals.{After-begin, After-fol
 use Rattle.solv_list.proofs.Lists.{get_front_again}
 
 first : (c : After-begin) → IsGrown (c.args.book.now.rules ++ c.args.learnt.now.rules) (in_use c.args.owners.now c.args.enabled.now) c.args.known.now c.begin.new.known
-first c = c.begin.ensures.grown (c.args.book.now.rules ++ c.args.learnt.now.rules) (in_use c.args.owners.now c.args.enabled.now) (part_book c.args.book.now.rules c.args.learnt.now.rules (in_use c.args.owners.now c.args.enabled.now))
+first c = c.begin.ensures.grown
 
 pub returns-in-Some-clause-grown : goal.returns-in-Some-clause-grown
 returns-in-Some-clause-grown c = first (goal.at.returns-in-Some-clause-grown c).After-begin
@@ -17,7 +17,7 @@ returns-in-Some-clause-grown c = first (goal.at.returns-in-Some-clause-grown c).
 pub returns-in-Some-clause-done : goal.returns-in-Some-clause-done
 returns-in-Some-clause-done c =
     let m = c.in-Some.ensures.clash in
-    clash c.in-Some.rule m.0 (record { found = get_front_again c.args.book.now.rules c.args.learnt.now.rules c.in-Some.rule m.0 m.1.found; on = m.1.on }) m.2
+    clash c.in-Some.rule m.0 m.1 m.2
 
 pub returns-in-Some-clause-kept : goal.returns-in-Some-clause-kept
 returns-in-Some-clause-kept c =
@@ -61,7 +61,10 @@ pub follow-requires-clause-learnt_kept : goal.follow-requires-clause-learnt_kept
 follow-requires-clause-learnt_kept c =
     let d = (goal.at.follow-requires-clause-learnt_kept c).After-begin in
     let P : ℕ → Type 0 = λ n. IsKeptUpto c.args.learnt.now.rules always c.args.watches.now.learnt.watched.items c.begin.new.known.lits n in
-    subst P (sym (from_is d)) (held_kept (c.args.book.now.rules ++ c.args.learnt.now.rules) (in_use c.args.owners.now c.args.enabled.now) c.args.known.now c.begin.new.known (first d) c.args.learnt.now.rules always c.args.watches.now.learnt.watched.items (length c.args.known.now.lits - 1) (omega arith) c.requires.ready.learnt_kept)
+    subst P (sym (from_is d)) (record {
+      guards = held_guards (c.args.book.now.rules ++ c.args.learnt.now.rules) (in_use c.args.owners.now c.args.enabled.now) c.args.known.now c.begin.new.known (first d) c.args.learnt.now.rules always c.args.watches.now.learnt.watched.items (length c.args.known.now.lits - 1) (omega arith) c.requires.ready.learnt_guards;
+      narrow = c.in_default.ensures.learnt_satisfied refl;
+    })
 
 pub returns-clause-grown : goal.returns-clause-grown
 returns-clause-grown c = grown_then (c.args.book.now.rules ++ c.args.learnt.now.rules) (in_use c.args.owners.now c.args.enabled.now) c.args.known.now c.begin.new.known c.follow.new.known (first (goal.at.returns-clause-grown c).After-begin) c.follow.ensures.grown

@@ -1,4 +1,4 @@
-use Rattle.std.proofs.Common.{◌≡◌, ℕ, true, List, [], ◌∷◌, Some, sym, ap, ◌∙◌, subst, arith, length, ◌<◌, zero-add}
+use Rattle.std.proofs.Common.{◌≡◌, ℕ, true, List, [], ◌∷◌, Some, sym, ap, ◌∙◌, arith, length, ◌<◌, ◌+◌, subst}
 use Rattle.std.specs.Prelude.{ℤ, pos}
 use Rattle.std.proofs.lemmas.List.{get_or_read}
 use Rattle.std.proofs.lemmas.Bool.{eqb-false}
@@ -43,9 +43,8 @@ returns-clause-grown c = λ all used part.
     let x : ℤ = c.index-clause-0.result in
     let d = (goal.at.returns-clause-grown c).After-index-clause-0 in
     let v : IsUsed c.args.rules.now.rules (in_use c.args.owners.now c.args.enabled.now) c.args.rule c.lits-clause.result.now = record { found = c.lits-clause.ensures.held; on = sym c.is_in_use.ensures ∙ c.if-not-is_in_use.false } in
-    let P : ℕ → Type 0 = λ n. IsUsed all used n c.lits-clause.result.now in
-    let u : IsUsed all used c.args.rule c.lits-clause.result.now = subst P (zero-add c.args.rule) (used_among all used 0 c.args.rules.now.rules (in_use c.args.owners.now c.args.enabled.now) part c.args.rule c.lits-clause.result.now v) in
+    let u : IsUsed all used (c.args.base + c.args.rule) c.lits-clause.result.now = used_among all used c.args.base c.args.rules.now.rules (in_use c.args.owners.now c.args.enabled.now) part c.args.rule c.lits-clause.result.now v in
     let f : forced c.args.known.now.lits c.lits-clause.result.now ≡ Some x =
     ap (forced c.args.known.now.lits) (one d) ∙ lone_forces c.args.known.now.lits x (sym c.is_fact.ensures ∙ c.if-is_fact.false) (ap (is_fact c.args.known.now.lits) (sym c.negated.ensures.number) ∙ sym c.is_fact-2.ensures ∙ c.if-is_fact-2.false) in
     let Q : Held → Type 0 = λ h. IsGrown all used c.args.known.now h in
-    subst Q (sym c.push.ensures.added) (grown_push all used c.args.known.now c.args.known.now c.args.rule c.lits-clause.result.now x u f (grown_self all used c.args.known.now))
+    subst Q (sym c.push.ensures.added) (grown_push all used c.args.known.now c.args.known.now (c.args.base + c.args.rule) c.lits-clause.result.now x u f (grown_self all used c.args.known.now))
