@@ -1,5 +1,5 @@
 #!/usr/bin/env python3
-"""What has to be believed: the definitions that the contract of `run` and the public laws reach.
+"""What has to be believed: the definitions that the contracts of `run` and `proof_run` and the public laws reach.
 
     tools/promise.py            counts, crate by crate, of what is promised and what stands beside it
     tools/promise.py --check    fails where a module of a crate's specs/ holds anything else: what serves contracts
@@ -7,7 +7,7 @@
     tools/promise.py --print    the promise as one text in reading order, lowest crate first
 
 A public law is a public function of a module `laws` that does nothing; one that calls other laws says how layers fit each
-other, and is not counted. It reads the files as text, at the top of the repository. A name that is bound again inside a definition counts as the
+other, and is not counted, but for those on the checker of proofs. It reads the files as text, at the top of the repository. A name that is bound again inside a definition counts as the
 definition of that name, so that the promise may come out larger than it is, and not smaller.
 """
 import collections
@@ -17,6 +17,10 @@ import sys
 
 # crates that hold nothing but examples and tests
 EXAMPLES = ("solv_worked", "solv_call_tests")
+# the top calls of the programs, which stand in a module `top`
+TOP_CALLS = {"solv_run": "run", "solv_proof_run": "proof_run"}
+# crates whose laws are promised although they call others: what the checker of proofs says
+CHECKERS = ("solv_verdicts", "solv_proof_run")
 ROOT = pathlib.Path(__file__).resolve().parent.parent
 WORD = re.compile(r"[^\s(){}\[\],;]+")
 USE = re.compile(r"^(\s*)(?:pub )?(?:ghost )?use Rattle\.([^\s{]+?)(?:\.\{(.*)\})?(?: as (\S+?))?;?$")
@@ -215,19 +219,19 @@ def functions_of(path):
 
 
 def seeds_of(book):
-    """What the contract of `run` names, and what the public laws name."""
+    """What the contracts of the top calls name, and what the public laws name."""
     top, laws = [], []
     for crate in book.crates:
         for path in sorted((ROOT / "crates" / crate / "src").rglob("*.rt")):
-            is_top = crate == "solv_run" and path.stem == "top"
-            if not is_top and not path.stem.endswith("laws"):
+            top_call = TOP_CALLS.get(crate) if path.stem == "top" else None
+            if not top_call and not path.stem.endswith("laws"):
                 continue
             imports, aliases = imports_of(path.read_text().split("\n"))
             for name, clauses, is_empty in functions_of(path):
                 found = [item for item in book.cited(words_of([clauses]), imports, aliases) if item]
-                if is_top and name == "run":
+                if top_call and name == top_call:
                     top += found
-                elif is_empty:
+                elif is_empty or (crate in CHECKERS and not top_call):
                     laws += found
     return top, laws
 
@@ -247,7 +251,7 @@ def main():
                 print(f"-- {item.module.crate}, {item.module.name}")
                 print("\n".join(item.comment + item.lines), end="\n\n")
         return 0
-    print(f"{sum(len(i.names) for i in run)} definitions, {size(run)} lines, are reached by the contract of run; {sum(len(i.names) for i in promise - run)}, {size(promise - run)} lines, by public laws alone; of {sum(len(i.names) for i in book.definitions)}, {size(book.definitions)} lines")
+    print(f"{sum(len(i.names) for i in run)} definitions, {size(run)} lines, are reached by the contracts of the top calls; {sum(len(i.names) for i in promise - run)}, {size(promise - run)} lines, by public laws alone; of {sum(len(i.names) for i in book.definitions)}, {size(book.definitions)} lines")
     wrong = []
     for name, module in book.modules.items():
         others = [item for item in module.items if item not in promise]

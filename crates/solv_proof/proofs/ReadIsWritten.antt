@@ -12,8 +12,8 @@ use Rattle.solv_proof.specs.Texts.{step_words, rules_words, problem_words, proof
 use Rattle.solv_proof.specs.Reading.{State, taken, named, listed, stepped, ended, all_of, step_of, read_on, read_lines, start, between_proofs, at_line, is_fed}
 use Rattle.solv_proof.specs.Laws.{place_fits, step_fits, proof_fits, ReadIsWritten}
 use Rattle.solv_proof.specs.declared.kinds.Proof.{Proof}
-use Rattle.solv_proof.specs.declared.kinds.Due.{Due}
-use Rattle.solv_proof.specs.declared.kinds.Due.TheVariants as due
+use Rattle.solv_proof.specs.declared.kinds.NextLine.{NextLine}
+use Rattle.solv_proof.specs.declared.kinds.NextLine.TheVariants as due
 use Rattle.solv_proof.specs.declared.faults.ProofCause.{ProofCause}
 use Rattle.solv_proof.specs.declared.faults.ProofCause.TheVariants.{BadLine, BadOrder, BadHeader, Unfinished}
 use Rattle.solv_proof.proofs.Bools.{both, joint}
@@ -143,12 +143,12 @@ abbrev LeftRules : List Proof → ℕ → ℕ → List (List ℕ) → List Proof
 LeftRules d r k lines ps = (rs : List ℕ) × (ts : List Step) × (qs : List Proof) × (ps ≡ d ++ (made r k rs ts ∷ qs)) × (lines ≡ joined (rules_words rs) ∷ steps_lines ts ++ (codes "end" ∷ flat_map proof_lines qs))
     × ((is_some_list rs && rising rs) ≡ true) × ((list_all place_fits rs && list_all step_fits ts) ≡ true) × (all_follow r k qs ≡ true) × (list_all proof_fits qs ≡ true)
 
-abbrev state_at : Due → List Proof → ℕ → ℕ → List ℕ → List Step → State
+abbrev state_at : NextLine → List Proof → ℕ → ℕ → List ℕ → List Step → State
 state_at due.Problem d r k rs ss = between d r k
 state_at due.Rules d r k rs ss = opened d r k
 state_at due.Steps d r k rs ss = stepping d r k rs ss
 
-abbrev Left : Due → List Proof → ℕ → ℕ → List ℕ → List Step → List (List ℕ) → List Proof → Type 0
+abbrev Left : NextLine → List Proof → ℕ → ℕ → List ℕ → List Step → List (List ℕ) → List Proof → Type 0
 Left due.Problem d r k rs ss lines ps = LeftProofs d r k lines ps
 Left due.Rules d r k rs ss lines ps = LeftRules d r k lines ps
 Left due.Steps d r k rs ss lines ps = LeftSteps d r k rs ss lines ps
@@ -158,7 +158,7 @@ line_is : (line : List ℕ) (ws : List (List ℕ)) → words_between line ≡ ws
 line_is line ws e = sym (joined_words line) ∙ ap joined e
 
 module _ (fed : Bool) (ps : List Proof) (line : List ℕ) (lines : List (List ℕ))
-    (again : (u : Due) (d : List Proof) (r k : ℕ) (rs : List ℕ) (ss : List Step) (n : ℕ) → read_on (state_at u d r k rs ss) n lines fed ≡ Ok ps → Left u d r k rs ss lines ps) where
+    (again : (u : NextLine) (d : List Proof) (r k : ℕ) (rs : List ℕ) (ss : List Step) (n : ℕ) → read_on (state_at u d r k rs ss) n lines fed ≡ Ok ps → Left u d r k rs ss lines ps) where
   name_left : (d : List Proof) (r k n : ℕ) (t : State) → IsName d r k (words_between line) t → read_on t n lines fed ≡ Ok ps → LeftProofs d r k (line ∷ lines) ps
   name_left d r k n t name h =
       let r2 = name.0 in
@@ -196,7 +196,7 @@ module _ (fed : Bool) (ps : List Proof) (line : List ℕ) (lines : List (List �
       let left = again due.Problem (d ++ made r k rs ss ∷ []) r k [] [] n so in
       ([], left.0, left.1 ∙ append_assoc d (made r k rs ss ∷ []) left.0 ∙ ap (λ l. d ++ (made r k rs l ∷ left.0)) (sym (append-nil ss)), cons_same line (codes "end") lines (flat_map proof_lines left.0) (line_is line (codes "end" ∷ []) w) left.2, refl, left.3, left.4)
 
-  one_left : (u : Due) (d : List Proof) (r k : ℕ) (rs : List ℕ) (ss : List Step) (n : ℕ) (o : Result State ProofCause) → taken (state_at u d r k rs ss) (words_between line) ≡ o
+  one_left : (u : NextLine) (d : List Proof) (r k : ℕ) (rs : List ℕ) (ss : List Step) (n : ℕ) (o : Result State ProofCause) → taken (state_at u d r k rs ss) (words_between line) ≡ o
       → went_on n lines fed o ≡ Ok ps → Left u d r k rs ss (line ∷ lines) ps
   one_left u d r k rs ss n (Err cause) e h = absurd (cc)
   one_left due.Problem d r k rs ss n (Ok t) e h = name_left d r k (n + 1) t (name_is d r k (words_between line) t e) h
@@ -209,7 +209,7 @@ done_left [] r k n fed ps h = absurd (cc)
 done_left (q ∷ d) r k n false ps h = absurd (cc)
 done_left (q ∷ d) r k n true ps h = let so : q ∷ d ≡ ps = cc in ([], sym so ∙ sym (append-nil (q ∷ d)), refl, refl, refl)
 
-left_is : (fed : Bool) (ps : List Proof) (lines : List (List ℕ)) (u : Due) (d : List Proof) (r k : ℕ) (rs : List ℕ) (ss : List Step) (n : ℕ) → read_on (state_at u d r k rs ss) n lines fed ≡ Ok ps
+left_is : (fed : Bool) (ps : List Proof) (lines : List (List ℕ)) (u : NextLine) (d : List Proof) (r k : ℕ) (rs : List ℕ) (ss : List Step) (n : ℕ) → read_on (state_at u d r k rs ss) n lines fed ≡ Ok ps
     → Left u d r k rs ss lines ps
 left_is fed ps [] due.Problem d r k rs ss n h = done_left d r k n fed ps h
 left_is fed ps [] due.Rules d r k rs ss n h = absurd (cc)
@@ -222,7 +222,7 @@ end_fed [] n fed ps h = absurd (cc)
 end_fed (q ∷ d) n false ps h = absurd (cc)
 end_fed (q ∷ d) n true ps h = let so : q ∷ d ≡ ps = cc in (refl, rw (← so) refl)
 
-ending_fed : (s : State) (u : Due) → s.due ≡ u → (n : ℕ) (fed : Bool) (ps : List Proof)
+ending_fed : (s : State) (u : NextLine) → s.due ≡ u → (n : ℕ) (fed : Bool) (ps : List Proof)
     → at_line n (elim u [ due.Problem ↦ between_proofs s.done fed | due.Rules ↦ Err Unfinished | due.Steps ↦ Err Unfinished ]) ≡ Ok ps → (fed ≡ true) × (is_some_list ps ≡ true)
 ending_fed s due.Problem e n fed ps h = end_fed s.done n fed ps h
 ending_fed s due.Rules e n fed ps h = absurd (cc)

@@ -18,7 +18,7 @@ mod step_lines;
 mod writing;
 
 pub use faults::{ProofCause, ProofFault};
-pub use kinds::{Due, Proof};
+pub use kinds::{NextLine, Proof};
 pub use reading::read_proof;
 pub use writing::write_proof;
 

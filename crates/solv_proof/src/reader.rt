@@ -9,7 +9,7 @@ ghost use Rattle.solv_proof.specs.Inner.Readers.{state_of};
 
 use crate::cutting::{are_words, cut_word, has_words, three_words};
 use crate::faults::ProofCause;
-use crate::kinds::{Due, Proof};
+use crate::kinds::{NextLine, Proof};
 use crate::numbers::read_count;
 use crate::step_lines::{is_step_form, read_places, read_step};
 use solv_derive::{Log, Step};
@@ -20,7 +20,7 @@ use std::alloc::{AllocError, Global};
 #[derive(Drop)]
 pub struct Reader {
     pub done: Items<Proof>,
-    pub due: Due,
+    pub due: NextLine,
     pub round: usize,
     pub number: usize,
     pub rules: Items<usize>,
@@ -33,7 +33,7 @@ pub(crate) fn start(alloc: Global) -> Reader
 {
     Reader {
         done: Items::wrap(Vec::new(alloc)),
-        due: Due::Problem,
+        due: NextLine::Problem,
         round: 0,
         number: 0,
         rules: Items::wrap(Vec::new(alloc)),
@@ -75,7 +75,7 @@ fn take_problem(reader: &mut Reader, line: &[u8]) -> Option<ProofCause>
         return Some(ProofCause::BadNumber);
     };
     if reader.round < round || (reader.round == round && reader.number < number) {
-        reader.due = Due::Rules;
+        reader.due = NextLine::Rules;
         reader.round = round;
         reader.number = number;
         None
@@ -117,7 +117,7 @@ fn take_rules(
     if !rising(&rules) {
         return Ok(Some(ProofCause::BadOrder));
     }
-    reader.due = Due::Steps;
+    reader.due = NextLine::Steps;
     reader.rules = Items::wrap(rules);
     Ok(None)
 }
@@ -128,7 +128,7 @@ fn close(alloc: Global, reader: &mut Reader) -> Result<(), AllocError>
 {
     let rules = std::mem::replace(&mut reader.rules, Items::wrap(Vec::new(alloc)));
     let steps = std::mem::replace(&mut reader.steps, Items::wrap(Vec::new(alloc)));
-    reader.due = Due::Problem;
+    reader.due = NextLine::Problem;
     reader.done.push(Proof {
         round: reader.round,
         number: reader.number,
@@ -174,8 +174,8 @@ pub(crate) fn take_line(
     ensures bad { IfOk result (λ bad. IfSome bad (λ cause. taken (state_of reader.old) (words_between line.now) ≡ is_err cause)) }
 {
     match reader.due {
-        Due::Problem => Ok(take_problem(reader, line)),
-        Due::Rules => take_rules(alloc, reader, line),
-        Due::Steps => take_steps(alloc, reader, line),
+        NextLine::Problem => Ok(take_problem(reader, line)),
+        NextLine::Rules => take_rules(alloc, reader, line),
+        NextLine::Steps => take_steps(alloc, reader, line),
     }
 }

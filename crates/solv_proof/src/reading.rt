@@ -7,7 +7,7 @@ ghost use Rattle.solv_proof.specs.Inner.Readers.{state_of, IsBadLine};
 ghost use Rattle.solv_proof.specs.Reading.{start};
 
 use crate::faults::{ProofCause, ProofFault};
-use crate::kinds::{Due, Proof};
+use crate::kinds::{NextLine, Proof};
 use crate::laws::{read_is_written, written_is_read};
 use crate::reader::{Reader, start, take_line};
 use solv_io::split_line;
@@ -19,7 +19,7 @@ fn end_cause(reader: &Reader, fed: bool) -> Option<ProofCause>
     ensures bad { IfSome result (λ cause. ending (state_of reader.now) fed ≡ is_err cause) }
 {
     match reader.due {
-        Due::Problem => {
+        NextLine::Problem => {
             if reader.done.held().is_empty() {
                 Some(ProofCause::NoProblem)
             } else if fed {
@@ -28,8 +28,8 @@ fn end_cause(reader: &Reader, fed: bool) -> Option<ProofCause>
                 Some(ProofCause::Unfinished)
             }
         }
-        Due::Rules => Some(ProofCause::Unfinished),
-        Due::Steps => Some(ProofCause::Unfinished),
+        NextLine::Rules => Some(ProofCause::Unfinished),
+        NextLine::Steps => Some(ProofCause::Unfinished),
     }
 }
 

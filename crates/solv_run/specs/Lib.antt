@@ -1,7 +1,7 @@
 pub mod Checks
 pub mod Texts
+pub mod Proofs
 pub mod Dues
-pub mod Runs
 pub mod Cases
 pub mod Explained
 pub mod Inner

@@ -1,5 +1,5 @@
 //! What is due for a script that was read.
-ghost use Rattle.std.specs.Prelude.{◌≡◌, ◌≤◌, true, Some, IfOk};
+ghost use Rattle.std.specs.Prelude.{◌≡◌, ◌≤◌, true, false, Some, IfOk};
 ghost use Rattle.std.specs.List.{list_all};
 ghost use Rattle.solv_pool.specs.Catalog.{catalog_of};
 ghost use Rattle.solv_pool.specs.HardRules.{hard_rules};
@@ -8,18 +8,20 @@ ghost use Rattle.solv_pool.specs.TaskForms.{HasForms};
 ghost use Rattle.solv_tags.specs.Inner.EntryForms.{conflicts_unconditionally};
 ghost use Rattle.solv_rules.specs.Books.{first_fault};
 ghost use Rattle.solv_answers.specs.Answers.{IsPrepared};
-ghost use Rattle.solv_run.specs.Cases.{IsDueFor};
+ghost use Rattle.solv_run.specs.Cases.{IsDueFor, IsGoodAnswer};
 ghost use Rattle.solv_run.specs.Dues.{answer_due, answer_status};
 ghost use Rattle.solv_run.specs.Texts.{is_as_wanted};
 
 use crate::checks::are_true;
-use crate::dues::{Due, limit_due};
+use crate::dues::{Conclusion, PROGRAM, unanswered, with_answer};
 use crate::printing::printed;
+use crate::proving::proofs_due;
 use crate::texts::spent_text_of;
 use solv_answers::{Answer, Prepared, answer, prepare};
 use solv_io::Status;
-use solv_list::{Bytes, Items};
+use solv_list::Bytes;
 use solv_rules::BookFault;
+use solv_said::{Due, limit_due};
 use solv_script::Script;
 use solv_words::Command;
 use std::alloc::{AllocError, Global};
@@ -45,23 +47,53 @@ fn answer_due(
     command: &Command,
     script: &Script,
     prepared: &Prepared,
-    answer: Answer,
+    answer: &Answer,
 ) -> Result<Due, AllocError>
     requires closed { IsClosed script.now.task }
     requires prepared { IsPrepared script.now.task prepared.now }
-    ensures { IfOk result (λ due. due ≡ answer_due command.now script.now answer) }
+    ensures { IfOk result (λ due. due ≡ answer_due command.now script.now answer.now) }
 {
-    let printed = printed(alloc, command.shows, script, prepared, &answer)?;
-    let status = status_of(script, &answer, printed.as_wanted);
-    let err = spent_text_of(alloc, command.budget, &answer)?;
-    let mut answers = Items::wrap(Vec::new(alloc));
-    answers.push(answer)?;
+    let printed = printed(alloc, command.shows, script, prepared, answer)?;
+    let status = status_of(script, answer, printed.as_wanted);
+    let err = spent_text_of(alloc, command.budget, answer)?;
     Ok(Due {
         status,
         out: Bytes::wrap(printed.text),
         err: Bytes::wrap(err),
-        answers,
     })
+}
+
+/// What a script's answer comes to, where no proofs are asked for.
+fn answer_concluded(
+    alloc: Global,
+    command: &Command,
+    script: &Script,
+    prepared: &Prepared,
+    answer: Answer,
+) -> Result<Conclusion, AllocError>
+    requires closed { IsClosed script.now.task }
+    requires prepared { IsPrepared script.now.task prepared.now }
+    requires plain { command.now.proves ≡ false }
+    requires good { IsGoodAnswer script.now.task command.now.budget answer }
+    ensures { IfOk result (λ conclusion. IsDueFor command.now script.now conclusion.due conclusion.answers) }
+{
+    let due = answer_due(alloc, command, script, prepared, &answer)?;
+    with_answer(alloc, due, answer)
+}
+
+/// What a script's answer comes to, where proofs are asked for.
+fn proofs_concluded(
+    alloc: Global,
+    command: &Command,
+    script: &Script,
+    answer: Answer,
+) -> Result<Conclusion, AllocError>
+    requires asked { command.now.proves ≡ true }
+    requires good { IsGoodAnswer script.now.task command.now.budget answer }
+    ensures { IfOk result (λ conclusion. IsDueFor command.now script.now conclusion.due conclusion.answers) }
+{
+    let due = proofs_due(alloc, command.budget, &script.task, &answer)?;
+    with_answer(alloc, due, answer)
 }
 
 /// Answers a script.
@@ -70,16 +102,20 @@ fn answered_due(
     command: &Command,
     script: &Script,
     prepared: &Prepared,
-) -> Result<Due, AllocError>
+) -> Result<Conclusion, AllocError>
     requires closed { IsClosed script.now.task }
     requires forms { HasForms script.now.task }
     requires unconditional { list_all (conflicts_unconditionally (catalog_of script.now.task)) script.now.task.universe.packages ≡ true }
     requires prepared { IsPrepared script.now.task prepared.now }
     requires budget { command.now.budget ≤ 1000000 }
-    ensures { IfOk result (IsDueFor command.now script.now) }
+    ensures { IfOk result (λ conclusion. IsDueFor command.now script.now conclusion.due conclusion.answers) }
 {
     let answer = answer(alloc, &script.task, prepared, command.budget)?;
-    answer_due(alloc, command, script, prepared, answer)
+    if command.proves {
+        proofs_concluded(alloc, command, script, answer)
+    } else {
+        answer_concluded(alloc, command, script, prepared, answer)
+    }
 }
 
 /// What is due for a limit that the clauses of a script's task pass.
@@ -88,12 +124,13 @@ fn passed_due(
     command: &Command,
     script: &Script,
     fault: BookFault,
-) -> Result<Due, AllocError>
+) -> Result<Conclusion, AllocError>
     requires closed { IsClosed script.now.task }
     requires passed { first_fault (catalog_of script.now.task) 0 (hard_rules script.now.task) ≡ Some fault }
-    ensures { IfOk result (IsDueFor command.now script.now) }
+    ensures { IfOk result (λ conclusion. IsDueFor command.now script.now conclusion.due conclusion.answers) }
 {
-    limit_due(alloc, &script.task, fault)
+    let due = limit_due(alloc, PROGRAM, &script.task, fault)?;
+    Ok(unanswered(alloc, due))
 }
 
 /// What is due for a script that was read.
@@ -101,12 +138,12 @@ pub(crate) fn script_due(
     alloc: Global,
     command: &Command,
     script: &Script,
-) -> Result<Due, AllocError>
+) -> Result<Conclusion, AllocError>
     requires closed { IsClosed script.now.task }
     requires forms { HasForms script.now.task }
     requires unconditional { list_all (conflicts_unconditionally (catalog_of script.now.task)) script.now.task.universe.packages ≡ true }
     requires budget { command.now.budget ≤ 1000000 }
-    ensures { IfOk result (IsDueFor command.now script.now) }
+    ensures { IfOk result (λ conclusion. IsDueFor command.now script.now conclusion.due conclusion.answers) }
 {
     match prepare(alloc, &script.task) {
         Ok(prepared) => answered_due(alloc, command, script, &prepared),

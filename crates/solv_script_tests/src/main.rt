@@ -1,5 +1,5 @@
-//! The program `solv_script_tests`: runs the scripts that its arguments name, each as `testsolv -r` does, those of the folder `expected` as `testsolv` does, and
-//! says what status each ended with. What is printed for the scripts of `data/` is compared with the file `stdout`.
+//! The program `solv_script_tests`: runs the scripts that its arguments name, each as `testsolv -r` does, those of the folder `expected` as `testsolv` does
+//! and those of `proved` as `testsolv --proof`, and says what status each ended with. What is printed for the scripts of `data/` is compared with the file `stdout`.
 #![tactic(auto)]
 
 use solv_io::{RealFiles, RealSink};
@@ -7,17 +7,23 @@ use solv_run::run;
 use std::alloc::{AllocError, Global};
 use std::{env, io};
 
-/// Whether a script is run without `-r`.
-fn is_compared(name: &str) -> bool {
-    name.starts_with("expected/")
+/// The flag that a script is run with, where it is run with one.
+fn flag_of(name: &str) -> Option<&'static str> {
+    if name.starts_with("expected/") {
+        return None;
+    }
+    if name.starts_with("proved/") {
+        return Some("--proof");
+    }
+    Some("-r")
 }
 
 /// The words of a command line that runs a script.
 fn command_line(alloc: Global, name: &str) -> Result<Vec<String>, AllocError> {
     let mut words = Vec::new(alloc);
     words.push(String::from_str(alloc, "testsolv")?)?;
-    if !is_compared(name) {
-        words.push(String::from_str(alloc, "-r")?)?;
+    if let Some(flag) = flag_of(name) {
+        words.push(String::from_str(alloc, flag)?)?;
     }
     words.push(String::from_str(alloc, name)?)?;
     Ok(words)

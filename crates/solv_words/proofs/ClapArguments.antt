@@ -11,7 +11,7 @@ use Rattle.clap.specs.Walk.{Row, Rule, Text, at_row, has_row, more_values, used,
 use Rattle.clap.specs.Simple.{filled, with_index}
 use Rattle.clap.specs.declared.error.kind.ErrorKind.TheVariants as kind
 use Rattle.clap.specs.declared.parser.matches.ValueSource.TheVariants.{CommandLine}
-use Rattle.solv_words.specs.CommandLine.{Argument, Kind, argument, budget, file, is_in_range, is_same, lines, seed}
+use Rattle.solv_words.specs.CommandLine.{Argument, Kind, argument, budget, file, is_in_range, is_same, lines, proofs, seed}
 use Rattle.solv_words.specs.Inner.Clap.{id_of, reading_of_kind, row_of, rows_by, rules, told_of, values_of}
 use Rattle.solv_words.proofs.ClapNumbers.{number_is}
 use Rattle.solv_list.proofs.Booleans.{and_true, true_or_false}
@@ -21,34 +21,45 @@ use Rattle.solv_list.proofs.Booleans.{and_true, true_or_false}
 abbrev pub rule_by : Kind → Rule
 rule_by lines = filled (told_of lines)
 rule_by budget = filled (told_of budget)
+rule_by proofs = filled (told_of proofs)
 rule_by seed = filled (told_of seed)
 rule_by file = with_index 1 (filled (told_of file))
 
-pub rules_are : rules ≡ rule_by lines ∷ rule_by budget ∷ rule_by seed ∷ rule_by file ∷ []
+pub rules_are : rules ≡ rule_by lines ∷ rule_by budget ∷ rule_by proofs ∷ rule_by seed ∷ rule_by file ∷ []
 rules_are = refl
 
 -- what a use has behind its name
 abbrev pub raw_of : Kind → List ℕ → List Text
 raw_of lines value = []
 raw_of budget value = value ∷ []
+raw_of proofs value = []
 raw_of seed value = value ∷ []
 raw_of file value = value ∷ []
 
 same_id : (a k : Kind) → bytes_eq (id_of a) (id_of k) ≡ is_same k a
 same_id lines lines = refl
 same_id lines budget = refl
+same_id lines proofs = refl
 same_id lines seed = refl
 same_id lines file = refl
 same_id budget lines = refl
 same_id budget budget = refl
+same_id budget proofs = refl
 same_id budget seed = refl
 same_id budget file = refl
+same_id proofs lines = refl
+same_id proofs budget = refl
+same_id proofs proofs = refl
+same_id proofs seed = refl
+same_id proofs file = refl
 same_id seed lines = refl
 same_id seed budget = refl
+same_id seed proofs = refl
 same_id seed seed = refl
 same_id seed file = refl
 same_id file lines = refl
 same_id file budget = refl
+same_id file proofs = refl
 same_id file seed = refl
 same_id file file = refl
 
@@ -84,6 +95,7 @@ use_is args lines value = flag_use (has_row (id_of lines) (rows_by args)) ∙ ap
 use_is args budget value =
     number_use (has_row (id_of budget) (rows_by args)) (is_signed_in (pos 0) (pos 1000000) value)
     ∙ ap₂ (λ b c. not b && c) (has_is budget args) (number_is 1000000 (omega arith) value)
+use_is args proofs value = flag_use (has_row (id_of proofs) (rows_by args)) ∙ ap (λ b. not b && true) (has_is proofs args)
 use_is args seed value =
     number_use (has_row (id_of seed) (rows_by args)) (is_signed_in (pos 0) (pos 4294967295) value)
     ∙ ap₂ (λ b c. not b && c) (has_is seed args) (number_is 4294967295 (omega arith) value)
@@ -119,5 +131,6 @@ used_is args k value h = by k (has_is k args ∙ h)
     by : (k : Kind) → has_row (id_of k) (rows_by args) ≡ false → used (rule_by k) (raw_of k value) (rows_by args) ≡ rows_by (args ++ argument k value ∷ [])
     by lines m = add lines m
     by budget m = add budget m
+    by proofs m = add proofs m
     by seed m = add seed m
     by file m = add file m

@@ -17,8 +17,8 @@ use Rattle.clap.specs.Simple as simple
 use Rattle.clap.specs.declared.builder.value_parser.Reading.TheVariants.{AsWritten}
 use Rattle.clap.specs.declared.parser.matches.ValueSource.TheVariants.{DefaultValue}
 use Rattle.clap.proofs.FaultLemmas.{leaf_fault}
-use Rattle.solv_words.specs.CommandLine.{Argument, Kind, argument, arguments_from, budget, command_by, command_if_accepted, command_of, file, is_accepted, is_each_once, is_in_range, is_number, is_same, lines, number_by, number_of, seed, source_of, value_of}
-use Rattle.solv_words.specs.Inner.Clap.{form, id_of, row_of, rows_by, rules}
+use Rattle.solv_words.specs.CommandLine.{Argument, Kind, argument, arguments_from, budget, command_by, command_from, command_if_accepted, command_of, file, is_accepted, is_each_once, is_given, is_in_range, is_number, is_same, lines, number_by, number_of, proofs, seed, source_of, value_of}
+use Rattle.solv_words.specs.Inner.Clap.{form, id_of, row_of, rows_by, rows_with_flags, rules}
 use Rattle.std.proofs.lemmas.Bool.{leb-true}
 use Rattle.solv_words.specs.declared.command_line.Command.{Command}
 use Rattle.solv_words.specs.declared.command_line.Source.{Source}
@@ -37,6 +37,8 @@ no_default_fault k rows = by k (has_row (id_of k) rows) refl
     by lines false e = rw e refl
     by budget true e = rw e refl
     by budget false e = rw e refl
+    by proofs true e = rw e refl
+    by proofs false e = rw e refl
     by seed true e = rw e refl
     by seed false e = rw e refl
     by file true e = rw e refl
@@ -47,14 +49,24 @@ unfolding defaults_fault
 no_defaults_fault rows =
     let one = with_default rows (rule_by lines) in
     let two = with_default one (rule_by budget) in
-    let three = with_default two (rule_by seed) in
-    rw (no_default_fault lines rows, no_default_fault budget one, no_default_fault seed two, no_default_fault file three) refl
+    let three = with_default two (rule_by proofs) in
+    let four = with_default three (rule_by seed) in
+    rw (no_default_fault lines rows, no_default_fault budget one, no_default_fault proofs two, no_default_fault seed three, no_default_fault file four) refl
 
-no_default : (k : Kind) (rows : List Row) → is_same lines k ≡ false → with_default rows (rule_by k) ≡ rows
+-- an argument with a value, which has no default
+abbrev is_valued : Kind → Bool
+is_valued lines = false
+is_valued budget = true
+is_valued proofs = false
+is_valued seed = true
+is_valued file = true
+
+no_default : (k : Kind) (rows : List Row) → is_valued k ≡ true → with_default rows (rule_by k) ≡ rows
 no_default k rows h = by k (has_row (id_of k) rows) refl h
   where
-    by : (k : Kind) (b : Bool) → has_row (id_of k) rows ≡ b → is_same lines k ≡ false → with_default rows (rule_by k) ≡ rows
-    by lines b e h = absurd (true≢false h)
+    by : (k : Kind) (b : Bool) → has_row (id_of k) rows ≡ b → is_valued k ≡ true → with_default rows (rule_by k) ≡ rows
+    by lines b e h = absurd (true≢false (sym h))
+    by proofs b e h = absurd (true≢false (sym h))
     by budget true e h = rw e refl
     by budget false e h = rw e refl
     by seed true e h = rw e refl
@@ -67,7 +79,7 @@ no_default k rows h = by k (has_row (id_of k) rows) refl h
 -- a fault where there are no arguments, and else the rows of these
 abbrev pub FormIs : List Text → Option (List Argument) → Type 0
 FormIs words None = is_calm (fault_of form words) ≡ false
-FormIs words (Some args) = (fault_of form words ≡ []) × (matches_of form words ≡ with_default (rows_by args) (rule_by lines))
+FormIs words (Some args) = (fault_of form words ≡ []) × (matches_of form words ≡ rows_with_flags args)
 
 whole_fault : (words : List Text) → fault_of form words ≡ end_fault (walk_by [] nothing false false idle) (drop 1 words)
 whole_fault words =
@@ -76,10 +88,15 @@ whole_fault words =
     ∙ ap (λ ks. or_else (walk_fault shape [] (walk_by [] nothing false false idle) (drop 1 words)) (or_else (settle_fault rules false end) (or_else ks []))) (no_defaults_fault (settled rules end).rows)
     ∙ ap (or_else (walk_fault shape [] (walk_by [] nothing false false idle) (drop 1 words))) (then_none (settle_fault rules false end))
 
-whole_rows : (words : List Text) → matches_of form words ≡ with_default (end_rows (walk_by [] nothing false false idle) (drop 1 words)) (rule_by lines)
+-- the flags that are not given are added
+abbrev with_flags : List Row → List Row
+with_flags rows = with_default (with_default rows (rule_by lines)) (rule_by proofs)
+
+whole_rows : (words : List Text) → matches_of form words ≡ with_flags (end_rows (walk_by [] nothing false false idle) (drop 1 words))
 whole_rows words =
-    let rows = with_default (end_rows (walk_by [] nothing false false idle) (drop 1 words)) (rule_by lines) in
-    ap (λ r. with_default (with_default r (rule_by seed)) (rule_by file)) (no_default budget rows refl)
+    let first = with_default (end_rows (walk_by [] nothing false false idle) (drop 1 words)) (rule_by lines) in
+    let rows = with_default first (rule_by proofs) in
+    ap (λ r. with_default (with_default (with_default r (rule_by proofs)) (rule_by seed)) (rule_by file)) (no_default budget first refl)
     ∙ ap (λ r. with_default r (rule_by file)) (no_default seed rows refl)
     ∙ no_default file rows refl
 
@@ -88,25 +105,34 @@ form_is words text = by (accepted [] (arguments_from None (drop 1 words))) (walk
   where
     by : (o : Option (List Argument)) → Right (walk_by [] nothing false false idle) (drop 1 words) o → FormIs words o
     by None h = ap is_calm (whole_fault words) ∙ h
-    by (Some args) h = (whole_fault words ∙ h.0, whole_rows words ∙ ap (λ rows. with_default rows (rule_by lines)) h.1)
+    by (Some args) h = (whole_fault words ∙ h.0, whole_rows words ∙ ap with_flags h.1)
 
 -- ---- the arguments that are accepted
 
 same_turned : (a b : Kind) → is_same a b ≡ is_same b a
 same_turned lines lines = refl
 same_turned lines budget = refl
+same_turned lines proofs = refl
 same_turned lines seed = refl
 same_turned lines file = refl
 same_turned budget lines = refl
 same_turned budget budget = refl
+same_turned budget proofs = refl
 same_turned budget seed = refl
 same_turned budget file = refl
+same_turned proofs lines = refl
+same_turned proofs budget = refl
+same_turned proofs proofs = refl
+same_turned proofs seed = refl
+same_turned proofs file = refl
 same_turned seed lines = refl
 same_turned seed budget = refl
+same_turned seed proofs = refl
 same_turned seed seed = refl
 same_turned seed file = refl
 same_turned file lines = refl
 same_turned file budget = refl
+same_turned file proofs = refl
 same_turned file seed = refl
 same_turned file file = refl
 
@@ -179,10 +205,7 @@ refused_is (Some all) h = by (is_accepted all) refl (sym (ap (λ b. if b then So
 abbrev found : Kind → List Row → Option Row
 found k rows = find (λ r. bytes_eq r.id (id_of k)) rows
 
-abbrev is_valued : Kind → Bool
-is_valued k = not (is_same lines k)
-
--- the default of `-r` has no other name
+-- the default of a flag has no other name
 find_front : (k : Kind) (r : Row) (rows : List Row) → bytes_eq r.id (id_of k) ≡ false → found k (rows ++ r ∷ []) ≡ found k rows
 find_front k r [] h = rw h refl
 find_front k r (x ∷ rows) h = by (bytes_eq x.id (id_of k)) (find_front k r rows h)
@@ -191,26 +214,65 @@ find_front k r (x ∷ rows) h = by (bytes_eq x.id (id_of k)) (find_front k r row
     by true i = refl
     by false i = i
 
-abbrev default_row : Row
-default_row = record { id = id_of lines; values = codes "false" ∷ []; count = None; source = Some DefaultValue; reading = AsWritten }
+abbrev is_flag : Kind → Bool
+is_flag k = not (is_valued k)
 
-defaulted : (rows : List Row) → has_row (id_of lines) rows ≡ false → with_default rows (rule_by lines) ≡ rows ++ default_row ∷ []
-defaulted rows h = rw h (at_missing (id_of lines) (more_values DefaultValue (codes "false" ∷ [])) (default_row ∷ []) rows h)
+abbrev default_row : Kind → Row
+default_row k = record { id = id_of k; values = codes "false" ∷ []; count = None; source = Some DefaultValue; reading = AsWritten }
 
-present : (rows : List Row) → has_row (id_of lines) rows ≡ true → with_default rows (rule_by lines) ≡ rows
-present rows h = rw h refl
+defaulted : (k : Kind) (rows : List Row) → is_flag k ≡ true → has_row (id_of k) rows ≡ false → with_default rows (rule_by k) ≡ rows ++ default_row k ∷ []
+defaulted lines rows f h = rw h (at_missing (id_of lines) (more_values DefaultValue (codes "false" ∷ [])) (default_row lines ∷ []) rows h)
+defaulted budget rows f h = absurd (true≢false (sym f))
+defaulted proofs rows f h = rw h (at_missing (id_of proofs) (more_values DefaultValue (codes "false" ∷ [])) (default_row proofs ∷ []) rows h)
+defaulted seed rows f h = absurd (true≢false (sym f))
+defaulted file rows f h = absurd (true≢false (sym f))
 
-other_id : (k : Kind) → is_valued k ≡ true → bytes_eq (id_of lines) (id_of k) ≡ false
-other_id lines h = absurd (true≢false (sym h))
-other_id budget h = refl
-other_id seed h = refl
-other_id file h = refl
+present : (k : Kind) (rows : List Row) → has_row (id_of k) rows ≡ true → with_default rows (rule_by k) ≡ rows
+present lines rows h = rw h refl
+present budget rows h = rw h refl
+present proofs rows h = rw h refl
+present seed rows h = rw h refl
+present file rows h = rw h refl
 
-found_past : (k : Kind) (rows : List Row) → is_valued k ≡ true → found k (with_default rows (rule_by lines)) ≡ found k rows
-found_past k rows h = elim (true_or_false (has_row (id_of lines) rows)) [
-  | inl e ↦ ap (found k) (present rows e)
-  | inr e ↦ ap (found k) (defaulted rows e) ∙ find_front k default_row rows (other_id k h)
+-- a kind is found as before a flag of another name is added
+found_past : (flag k : Kind) (rows : List Row) → is_flag flag ≡ true → bytes_eq (id_of flag) (id_of k) ≡ false → found k (with_default rows (rule_by flag)) ≡ found k rows
+found_past flag k rows f h = elim (true_or_false (has_row (id_of flag) rows)) [
+  | inl e ↦ ap (found k) (present flag rows e)
+  | inr e ↦ ap (found k) (defaulted flag rows f e) ∙ find_front k (default_row flag) rows h
 ]
+
+has_front : (k : Kind) (r : Row) (rows : List Row) → bytes_eq r.id (id_of k) ≡ false → has_row (id_of k) (rows ++ r ∷ []) ≡ has_row (id_of k) rows
+has_front k r [] h = rw h refl
+has_front k r (x ∷ rows) h = ap (λ b. bytes_eq x.id (id_of k) || b) (has_front k r rows h)
+
+has_past : (flag k : Kind) (rows : List Row) → is_flag flag ≡ true → bytes_eq (id_of flag) (id_of k) ≡ false → has_row (id_of k) (with_default rows (rule_by flag)) ≡ has_row (id_of k) rows
+has_past flag k rows f h = elim (true_or_false (has_row (id_of flag) rows)) [
+  | inl e ↦ ap (has_row (id_of k)) (present flag rows e)
+  | inr e ↦ ap (has_row (id_of k)) (defaulted flag rows f e) ∙ has_front k (default_row flag) rows h
+]
+
+other_id : (flag k : Kind) → is_flag flag ≡ true → is_valued k ≡ true → bytes_eq (id_of flag) (id_of k) ≡ false
+other_id flag k f h = by flag k f h
+  where
+    by : (flag k : Kind) → is_flag flag ≡ true → is_valued k ≡ true → bytes_eq (id_of flag) (id_of k) ≡ false
+    by lines lines f h = absurd (true≢false (sym h))
+    by lines budget f h = refl
+    by lines proofs f h = absurd (true≢false (sym h))
+    by lines seed f h = refl
+    by lines file f h = refl
+    by proofs lines f h = absurd (true≢false (sym h))
+    by proofs budget f h = refl
+    by proofs proofs f h = absurd (true≢false (sym h))
+    by proofs seed f h = refl
+    by proofs file f h = refl
+    by budget k f h = absurd (true≢false (sym f))
+    by seed k f h = absurd (true≢false (sym f))
+    by file k f h = absurd (true≢false (sym f))
+
+found_past_flags : (k : Kind) (rows : List Row) → is_valued k ≡ true → found k (with_flags rows) ≡ found k rows
+found_past_flags k rows h =
+    found_past proofs k (with_default rows (rule_by lines)) refl (other_id proofs k refl h)
+    ∙ found_past lines k rows refl (other_id lines k refl h)
 
 abbrev first_value_of : Option Row → Option Text
 first_value_of o = option_and_then (λ r. slice_get r.values 0) o
@@ -225,19 +287,23 @@ valued k h (a ∷ args) = by k a.kind h (valued k h args)
     by lines kind h i = absurd (true≢false (sym h))
     by budget lines h i = i
     by budget budget h i = refl
+    by budget proofs h i = i
     by budget seed h i = i
     by budget file h i = i
+    by proofs kind h i = absurd (true≢false (sym h))
     by seed lines h i = i
     by seed budget h i = i
+    by seed proofs h i = i
     by seed seed h i = refl
     by seed file h i = i
     by file lines h i = i
     by file budget h i = i
+    by file proofs h i = i
     by file seed h i = i
     by file file h i = refl
 
-pub first_is : (k : Kind) → is_valued k ≡ true → (args : List Argument) → first_of (id_of k) (with_default (rows_by args) (rule_by lines)) ≡ value_of k args
-first_is k h args = ap first_value_of (found_past k (rows_by args) h) ∙ valued k h args
+pub first_is : (k : Kind) → is_valued k ≡ true → (args : List Argument) → first_of (id_of k) (rows_with_flags args) ≡ value_of k args
+first_is k h args = ap first_value_of (found_past_flags k (rows_by args) h) ∙ valued k h args
 
 -- a number is read without `-`
 numbered : (k : Kind) → is_option k ≡ true → (args : List Argument) → option_and_then row_text (found k (rows_by args)) ≡ option_map without_minus (value_of k args)
@@ -247,46 +313,66 @@ numbered k h (a ∷ args) = by k a.kind h (numbered k h args)
     by : (k kind : Kind) → is_option k ≡ true → option_and_then row_text (found k (rows_by args)) ≡ option_map without_minus (value_of k args)
         → option_and_then row_text (found k (rows_by (argument kind a.value ∷ args))) ≡ option_map without_minus (value_of k (argument kind a.value ∷ args))
     by lines kind h i = absurd (true≢false (sym h))
-    by file kind h i = absurd (true≢false (sym h))
     by budget lines h i = i
     by budget budget h i = refl
+    by budget proofs h i = i
     by budget seed h i = i
     by budget file h i = i
+    by proofs kind h i = absurd (true≢false (sym h))
     by seed lines h i = i
     by seed budget h i = i
+    by seed proofs h i = i
     by seed seed h i = refl
     by seed file h i = i
+    by file kind h i = absurd (true≢false (sym h))
 
 option_valued : (k : Kind) → is_option k ≡ true → is_valued k ≡ true
 option_valued lines h = absurd (true≢false (sym h))
 option_valued budget h = refl
+option_valued proofs h = absurd (true≢false (sym h))
 option_valued seed h = refl
 option_valued file h = refl
 
-pub one_is : (k : Kind) → is_option k ≡ true → (args : List Argument) → one_of (id_of k) (with_default (rows_by args) (rule_by lines)) ≡ option_map without_minus (value_of k args)
-one_is k h args = ap (option_and_then row_text) (found_past k (rows_by args) (option_valued k h)) ∙ numbered k h args
+pub one_is : (k : Kind) → is_option k ≡ true → (args : List Argument) → one_of (id_of k) (rows_with_flags args) ≡ option_map without_minus (value_of k args)
+one_is k h args = ap (option_and_then row_text) (found_past_flags k (rows_by args) (option_valued k h)) ∙ numbered k h args
 
--- `-r` reads as true where it is given, and else as false
-flagged : (args : List Argument) → has_row (id_of lines) (rows_by args) ≡ true → option_and_then row_text (found lines (rows_by args)) ≡ Some (codes "true")
-flagged [] h = absurd (true≢false (sym h))
-flagged (a ∷ args) h = by a.kind h (flagged args)
+-- a flag reads as true where it is given, and else as false
+flagged : (k : Kind) → is_flag k ≡ true → (args : List Argument) → has_row (id_of k) (rows_by args) ≡ true → option_and_then row_text (found k (rows_by args)) ≡ Some (codes "true")
+flagged k f [] h = absurd (true≢false (sym h))
+flagged k f (a ∷ args) h = by k a.kind f h (flagged k f args)
   where
-    by : (kind : Kind) → has_row (id_of lines) (rows_by (argument kind a.value ∷ args)) ≡ true
-        → (has_row (id_of lines) (rows_by args) ≡ true → option_and_then row_text (found lines (rows_by args)) ≡ Some (codes "true"))
-        → option_and_then row_text (found lines (rows_by (argument kind a.value ∷ args))) ≡ Some (codes "true")
-    by lines h i = refl
-    by budget h i = i h
-    by seed h i = i h
-    by file h i = i h
+    by : (k kind : Kind) → is_flag k ≡ true → has_row (id_of k) (rows_by (argument kind a.value ∷ args)) ≡ true
+        → (has_row (id_of k) (rows_by args) ≡ true → option_and_then row_text (found k (rows_by args)) ≡ Some (codes "true"))
+        → option_and_then row_text (found k (rows_by (argument kind a.value ∷ args))) ≡ Some (codes "true")
+    by lines lines f h i = refl
+    by lines budget f h i = i h
+    by lines proofs f h i = i h
+    by lines seed f h i = i h
+    by lines file f h i = i h
+    by budget kind f h i = absurd (true≢false (sym f))
+    by proofs lines f h i = i h
+    by proofs budget f h i = i h
+    by proofs proofs f h i = refl
+    by proofs seed f h i = i h
+    by proofs file f h i = i h
+    by seed kind f h i = absurd (true≢false (sym f))
+    by file kind f h i = absurd (true≢false (sym f))
 
-unflagged : (rows : List Row) → has_row (id_of lines) rows ≡ false → found lines (rows ++ default_row ∷ []) ≡ Some default_row
-unflagged [] h = refl
-unflagged (r ∷ rows) h = by (bytes_eq r.id (id_of lines)) h (unflagged rows)
+same_flag : (k : Kind) → bytes_eq (id_of k) (id_of k) ≡ true
+same_flag lines = refl
+same_flag budget = refl
+same_flag proofs = refl
+same_flag seed = refl
+same_flag file = refl
+
+unflagged : (k : Kind) (rows : List Row) → has_row (id_of k) rows ≡ false → found k (rows ++ default_row k ∷ []) ≡ Some (default_row k)
+unflagged k [] h = rw (same_flag k) refl
+unflagged k (r ∷ rows) h = by (bytes_eq r.id (id_of k)) h (unflagged k rows)
   where
-    by : (b : Bool) → (b || has_row (id_of lines) rows) ≡ false → (has_row (id_of lines) rows ≡ false → found lines (rows ++ default_row ∷ []) ≡ Some default_row)
-        → cond b (Some r) (found lines (rows ++ default_row ∷ [])) ≡ Some default_row
-    by true k i = absurd (true≢false k)
-    by false k i = i k
+    by : (b : Bool) → (b || has_row (id_of k) rows) ≡ false → (has_row (id_of k) rows ≡ false → found k (rows ++ default_row k ∷ []) ≡ Some (default_row k))
+        → cond b (Some r) (found k (rows ++ default_row k ∷ [])) ≡ Some (default_row k)
+    by true w i = absurd (true≢false w)
+    by false w i = i w
 
 has_value : (k : Kind) (args : List Argument) → list_any (λ a. is_same k a.kind) args ≡ is_some (value_of k args)
 has_value k [] = refl
@@ -297,33 +383,55 @@ has_value k (a ∷ args) = by (is_same k a.kind) (has_value k args)
     by true i = refl
     by false i = i
 
-pub flag_is : (args : List Argument) → one_of (id_of lines) (with_default (rows_by args) (rule_by lines)) ≡ Some (if is_some (value_of lines args) then codes "true" else codes "false")
-flag_is args = by (has_row (id_of lines) (rows_by args)) refl
+-- so a flag reads, of rows with its default among which it is as among those of the arguments
+flag_read : (k : Kind) → is_flag k ≡ true → (rows : List Row) (args : List Argument) → has_row (id_of k) rows ≡ has_row (id_of k) (rows_by args) → found k rows ≡ found k (rows_by args)
+    → option_and_then row_text (found k (with_default rows (rule_by k))) ≡ Some (if is_given k args then codes "true" else codes "false")
+flag_read k f rows args has same = by (has_row (id_of k) (rows_by args)) refl
   where
-    same : has_row (id_of lines) (rows_by args) ≡ is_some (value_of lines args)
-    same = has_is lines args ∙ has_value lines args
+    given : has_row (id_of k) (rows_by args) ≡ is_given k args
+    given = has_is k args ∙ has_value k args
 
-    by : (b : Bool) → has_row (id_of lines) (rows_by args) ≡ b → one_of (id_of lines) (with_default (rows_by args) (rule_by lines)) ≡ Some (if is_some (value_of lines args) then codes "true" else codes "false")
-    by true e = ap (λ rows. option_and_then row_text (found lines rows)) (present (rows_by args) e) ∙ flagged args e ∙ ap (λ b. Some (if b then codes "true" else codes "false")) (sym e ∙ same)
-    by false e = ap (λ rows. option_and_then row_text (found lines rows)) (defaulted (rows_by args) e) ∙ ap (option_and_then row_text) (unflagged (rows_by args) e) ∙ ap (λ b. Some (if b then codes "true" else codes "false")) (sym e ∙ same)
+    by : (b : Bool) → has_row (id_of k) (rows_by args) ≡ b → option_and_then row_text (found k (with_default rows (rule_by k))) ≡ Some (if is_given k args then codes "true" else codes "false")
+    by true e =
+        ap (λ r. option_and_then row_text (found k r)) (present k rows (has ∙ e)) ∙ ap (option_and_then row_text) same ∙ flagged k f args e
+        ∙ ap (λ b. Some (if b then codes "true" else codes "false")) (sym e ∙ given)
+    by false e =
+        ap (λ r. option_and_then row_text (found k r)) (defaulted k rows f (has ∙ e)) ∙ ap (option_and_then row_text) (unflagged k rows (has ∙ e))
+        ∙ ap (λ b. Some (if b then codes "true" else codes "false")) (sym e ∙ given)
+
+pub lines_flag_is : (args : List Argument) → one_of (id_of lines) (rows_with_flags args) ≡ Some (if is_given lines args then codes "true" else codes "false")
+lines_flag_is args = ap (option_and_then row_text) (found_past proofs lines (with_default (rows_by args) (rule_by lines)) refl refl) ∙ flag_read lines refl (rows_by args) args refl refl
+
+pub proofs_flag_is : (args : List Argument) → one_of (id_of proofs) (rows_with_flags args) ≡ Some (if is_given proofs args then codes "true" else codes "false")
+proofs_flag_is args =
+    flag_read proofs refl (with_default (rows_by args) (rule_by lines)) args (has_past lines proofs (rows_by args) refl refl) (found_past lines proofs (rows_by args) refl refl)
 
 same_kind : (a b : Kind) → is_same a b ≡ true → a ≡ b
 same_kind lines lines h = refl
-same_kind budget budget h = refl
-same_kind seed seed h = refl
-same_kind file file h = refl
 same_kind lines budget h = absurd (true≢false (sym h))
+same_kind lines proofs h = absurd (true≢false (sym h))
 same_kind lines seed h = absurd (true≢false (sym h))
 same_kind lines file h = absurd (true≢false (sym h))
 same_kind budget lines h = absurd (true≢false (sym h))
+same_kind budget budget h = refl
+same_kind budget proofs h = absurd (true≢false (sym h))
 same_kind budget seed h = absurd (true≢false (sym h))
 same_kind budget file h = absurd (true≢false (sym h))
+same_kind proofs lines h = absurd (true≢false (sym h))
+same_kind proofs budget h = absurd (true≢false (sym h))
+same_kind proofs proofs h = refl
+same_kind proofs seed h = absurd (true≢false (sym h))
+same_kind proofs file h = absurd (true≢false (sym h))
 same_kind seed lines h = absurd (true≢false (sym h))
 same_kind seed budget h = absurd (true≢false (sym h))
+same_kind seed proofs h = absurd (true≢false (sym h))
+same_kind seed seed h = refl
 same_kind seed file h = absurd (true≢false (sym h))
 same_kind file lines h = absurd (true≢false (sym h))
 same_kind file budget h = absurd (true≢false (sym h))
+same_kind file proofs h = absurd (true≢false (sym h))
 same_kind file seed h = absurd (true≢false (sym h))
+same_kind file file h = refl
 
 -- a number that is accepted is in its range
 pub in_range : (k : Kind) (args : List Argument) (v : List ℕ) → list_all is_in_range args ≡ true → value_of k args ≡ Some v → is_in_range (argument k v) ≡ true
@@ -345,7 +453,7 @@ in_range k (a ∷ args) v h e = by (is_same k a.kind) refl e (in_range k args v 
 -- the words are taken: they are arguments that are accepted
 pub record Taken (words : List Text) : Type 0 where
   pub args : List Argument
-  pub rows : matches_of form words ≡ with_default (rows_by args) (rule_by lines)
+  pub rows : matches_of form words ≡ rows_with_flags args
   pub accepted : is_accepted args ≡ true
   pub command : command_of words ≡ command_by args
 
@@ -379,7 +487,7 @@ among k (x ∷ xs) h = refl
 
 -- the budget of arguments that are accepted is in its range
 pub small_budget : (args : List Argument) (command : Option Command) → is_accepted args ≡ true → command ≡ command_by args → IfSome command (λ said. said.budget ≤ 1000000)
-small_budget args command h e = let P : Option Command → Type 0 = λ o. IfSome o (λ said. said.budget ≤ 1000000) in subst P (sym e) (by (source_of (value_of file args) (number_by seed args)))
+small_budget args command h e = let P : Option Command → Type 0 = λ o. IfSome o (λ said. said.budget ≤ 1000000) in subst P (sym e) (by (source_of (is_given proofs args) (value_of file args) (number_by seed args)))
   where
     number : (o : Option (List ℕ)) → value_of budget args ≡ o → unwrap_or (option_map number_of o) 100000 ≤ 1000000
     number None is = omega arith
@@ -387,6 +495,6 @@ small_budget args command h e = let P : Option Command → Type 0 = λ o. IfSome
         let passed = in_range budget args v (second_of_both (is_each_once args) (list_all is_in_range args) h) is in
         leb-true (number_of v) 1000000 (first_of_both (nat_le (number_of v) 1000000) _ (second_of_both _ _ passed))
 
-    by : (o : Option Source) → IfSome (option_map (λ source. record { shows = is_some (value_of lines args); budget = unwrap_or (number_by budget args) 100000; source = source }) o) (λ (said : Command). said.budget ≤ 1000000)
+    by : (o : Option Source) → IfSome (option_map (command_from args) o) (λ (said : Command). said.budget ≤ 1000000)
     by None = tt
     by (Some source) = number (value_of budget args) refl

@@ -11,10 +11,10 @@ use Rattle.clap.specs.Walk.{Row, Text, Waiting, Walk, idle, option, positional_h
 use Rattle.clap.specs.Simple.{Shape}
 use Rattle.clap.specs.Simple as simple
 use Rattle.clap.proofs.OnLiterals.{clap_on_literals}
-use Rattle.solv_words.specs.CommandLine.{Argument, Kind, argument, arguments_from, budget, file, is_same, is_value, lines, seed, with_argument}
+use Rattle.solv_words.specs.CommandLine.{Argument, Kind, argument, arguments_from, budget, file, is_same, is_value, lines, proofs, seed, with_argument}
 use Rattle.solv_words.specs.Inner.Clap.{form, id_of, rows_by, rules}
 use Rattle.solv_words.proofs.ClapArguments.{fits, is_calm, raw_of, rule_by, use_is, used_is}
-use Rattle.solv_words.proofs.ClapWords.{Class, IsPlain, IsStrange, Pend, classify, got, held_by, is_end, is_flag, is_given, is_name, is_option, is_plain, is_strange, name_of, nothing, pending_by, waits}
+use Rattle.solv_words.proofs.ClapWords.{Class, IsPlain, IsStrange, Pend, classify, got, held_by, is_end, is_flag, is_given, is_name, is_option, is_plain, is_proof, is_strange, name_of, nothing, pending_by, waits}
 use Rattle.solv_list.proofs.Booleans.{and_true, first_of_both, second_of_both, false_of_not, true_or_false}
 
 abbrev pub shape : Shape
@@ -76,12 +76,14 @@ data Settling (args : List Argument) (p : Pend) : Type 0 where
 got_fault : (args : List Argument) (k : Kind) (value : List ℕ) → settle_fault rules false (held_by args (got k value)) ≡ use_fault false (rule_by k) (raw_of k value) (rows_by args)
 got_fault args lines value = refl
 got_fault args budget value = refl
+got_fault args proofs value = refl
 got_fault args seed value = refl
 got_fault args file value = refl
 
 got_rows : (args : List Argument) (k : Kind) (value : List ℕ) → settled_rows rules (pending_by (got k value)) (rows_by args) ≡ used (rule_by k) (raw_of k value) (rows_by args)
 got_rows args lines value = refl
 got_rows args budget value = refl
+got_rows args proofs value = refl
 got_rows args seed value = refl
 got_rows args file value = refl
 
@@ -111,6 +113,7 @@ settling args (got k value) h = elim (true_or_false (fits args (argument k value
 waits_fault : (args : List Argument) (k : Kind) → is_option k ≡ true → is_calm (settle_fault rules false (held_by args (waits k))) ≡ false
 waits_fault args lines h = absurd (true≢false (sym h))
 waits_fault args budget h = refl
+waits_fault args proofs h = absurd (true≢false (sym h))
 waits_fault args seed h = refl
 waits_fault args file h = absurd (true≢false (sym h))
 
@@ -185,6 +188,7 @@ file_turn args nothing is_trailing waiting word ready = refl
 file_turn args (waits k) is_trailing waiting word ready = absurd (true≢false (sym ready))
 file_turn args (got lines value) is_trailing waiting word ready = refl
 file_turn args (got budget value) is_trailing waiting word ready = refl
+file_turn args (got proofs value) is_trailing waiting word ready = refl
 file_turn args (got seed value) is_trailing waiting word ready = refl
 file_turn args (got file value) is_trailing waiting word ready = refl
 
@@ -194,6 +198,7 @@ file_held args nothing word ready = refl
 file_held args (waits k) word ready = absurd (true≢false (sym ready))
 file_held args (got lines value) word ready = refl
 file_held args (got budget value) word ready = refl
+file_held args (got proofs value) word ready = refl
 file_held args (got seed value) word ready = refl
 file_held args (got file value) word ready = refl
 
@@ -239,6 +244,7 @@ trail_waits [] args k has_file waiting h = waits_fault args k h
 trail_waits (word ∷ rest) args k true waiting h = give_up (walk_by args (waits k) true true waiting) word rest None refl refl
 trail_waits (word ∷ rest) args lines false waiting h = absurd (true≢false (sym h))
 trail_waits (word ∷ rest) args budget false waiting h = give_up (walk_by args (waits budget) false true waiting) word rest None refl refl
+trail_waits (word ∷ rest) args proofs false waiting h = absurd (true≢false (sym h))
 trail_waits (word ∷ rest) args seed false waiting h = give_up (walk_by args (waits seed) false true waiting) word rest None refl refl
 trail_waits (word ∷ rest) args file false waiting h = absurd (true≢false (sym h))
 
@@ -315,12 +321,21 @@ flag_ready rest later args p has_file ready has =
     after_use (codes "-r") rest later args p has_file lines [] ready has
     (then_none _ ∙ then_none _) refl refl
 
+-- `--proof`
+proof_ready : (rest : List Text) (later : Claims rest) (args : List Argument) (p : Pend) (has_file : Bool) → is_ready p ≡ true → HasFile has_file args p
+    → Right (walk_by args p has_file false idle) (codes "--proof" ∷ rest) (accepted args (behind p (arguments_from None (codes "--proof" ∷ rest))))
+unfolding used_walk clap_on_literals
+proof_ready rest later args p has_file ready has =
+    after_use (codes "--proof") rest later args p has_file proofs [] ready has
+    (then_none _) refl refl
+
 -- `--budget=N` and `--grow=SEED`
 given_ready : (rest : List Text) (later : Claims rest) (args : List Argument) (p : Pend) (has_file : Bool) (k : Kind) (value : List ℕ) → is_option k ≡ true → is_ready p ≡ true → HasFile has_file args p
     → Right (walk_by args p has_file false idle) ((45 ∷ 45 ∷ (name_of k ++ 61 ∷ value)) ∷ rest) (accepted args (behind p (arguments_from None ((45 ∷ 45 ∷ (name_of k ++ 61 ∷ value)) ∷ rest))))
 unfolding used_walk clap_on_literals
 given_ready rest later args p has_file lines value o ready has = absurd (true≢false (sym o))
 given_ready rest later args p has_file budget value o ready has = after_use (45 ∷ 45 ∷ (name_of budget ++ 61 ∷ value)) rest later args p has_file budget value ready has (then_none _) refl refl
+given_ready rest later args p has_file proofs value o ready has = absurd (true≢false (sym o))
 given_ready rest later args p has_file seed value o ready has = after_use (45 ∷ 45 ∷ (name_of seed ++ 61 ∷ value)) rest later args p has_file seed value ready has (then_none _) refl refl
 given_ready rest later args p has_file file value o ready has = absurd (true≢false (sym o))
 
@@ -355,6 +370,7 @@ name_ready : (rest : List Text) (later : Claims rest) (args : List Argument) (p 
 unfolding option_word clap_on_literals
 name_ready rest later args p has_file lines o ready has = absurd (true≢false (sym o))
 name_ready rest later args p has_file budget o ready has = after_name rest later args p has_file budget o ready has (then_none _) refl
+name_ready rest later args p has_file proofs o ready has = absurd (true≢false (sym o))
 name_ready rest later args p has_file seed o ready has = after_name rest later args p has_file seed o ready has (then_none _) refl
 name_ready rest later args p has_file file o ready has = absurd (true≢false (sym o))
 
@@ -424,6 +440,7 @@ word_ready word rest later text args p has_file ready has =
     elim (classify word text) [
       | is_end e ↦ subst P (sym e) (end_ready rest args p has_file ready has)
       | is_flag e ↦ subst P (sym e) (flag_ready rest later args p has_file ready has)
+      | is_proof e ↦ subst P (sym e) (proof_ready rest later args p has_file ready has)
       | is_name k o e ↦ subst P (sym e) (name_ready rest later args p has_file k o ready has)
       | is_given k value o e ↦ subst P (sym e) (given_ready rest later args p has_file k value o ready has)
       | is_plain w ↦ file_ready word rest later args p has_file w ready has
@@ -439,6 +456,7 @@ value_walked : (args : List Argument) (k : Kind) (has_file : Bool) (word : Text)
 unfolding walked
 value_walked args lines has_file word o w = absurd (true≢false (sym o))
 value_walked args budget has_file word o w = rw (w.no_end, w.no_long, w.no_short) refl
+value_walked args proofs has_file word o w = absurd (true≢false (sym o))
 value_walked args seed has_file word o w = rw (w.no_end, w.no_long, w.no_short) refl
 value_walked args file has_file word o w = absurd (true≢false (sym o))
 
@@ -463,32 +481,47 @@ flag_waits : (args : List Argument) (k : Kind) (has_file : Bool) → is_option k
 unfolding clap_on_literals
 flag_waits args lines has_file o = absurd (true≢false (sym o))
 flag_waits args budget has_file o = refl
+flag_waits args proofs has_file o = absurd (true≢false (sym o))
 flag_waits args seed has_file o = refl
 flag_waits args file has_file o = absurd (true≢false (sym o))
+
+proof_waits : (args : List Argument) (k : Kind) (has_file : Bool) → is_option k ≡ true → is_calm (turn_fault shape [] (walk_by args (waits k) has_file false (option (id_of k))) (codes "--proof")) ≡ false
+unfolding clap_on_literals
+proof_waits args lines has_file o = absurd (true≢false (sym o))
+proof_waits args budget has_file o = refl
+proof_waits args proofs has_file o = absurd (true≢false (sym o))
+proof_waits args seed has_file o = refl
+proof_waits args file has_file o = absurd (true≢false (sym o))
 
 name_waits : (args : List Argument) (k other : Kind) (has_file : Bool) → is_option k ≡ true → is_option other ≡ true
     → is_calm (turn_fault shape [] (walk_by args (waits k) has_file false (option (id_of k))) (45 ∷ 45 ∷ name_of other)) ≡ false
 name_waits args lines other has_file o h = absurd (true≢false (sym o))
+name_waits args proofs other has_file o h = absurd (true≢false (sym o))
 name_waits args file other has_file o h = absurd (true≢false (sym o))
 name_waits args budget lines has_file o h = absurd (true≢false (sym h))
 name_waits args budget budget has_file o h = refl
+name_waits args budget proofs has_file o h = absurd (true≢false (sym h))
 name_waits args budget seed has_file o h = refl
 name_waits args budget file has_file o h = absurd (true≢false (sym h))
 name_waits args seed lines has_file o h = absurd (true≢false (sym h))
 name_waits args seed budget has_file o h = refl
+name_waits args seed proofs has_file o h = absurd (true≢false (sym h))
 name_waits args seed seed has_file o h = refl
 name_waits args seed file has_file o h = absurd (true≢false (sym h))
 
 given_waits : (args : List Argument) (k other : Kind) (value : List ℕ) (has_file : Bool) → is_option k ≡ true → is_option other ≡ true
     → is_calm (turn_fault shape [] (walk_by args (waits k) has_file false (option (id_of k))) (45 ∷ 45 ∷ (name_of other ++ 61 ∷ value))) ≡ false
 given_waits args lines other value has_file o h = absurd (true≢false (sym o))
+given_waits args proofs other value has_file o h = absurd (true≢false (sym o))
 given_waits args file other value has_file o h = absurd (true≢false (sym o))
 given_waits args budget lines value has_file o h = absurd (true≢false (sym h))
 given_waits args budget budget value has_file o h = refl
+given_waits args budget proofs value has_file o h = absurd (true≢false (sym h))
 given_waits args budget seed value has_file o h = refl
 given_waits args budget file value has_file o h = absurd (true≢false (sym h))
 given_waits args seed lines value has_file o h = absurd (true≢false (sym h))
 given_waits args seed budget value has_file o h = refl
+given_waits args seed proofs value has_file o h = absurd (true≢false (sym h))
 given_waits args seed seed value has_file o h = refl
 given_waits args seed file value has_file o h = absurd (true≢false (sym h))
 
@@ -502,6 +535,7 @@ word_waits word rest later text args k has_file o has =
     elim (classify word text) [
       | is_end e ↦ subst P (sym e) (go_on _ _ (codes "--") rest None refl (end_waits args k has_file) (trail_waits rest args k has_file (option (id_of k)) o))
       | is_flag e ↦ subst P (sym e) (give_up _ (codes "-r") rest _ (flag_waits args k has_file o) refl)
+      | is_proof e ↦ subst P (sym e) (give_up _ (codes "--proof") rest _ (proof_waits args k has_file o) refl)
       | is_name other h e ↦ subst P (sym e) (give_up _ _ rest _ (name_waits args k other has_file o h) refl)
       | is_given other value h e ↦ subst P (sym e) (give_up _ _ rest _ (given_waits args k other value has_file o h) refl)
       | is_plain w ↦ value_waits word rest later args k has_file o has w

@@ -1,4 +1,4 @@
--- The words of a command line: `testsolv [-r] [--budget N] [--grow SEED] FILE`.
+-- The words of a command line: `testsolv [-r] [--budget N] [--proof] [--grow SEED] FILE`.
 use Rattle.std.specs.Prelude.{ℕ, ◌==◌, ◌&&◌, ◌||◌, not, Bool, true, false, List, [], ◌∷◌, map, take, drop, length, find, codes, nat_lt, nat_le, Option, Some, None, is_some, option_map, option_and_then, unwrap_or, if◌then◌else◌}
 use Rattle.std.specs.Char.{digit_value}
 use Rattle.std.specs.List.{list_all, list_any}
@@ -8,21 +8,23 @@ use Rattle.solv_words.specs.declared.command_line.Command.{Command}
 use Rattle.solv_words.specs.declared.command_line.Source.{Source}
 use Rattle.solv_words.specs.declared.command_line.Source.TheVariants.{File, Seed}
 
--- what an argument gives: `-r` asks for the result lines; `--budget N` and `--grow SEED` have a number; FILE names a script
+-- what an argument gives: `-r` asks for the result lines and `--proof` for proofs; `--budget N` and `--grow SEED` have a number; FILE names a script
 pub data Kind : Type 0 where
   lines : Kind
   budget : Kind
+  proofs : Kind
   seed : Kind
   file : Kind
 
 abbrev pub is_same : Kind → Kind → Bool
 is_same lines lines = true
 is_same budget budget = true
+is_same proofs proofs = true
 is_same seed seed = true
 is_same file file = true
 is_same a b = false
 
--- an argument with its value, which is empty for `-r`
+-- an argument with its value, which is empty for `-r` and `--proof`
 pub record Argument : Type 0 where
   pub kind : Kind
   pub value : List ℕ
@@ -56,9 +58,10 @@ abbrev pub word_of : List ℕ → Word
 word_of word =
     if bytes_eq word (codes "--") then end_of_options
     else (if bytes_eq word (codes "-r") then whole (argument lines [])
+    else (if bytes_eq word (codes "--proof") then whole (argument proofs [])
     else (if bytes_eq word (codes "--budget") then option budget
     else (if bytes_eq word (codes "--grow") then option seed
-    else with_attached word)))
+    else with_attached word))))
 
 abbrev pub with_argument : Argument → Option (List Argument) → Option (List Argument)
 with_argument a = option_map (λ behind. a ∷ behind)
@@ -90,6 +93,7 @@ abbrev pub is_in_range : Argument → Bool
 is_in_range a = elim a.kind [
   | lines ↦ true
   | budget ↦ is_number 1000000 a.value
+  | proofs ↦ true
   | seed ↦ is_number 4294967295 a.value
   | file ↦ true
 ]
@@ -103,11 +107,14 @@ is_each_once (a ∷ behind) = not (list_any (λ b. is_same a.kind b.kind) behind
 abbrev pub value_of : Kind → List Argument → Option (List ℕ)
 value_of kind arguments = option_map (λ a. a.value) (find (λ a. is_same kind a.kind) arguments)
 
--- either a FILE or a seed
-abbrev pub source_of : Option (List ℕ) → Option ℕ → Option Source
-source_of (Some name) None = Some (File name)
-source_of None (Some number) = Some (Seed number)
-source_of named grown = None
+-- either a FILE, or a seed of which no proofs are asked for
+abbrev pub source_of : Bool → Option (List ℕ) → Option ℕ → Option Source
+source_of proves (Some name) None = Some (File name)
+source_of false None (Some number) = Some (Seed number)
+source_of proves named grown = None
+
+abbrev pub is_given : Kind → List Argument → Bool
+is_given kind arguments = is_some (value_of kind arguments)
 
 -- the number that an argument gives
 abbrev pub number_by : Kind → List Argument → Option ℕ
@@ -119,18 +126,19 @@ is_accepted arguments = is_each_once arguments && list_all is_in_range arguments
 -- the command of arguments that name this source
 abbrev pub command_from : List Argument → Source → Command
 command_from arguments source = record {
-  shows = is_some (value_of lines arguments);
+  shows = is_given lines arguments;
   budget = unwrap_or (number_by budget arguments) 100000;
+  proves = is_given proofs arguments;
   source = source;
 }
 
 abbrev pub command_by : List Argument → Option Command
-command_by arguments = option_map (command_from arguments) (source_of (value_of file arguments) (number_by seed arguments))
+command_by arguments = option_map (command_from arguments) (source_of (is_given proofs arguments) (value_of file arguments) (number_by seed arguments))
 
 abbrev pub command_if_accepted : List Argument → Option Command
 command_if_accepted arguments = if is_accepted arguments then command_by arguments else None
 
 -- What the words say, the first of which is the program's name. Each argument is given at most once, in any order, with a number in its range; and either FILE
--- or a seed. Without `--budget` the budget is 100000.
+-- or a seed, with which `--proof` does not stand. Without `--budget` the budget is 100000.
 abbrev pub command_of : List (List ℕ) → Option Command
 command_of words = option_and_then command_if_accepted (arguments_from None (drop 1 words))

@@ -1,9 +1,9 @@
 //! The words of a command line.
-ghost use Rattle.std.specs.Prelude.{◌≡◌, ◌≤◌, ℕ, true, List, Option, is_some, IfOk, IfSome, map, string_bytes};
+ghost use Rattle.std.specs.Prelude.{◌≡◌, ◌≤◌, ℕ, true, List, Option, IfOk, IfSome, map, string_bytes};
 ghost use Rattle.std.specs.List.{list_all};
 ghost use Rattle.std.specs.Option.{option_copied};
 ghost use Rattle.clap.specs.Words.{app_of};
-ghost use Rattle.solv_words.specs.CommandLine.{Argument, budget, command_by, command_of, file, is_accepted, is_in_range, lines, number_by, seed, source_of, value_of};
+ghost use Rattle.solv_words.specs.CommandLine.{Argument, budget, command_by, command_of, file, is_accepted, is_given, is_in_range, lines, number_by, proofs, seed, source_of, value_of};
 ghost use Rattle.solv_words.specs.Inner.Clap.{HasRows, form};
 
 use clap::error::ErrorKind;
@@ -19,11 +19,13 @@ pub enum Source {
 }
 
 /// What a command line says: whether the result lines are printed also where a script says which it expects, how many rules
-/// may be learnt, and what is solved.
+/// may be learnt, whether proofs of the problems are printed in place of all lines, and what is solved. Of the script of a
+/// seed no proofs are printed.
 #[derive(Drop)]
 pub struct Command {
     pub shows: bool,
     pub budget: u32,
+    pub proves: bool,
     pub source: Source,
 }
 
@@ -40,17 +42,25 @@ fn form<'a>(alloc: Global) -> Result<clap::Command<'a>, AllocError>
     let budget = Arg::new(alloc, "budget")
         .long("budget")
         .value_parser(value_parser!(u32).range(0..=1_000_000));
+    let proofs = Arg::new(alloc, "proof")
+        .long("proof")
+        .action(ArgAction::SetTrue);
     let seed = Arg::new(alloc, "grow")
         .long("grow")
         .value_parser(value_parser!(u32));
     let file = Arg::new(alloc, "FILE");
     let command = clap::Command::new(alloc, "testsolv").disable_help_flag(true);
-    command.arg(lines)?.arg(budget)?.arg(seed)?.arg(file)
+    command
+        .arg(lines)?
+        .arg(budget)?
+        .arg(proofs)?
+        .arg(seed)?
+        .arg(file)
 }
 
 /// Whether `-r` is given.
 fn shows_in(matches: &ArgMatches) -> bool
-    ensures { (arguments : List Argument) → HasRows arguments matches.now → result ≡ is_some (value_of lines arguments) }
+    ensures { (arguments : List Argument) → HasRows arguments matches.now → result ≡ is_given lines arguments }
 {
     matches.get_flag("lines")
 }
@@ -60,6 +70,13 @@ fn budget_in(matches: &ArgMatches) -> Option<u32>
     ensures { (arguments : List Argument) → HasRows arguments matches.now → list_all is_in_range arguments ≡ true → result ≡ number_by budget arguments }
 {
     matches.get_one::<u32>("budget")
+}
+
+/// Whether `--proof` is given.
+fn proves_in(matches: &ArgMatches) -> bool
+    ensures { (arguments : List Argument) → HasRows arguments matches.now → result ≡ is_given proofs arguments }
+{
+    matches.get_flag("proof")
 }
 
 /// The number of `--grow`.
@@ -76,20 +93,21 @@ fn file_in<'a>(matches: &ArgMatches<'a>) -> Option<&'a str>
     matches.get_str("FILE")
 }
 
-/// What is solved: a file or a seed, and not both.
+/// What is solved: a file, or a seed of which no proofs are asked for, and not both.
 fn source_of(
     alloc: Global,
+    proves: bool,
     file: Option<&str>,
     seed: Option<u32>,
 ) -> Result<Option<Source>, AllocError>
-    ensures { IfOk result (λ source. source ≡ source_of (option_copied file.entry) seed) }
+    ensures { IfOk result (λ source. source ≡ source_of proves (option_copied file.entry) seed) }
 {
     match (file, seed) {
         (Some(name), None) => {
             let name = String::from_str(alloc, name)?;
             Ok(Some(Source::File(Text::wrap(name))))
         }
-        (None, Some(seed)) => Ok(Some(Source::Seed(seed))),
+        (None, Some(seed)) if !proves => Ok(Some(Source::Seed(seed))),
         _ => Ok(None),
     }
 }
@@ -98,11 +116,13 @@ fn source_of(
 fn command_in(alloc: Global, matches: &ArgMatches) -> Result<Option<Command>, AllocError>
     ensures { (arguments : List Argument) → HasRows arguments matches.now → is_accepted arguments ≡ true → IfOk result (λ command. command ≡ command_by arguments) }
 {
-    match source_of(alloc, file_in(matches), seed_in(matches))? {
+    let proves = proves_in(matches);
+    match source_of(alloc, proves, file_in(matches), seed_in(matches))? {
         None => Ok(None),
         Some(source) => Ok(Some(Command {
             shows: shows_in(matches),
             budget: budget_in(matches).unwrap_or(BUDGET),
+            proves,
             source,
         })),
     }

@@ -1,4 +1,4 @@
-//! The words of a command line: `testsolv [-r] [--budget N] [--grow SEED] FILE`.
+//! The words of a command line: `testsolv [-r] [--budget N] [--proof] [--grow SEED] FILE`.
 //!
 //! - [`command_of`]: what the words say, a [`Command`], of which [`Source`] is what is solved; none where they are not of the
 //!   form. They are read by `clap`, and the definition of what they say speaks of words alone.

@@ -2,8 +2,9 @@ use Rattle.std.proofs.Common.{◌∙◌, ap, sym, length}
 use Rattle.std.proofs.lemmas.List.{length-map}
 use Rattle.solv_pool.specs.RuleMeaning.{rule_with}
 use Rattle.solv_pool.specs.declared.hard_rules.Rules.{Rules}
+use Rattle.solv_run.specs.Cases.{IsGoodAnswer}
 use Rattle.solv_run.proofs.Said.{due_grown_answer}
-use Rattle.solv_run.proofs.Forming.{asks_formed}
+use Rattle.solv_said.proofs.Forming.{asks_formed}
 use Rattle.solv_run.proofs.growing.answered_due.Goals as goal
 use Rattle.solv_list.proofs.Answers.{ok_map}
 
@@ -17,4 +18,5 @@ grown_due-requires c =
 
 pub returns : goal.returns
 returns c =
-    ok_map _ _ c.grown_due.result (λ due h. due_grown_answer c.args.budget c.args.seed c.args.task.now c.in_ok-answer.answer due (record { fits = c.requires.prepared.fits; is = c.in_ok-answer.ensures.good; direct = c.in_ok-answer.ensures.direct }) h) c.grown_due.ensures
+    let good : IsGoodAnswer c.args.task.now c.args.budget c.in_ok-answer.answer = record { fits = c.requires.prepared.fits; is = c.in_ok-answer.ensures.good; direct = c.in_ok-answer.ensures.direct } in
+    ok_map _ _ c.with_answer.result (λ made h. due_grown_answer c.args.budget c.args.seed c.args.task.now c.in_ok-answer.answer c.in_ok-due.due made good c.in_ok-due.ensures h) c.with_answer.ensures

@@ -1,4 +1,4 @@
-use Rattle.solv_run.proofs.Forming.{asks_formed}
+use Rattle.solv_said.proofs.Forming.{asks_formed}
 use Rattle.solv_run.proofs.growing.task_due.Goals as goal
 
 pub prepare-requires-clause-formed : goal.prepare-requires-clause-formed

@@ -1,4 +1,4 @@
-# Jobs that no set of packages meets, for two reasons.
+# Jobs that no set of packages meets, for two reasons. `problem.p` has the proofs of both, which `proofcheck` checks against this script.
 repo system 0 testtags <inline>
 #>=Pkg: libvim 9.1 1.fc39 x86_64
 #>=Pkg: vim 9.1 1.fc39 x86_64

@@ -1,0 +1,5 @@
+# Line 1 is another.
+repo system 0 empty
+repo available 0 testtags <inline>
+system x86_64 rpm system
+job install name nosuch

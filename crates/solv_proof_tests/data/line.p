@@ -1,0 +1,4 @@
+proof 1
+problem 1 1
+step 0 b0
+end

@@ -1,0 +1,5 @@
+# The words of a line are not those that are due.
+repo system 0 empty
+repo available 0 testtags <inline>
+system x86_64 rpm system
+job install name nosuch

@@ -1,0 +1,5 @@
+# Each step is good, but the last one is not empty.
+repo system 0 empty
+repo available 0 testtags <inline>
+system x86_64 rpm system
+job install name nosuch

@@ -1,0 +1,5 @@
+proof 1
+problem 1 1
+rules 0
+step 0 b1
+end

@@ -1,0 +1,9 @@
+proof 1
+problem 1 1
+rules 0
+step 0 b0
+end
+problem 2 1
+rules 7
+step 0 b0
+end

@@ -1,0 +1,5 @@
+# The text ends inside a proof.
+repo system 0 empty
+repo available 0 testtags <inline>
+system x86_64 rpm system
+job install name nosuch

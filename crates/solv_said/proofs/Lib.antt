@@ -1,0 +1,5 @@
+mod Reported
+pub mod Fetched
+pub mod Sayings
+pub mod Unread
+pub mod Forming

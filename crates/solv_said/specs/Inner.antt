@@ -1,0 +1,2 @@
+-- Words of contracts between layers.
+pub mod Faults

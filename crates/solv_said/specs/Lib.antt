@@ -1,0 +1,5 @@
+pub mod Dues
+pub mod Runs
+pub mod Fetches
+pub mod Explained
+pub mod Inner

@@ -1,0 +1,5 @@
+# A name that nothing provides is asked for: its rule alone has no set.
+repo system 0 empty
+repo available 0 testtags <inline>
+system x86_64 rpm system
+job install name nosuch

@@ -1,0 +1,45 @@
+-- What a yes says, and who gets one.
+use Rattle.std.specs.Prelude.{ℕ, ◌≡◌, ◌≤◌, ◌<◌, Bool, true, List, Some, flat_map, length, map, slice_get}
+use Rattle.std.specs.List.{list_all, enumerate_from}
+use Rattle.solv_core.specs.Cores.{CoreOf}
+use Rattle.solv_derive.specs.Range.{steps_over}
+use Rattle.solv_pool.specs.Catalog.{Catalog}
+use Rattle.solv_pool.specs.Clauses.{rule_clauses}
+use Rattle.solv_pool.specs.RuleMeaning.{HardRule}
+use Rattle.solv_proof.specs.Texts.{are_listed}
+use Rattle.solv_proof.specs.declared.kinds.Proof.{Proof}
+use Rattle.solv_questions.specs.Questions.{Request, rules_of}
+use Rattle.solv_remedy.specs.Problems.{meets_listed}
+use Rattle.solv_remedy.specs.Remedies.{IsGoodList}
+use Rattle.solv_remedy.specs.declared.problems.Problem.{Problem}
+use Rattle.solv_rules.specs.Books.{is_bookable}
+use Rattle.solv_verdicts.specs.Verdicts.{verdict_on}
+use Rattle.solv_verdicts.specs.declared.verdicts.Verdict.TheVariants.{Yes}
+
+-- no set that holds the system meets the rules that a proof lists, where yes is said of it
+abbrev pub YesRefutes : Type 0
+YesRefutes = (count : ℕ) (catalog : Catalog) (rules : List HardRule) (p : Proof) → length catalog.universe.packages ≤ count → list_all (is_bookable catalog) rules ≡ true
+    → steps_over count p.log.steps ≡ true → verdict_on catalog rules p ≡ Yes
+    → (set : ℕ → Bool) → set 0 ≡ true → meets_listed catalog rules p.rules set ≡ true → ⊥
+
+-- the proof of a problem: its rules and its log, under a round and a number
+abbrev pub proof_of : ℕ → ℕ → Problem → Proof
+proof_of round number problem = record { round = round; number = number; rules = problem.rules; log = problem.log }
+
+-- the proofs of the problems of a round, which are numbered from 1
+abbrev pub proofs_of : ℕ → List Problem → List Proof
+proofs_of round problems = map (λ x. proof_of round x.0 x.1) (enumerate_from 1 problems)
+
+-- the core has the clauses of a request's rules
+abbrev pub HasClauses : Request → CoreOf → Type 0
+HasClauses r core = core.clauses ≡ flat_map (rule_clauses r.catalog) (rules_of r)
+
+-- the proofs of a good list of problems may be written
+abbrev pub ProblemsMayBeWritten : Type 0
+ProblemsMayBeWritten = (r : Request) (core : CoreOf) (problems : List Problem) (round : ℕ) → HasClauses r core → IsGoodList r core problems → 0 < round
+    → are_listed (proofs_of round problems) ≡ true
+
+-- yes is said of each of them
+abbrev pub ProblemsAreProved : Type 0
+ProblemsAreProved = (r : Request) (core : CoreOf) (problems : List Problem) (round : ℕ) → HasClauses r core → IsGoodList r core problems
+    → (i : ℕ) (p : Proof) → slice_get (proofs_of round problems) i ≡ Some p → verdict_on r.catalog (rules_of r) p ≡ Yes
