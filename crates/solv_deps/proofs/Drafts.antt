@@ -7,7 +7,7 @@ use Rattle.std.proofs.Math.Seq.{get_or-append_seam}
 use Rattle.std.proofs.lemmas.Grind.{common_steps}
 use Rattle.solv_base.specs.Dependency.{Dep, missing}
 use Rattle.solv_deps.specs.declared.draft.Written.{Written}
-use Rattle.solv_deps.specs.declared.draft.Written.TheVariants.{Simple, Versioned, Namespace, Joined, Without, If, IfElse}
+use Rattle.solv_deps.specs.declared.draft.Written.TheVariants.{Simple, Versioned, Namespace, Joined, Without, Under, UnderElse}
 use Rattle.solv_deps.specs.Inner.Drafts.{at, written, written_after, operands_below, operands_first, said, Extends, Enters, IsDraft}
 use Rattle.solv_list.proofs.Booleans.{first_of_both, second_of_both}
 
@@ -38,10 +38,10 @@ same_written f g n e (Versioned w c v) h = refl
 same_written f g n e (Namespace w) h = refl
 same_written f g n e (Joined j a b) h = rw (e a (ltb-true a n (first_of_both (nat_lt a n) (nat_lt b n) h)), e b (ltb-true b n (second_of_both (nat_lt a n) (nat_lt b n) h))) refl
 same_written f g n e (Without a b) h = rw (e a (ltb-true a n (first_of_both (nat_lt a n) (nat_lt b n) h)), e b (ltb-true b n (second_of_both (nat_lt a n) (nat_lt b n) h))) refl
-same_written f g n e (If a b) h = rw (e a (ltb-true a n (first_of_both (nat_lt a n) (nat_lt b n) h)), e b (ltb-true b n (second_of_both (nat_lt a n) (nat_lt b n) h))) refl
-same_written f g n e (IfElse a b c) h =
-    let k = second_of_both (nat_lt a n) (nat_lt b n && nat_lt c n) h in
-    rw (e a (ltb-true a n (first_of_both (nat_lt a n) (nat_lt b n && nat_lt c n) h)), e b (ltb-true b n (first_of_both (nat_lt b n) (nat_lt c n) k)), e c (ltb-true c n (second_of_both (nat_lt b n) (nat_lt c n) k))) refl
+same_written f g n e (Under k a b) h = rw (e a (ltb-true a n (first_of_both (nat_lt a n) (nat_lt b n) h)), e b (ltb-true b n (second_of_both (nat_lt a n) (nat_lt b n) h))) refl
+same_written f g n e (UnderElse k a b c) h =
+    let l = second_of_both (nat_lt a n) (nat_lt b n && nat_lt c n) h in
+    rw (e a (ltb-true a n (first_of_both (nat_lt a n) (nat_lt b n && nat_lt c n) h)), e b (ltb-true b n (first_of_both (nat_lt b n) (nat_lt c n) l)), e c (ltb-true c n (second_of_both (nat_lt b n) (nat_lt c n) l))) refl
 
 -- what stands before stays
 pub before_stays : (draft : List (Dep (List ℕ))) (parts : List Written) (k : ℕ) → k < length draft → at (written_after draft parts) k ≡ at draft k

@@ -10,9 +10,9 @@ inner_alone : (at : ℕ → Dep (List ℕ)) (r : Rule) (o : List Rule) (b : Dep 
 inner_alone at Nothing o b = refl
 inner_alone at (Chain j a) o b = refl
 inner_alone at (Difference a) o b = refl
-inner_alone at (Condition a) o b = refl
-inner_alone at (Else a c) o b = refl
-inner_alone at (InnerElse a c) o b = refl
+inner_alone at (Condition k a) o b = refl
+inner_alone at (Else k a c) o b = refl
+inner_alone at (InnerElse k a c) o b = refl
 
 pub top_some : (at : ℕ → Dep (List ℕ)) (o : List Rule) (r : Rule) (b : Dep (List ℕ)) → Some r ≡ slice_get o 0 → inner_else (hands at o) b ≡ inner_else (rule_hand at r ∷ []) b
 top_some at [] r b e = cc

@@ -13,7 +13,8 @@ use Rattle.solv_deps.specs.declared.outer.Rule.TheVariants.{Nothing, Chain, Diff
 use Rattle.solv_deps.specs.declared.reading.Due.{Due}
 use Rattle.solv_deps.specs.declared.reading.Due.TheVariants.{Operand, Evr, Named, Operator}
 use Rattle.solv_deps.specs.Words.{words}
-use Rattle.solv_deps.specs.Grammar.{opens, closes, operator, comparison, is_plain, is_namespace}
+use Rattle.solv_deps.specs.declared.sign.Conditional.{Conditional}
+use Rattle.solv_deps.specs.Grammar.{opens, closes, operator, operator_spelled, sign, comparison, is_plain, is_namespace}
 use Rattle.solv_deps.specs.Inner.Drafts.{said, Extends, Enters}
 use Rattle.solv_deps.specs.Reading.{Hand, Point, at_operand, at_evr, at_other, at_operator, operand_due, operator_due, evr_due, in_chain, in_difference, in_condition, in_else, in_inner_else, whole, closed, go_on, comparison_due, reading, reading_from, end_due}
 use Rattle.solv_deps.specs.Inner.Points.{rule_hand, hands, due_seen, seen, rule_in, rules_in, pending, option_pending, rules_pending, due_pending, due_entered, Belongs, Stands, GoesOn, Leads, Ends}
@@ -26,9 +27,9 @@ rule_more : (m n : ℕ) (r : Rule) → m ≤ n → rule_in m r ≡ true → rule
 rule_more m n Nothing le h = refl
 rule_more m n (Chain j a) le h = below_wider a m n le h
 rule_more m n (Difference a) le h = below_wider a m n le h
-rule_more m n (Condition a) le h = below_wider a m n le h
-rule_more m n (Else a b) le h = and_from (nat_lt a n) (nat_lt b n) (below_wider a m n le (first_of_both (nat_lt a m) (nat_lt b m) h)) (below_wider b m n le (second_of_both (nat_lt a m) (nat_lt b m) h))
-rule_more m n (InnerElse a b) le h = and_from (nat_lt a n) (nat_lt b n) (below_wider a m n le (first_of_both (nat_lt a m) (nat_lt b m) h)) (below_wider b m n le (second_of_both (nat_lt a m) (nat_lt b m) h))
+rule_more m n (Condition k a) le h = below_wider a m n le h
+rule_more m n (Else k a b) le h = and_from (nat_lt a n) (nat_lt b n) (below_wider a m n le (first_of_both (nat_lt a m) (nat_lt b m) h)) (below_wider b m n le (second_of_both (nat_lt a m) (nat_lt b m) h))
+rule_more m n (InnerElse k a b) le h = and_from (nat_lt a n) (nat_lt b n) (below_wider a m n le (first_of_both (nat_lt a m) (nat_lt b m) h)) (below_wider b m n le (second_of_both (nat_lt a m) (nat_lt b m) h))
 
 rules_more : (m n : ℕ) (o : List Rule) → m ≤ n → rules_in m o ≡ true → rules_in n o ≡ true
 rules_more m n [] le h = refl
@@ -43,9 +44,9 @@ module _ (old new : List Written) (g : Extends old new) where
   rule_kept Nothing h = refl
   rule_kept (Chain j a) h = ap (in_chain j) (kept a h)
   rule_kept (Difference a) h = ap in_difference (kept a h)
-  rule_kept (Condition a) h = ap in_condition (kept a h)
-  rule_kept (Else a b) h = let x = kept a (first_of_both (nat_lt a (length old)) (nat_lt b (length old)) h) in let y = kept b (second_of_both (nat_lt a (length old)) (nat_lt b (length old)) h) in cc
-  rule_kept (InnerElse a b) h = let x = kept a (first_of_both (nat_lt a (length old)) (nat_lt b (length old)) h) in let y = kept b (second_of_both (nat_lt a (length old)) (nat_lt b (length old)) h) in cc
+  rule_kept (Condition k a) h = ap (in_condition k) (kept a h)
+  rule_kept (Else k a b) h = let x = kept a (first_of_both (nat_lt a (length old)) (nat_lt b (length old)) h) in let y = kept b (second_of_both (nat_lt a (length old)) (nat_lt b (length old)) h) in cc
+  rule_kept (InnerElse k a b) h = let x = kept a (first_of_both (nat_lt a (length old)) (nat_lt b (length old)) h) in let y = kept b (second_of_both (nat_lt a (length old)) (nat_lt b (length old)) h) in cc
 
   pub rules_kept : (o : List Rule) → rules_in (length old) o ≡ true → hands (said new) o ≡ hands (said old) o
   rules_kept [] h = refl
@@ -108,7 +109,7 @@ pub stands_named : (draft : List Written) (o : List Rule) (count : ℕ) (r : Rul
 unfolding seen
 stands_named draft o count r w h room few p s =
     record {
-      point = choose_second (opens w.now) (not (closes w.now) && (is_none (operator w.now) && is_none (comparison w.now))) _ _ _ p
+      point = choose_second (opens w.now) (not (closes w.now) && (is_none (operator_spelled sign w.now) && is_none (comparison w.now))) _ _ _ p
           ∙ rw s refl;
       belongs = record {
         outer = first_of_both (rules_in (length draft) o) (rule_in (length draft) r) h;
@@ -121,7 +122,7 @@ stands_named draft o count r w h room few p s =
 pub operand_namespace : (hs : List Hand) (count : ℕ) (h : Hand) (w : List ℕ) → is_plain w ≡ true → is_namespace w ≡ true
     → at_operand hs count h w ≡ Ok (record { outer = hs; operators = count; due = operator_due h None (namespace w) })
 operand_namespace hs count h w p s =
-    choose_second (opens w) (not (closes w) && (is_none (operator w) && is_none (comparison w))) _ _ _ p ∙ rw s refl
+    choose_second (opens w) (not (closes w) && (is_none (operator_spelled sign w) && is_none (comparison w))) _ _ _ p ∙ rw s refl
 
 pub evr_entered : (hs : List Hand) (count : ℕ) (h : Hand) (name : List ℕ) (c : Cmp) (w : List ℕ) → is_plain w ≡ true
     → at_evr hs count h name c w ≡ Ok (record { outer = hs; operators = count; due = operator_due h None (one (versioned name c w)) })
@@ -132,17 +133,17 @@ without_middle true true c h = h
 without_middle true false c h = cc
 without_middle false b c h = h
 
-closed_other : (at : ℕ → Dep (List ℕ)) (r : Rule) (before : Hand) (d : Dep (List ℕ)) → ((x y : ℕ) → r ≡ InnerElse x y → ⊥)
+closed_other : (at : ℕ → Dep (List ℕ)) (r : Rule) (before : Hand) (d : Dep (List ℕ)) → ((k : Conditional) (x y : ℕ) → r ≡ InnerElse k x y → ⊥)
     → closed (rule_hand at r) before d ≡ operator_due before None (whole (rule_hand at r) d)
 closed_other at Nothing before d alone = refl
 closed_other at (Chain j a) before d alone = refl
 closed_other at (Difference a) before d alone = refl
-closed_other at (Condition a) before d alone = refl
-closed_other at (Else a b) before d alone = refl
-closed_other at (InnerElse a b) before d alone = absurd (alone a b refl)
+closed_other at (Condition k a) before d alone = refl
+closed_other at (Else k a b) before d alone = refl
+closed_other at (InnerElse k a b) before d alone = absurd (alone k a b refl)
 
 -- a parenthesis closes round a whole
-pub leads_closed : (old new : List Written) (r before : Rule) (w : ℕ) (d : Dep (List ℕ)) → ((x y : ℕ) → r ≡ InnerElse x y → ⊥) → rule_in (length old) before ≡ true
+pub leads_closed : (old new : List Written) (r before : Rule) (w : ℕ) (d : Dep (List ℕ)) → ((k : Conditional) (x y : ℕ) → r ≡ InnerElse k x y → ⊥) → rule_in (length old) before ≡ true
     → Enters old new w (whole (rule_hand (said old) r) d)
     → Leads new (Operator before w) (closed (rule_hand (said old) r) (rule_hand (said old) before) d)
 leads_closed old new r before w d alone hb e =

@@ -3,14 +3,16 @@ use Rattle.std.proofs.Common.{◌≡◌, ℕ, zero, suc, ◌+◌, ◌≤◌, Boo
 use Rattle.std.specs.Prelude.{codes, if◌then◌else◌, ◌==◌, max, is_some, unwrap_or}
 use Rattle.std.proofs.lemmas.Bool.Decides.{nat_tests}
 use Rattle.solv_base.specs.declared.comparison.Cmp.{Cmp}
-use Rattle.solv_base.specs.Dependency.{Dep, plain, versioned, one, namespace, and, or, with, without, if_then, if_else, operators}
+use Rattle.solv_base.specs.Dependency.{Dep, plain, versioned, one, namespace, and, or, with, without, if_then, if_else, unless, unless_else, operators}
 use Rattle.solv_deps.specs.declared.sign.Joint.{Joint}
 use Rattle.solv_deps.specs.declared.sign.Joint.TheVariants.{Both, Either, Jointly}
+use Rattle.solv_deps.specs.declared.sign.Conditional.{Conditional}
+use Rattle.solv_deps.specs.declared.sign.Conditional.TheVariants.{If, Unless}
 use Rattle.solv_deps.specs.declared.sign.Operator.{Operator}
-use Rattle.solv_deps.specs.declared.sign.Operator.TheVariants.{Link, Minus, If, Else}
+use Rattle.solv_deps.specs.declared.sign.Operator.TheVariants.{Link, Minus, Condition, Else}
 use Rattle.solv_io.specs.Words.{is_blank}
 use Rattle.solv_deps.specs.Words.{is_open, is_close, ends_word, unpaired_after, unpaired_in, word_rest, words_behind, words}
-use Rattle.solv_deps.specs.Grammar.{comparison, no_comparison, is_plain, is_namespace, joined, sign, Operand, Chain, Expr, name, compared, inside, two, more, alone, chain, less, provided, provided_else, provided_inside, operand_words, chain_words, expr_words, operand_sense, chain_sense, expr_sense, operand_right, chain_right, expr_right, operand_depth, chain_depth, expr_depth, operand_operators, chain_operators, expr_operators}
+use Rattle.solv_deps.specs.Grammar.{comparison, no_comparison, is_plain, is_namespace, joined, under_else, by_sign, sign, Operand, Chain, Expr, name, compared, inside, two, more, alone, chain, less, provided, provided_else, provided_inside, operand_words, chain_words, expr_words, operand_sense, chain_sense, expr_sense, operand_right, chain_right, expr_right, operand_depth, chain_depth, expr_depth, operand_operators, chain_operators, expr_operators}
 use Rattle.solv_deps.specs.Reading.{same_joint, reading}
 use Rattle.solv_deps.specs.Canonical.{comparison_text, is_rich, is_chain, ends_unpaired, space_before_close, parenthesised, operand_text, spaced, chain_text, text}
 use Rattle.solv_deps.proofs.Complete.{written_is_read}
@@ -75,7 +77,8 @@ sign_words (Link Both) rest = refl
 sign_words (Link Either) rest = refl
 sign_words (Link Jointly) rest = refl
 sign_words Minus rest = refl
-sign_words If rest = refl
+sign_words (Condition If) rest = refl
+sign_words (Condition Unless) rest = refl
 sign_words Else rest = refl
 
 -- the comparisons
@@ -113,8 +116,8 @@ as_operand (alone a) = a
 as_operand x = inside x
 
 abbrev pub front : Joint → Expr → Operand → Chain
-front j (chain i c) b = if same_joint i j then more c b else two (inside (chain i c)) b
-front j x b = two (as_operand x) b
+front j (chain i c) b = if same_joint i j then more c by_sign b else two (inside (chain i c)) by_sign b
+front j x b = two (as_operand x) by_sign b
 
 abbrev pub canonical : Dep (List ℕ) → Expr
 canonical (one (plain w)) = alone (name w)
@@ -123,9 +126,11 @@ canonical (namespace w) = alone (name w)
 canonical (and a b) = chain Both (front Both (canonical a) (as_operand (canonical b)))
 canonical (or a b) = chain Either (front Either (canonical a) (as_operand (canonical b)))
 canonical (with a b) = chain Jointly (front Jointly (canonical a) (as_operand (canonical b)))
-canonical (without a b) = less (as_operand (canonical a)) (as_operand (canonical b))
-canonical (if_then a b) = provided (as_operand (canonical a)) (as_operand (canonical b))
-canonical (if_else a b c) = provided_else (as_operand (canonical a)) (as_operand (canonical b)) (as_operand (canonical c))
+canonical (without a b) = less (as_operand (canonical a)) by_sign (as_operand (canonical b))
+canonical (if_then a b) = provided If (as_operand (canonical a)) by_sign (as_operand (canonical b))
+canonical (if_else a b c) = provided_else If (as_operand (canonical a)) by_sign (as_operand (canonical b)) by_sign (as_operand (canonical c))
+canonical (unless a b) = provided Unless (as_operand (canonical a)) by_sign (as_operand (canonical b))
+canonical (unless_else a b c) = provided_else Unless (as_operand (canonical a)) by_sign (as_operand (canonical b)) by_sign (as_operand (canonical c))
 canonical d = alone (name [])
 
 -- are its names and EVRs such words, and its comparisons comparisons?
@@ -139,6 +144,8 @@ well (with a b) = well a && well b
 well (without a b) = well a && well b
 well (if_then a b) = well a && well b
 well (if_else a b c) = well a && (well b && well c)
+well (unless a b) = well a && well b
+well (unless_else a b c) = well a && (well b && well c)
 well d = false
 
 -- what the text ends with
@@ -175,6 +182,8 @@ op_words (with a b) h ih rest s = paren_words (text (with a b)) (ends_unpaired b
 op_words (without a b) h ih rest s = paren_words (text (without a b)) (ends_unpaired b) (expr_words (canonical (without a b))) ih rest
 op_words (if_then a b) h ih rest s = paren_words (text (if_then a b)) (ends_unpaired b) (expr_words (canonical (if_then a b))) ih rest
 op_words (if_else a b c) h ih rest s = paren_words (text (if_else a b c)) (ends_unpaired c) (expr_words (canonical (if_else a b c))) ih rest
+op_words (unless a b) h ih rest s = paren_words (text (unless a b)) (ends_unpaired b) (expr_words (canonical (unless a b))) ih rest
+op_words (unless_else a b c) h ih rest s = paren_words (text (unless_else a b c)) (ends_unpaired c) (expr_words (canonical (unless_else a b c))) ih rest
 op_words d h ih rest s = cc
 
 abbrev side : Joint → Expr → List (List ℕ)
@@ -222,6 +231,19 @@ pair_reads o a b ha hb ra rb rest s =
     between (operand_text false a (text a)) r o (operand_words (as_operand (canonical a))) (operand_words (as_operand (canonical b))) rest
     (op_words a ha ra (spaced o ++ (r ++ rest)) (spaced_stops o (r ++ rest) (ends_unpaired a))) (op_words b hb rb rest s)
 
+-- an operand under a condition with another one
+else_reads : (k : Conditional) (a b c : Dep (List ℕ)) → well a ≡ true → well b ≡ true → well c ≡ true → Reads a → Reads b → Reads c → (rest : List ℕ) → stops (ends_unpaired c) rest ≡ true
+    → words ((operand_text false a (text a) ++ (spaced (Condition k) ++ (operand_text false b (text b) ++ (spaced Else ++ operand_text false c (text c))))) ++ rest)
+    ≡ (operand_words (as_operand (canonical a)) ++ sign (Condition k) ∷ (operand_words (as_operand (canonical b)) ++ sign Else ∷ operand_words (as_operand (canonical c)))) ++ words rest
+else_reads k a b c ha hb hc ra rb rc rest s =
+    let r = operand_text false b (text b) ++ (spaced Else ++ operand_text false c (text c)) in
+    let q = operand_text false b (text b) in
+    let z = operand_text false c (text c) in
+    between (operand_text false a (text a)) r (Condition k) (operand_words (as_operand (canonical a))) (operand_words (as_operand (canonical b)) ++ sign Else ∷ operand_words (as_operand (canonical c))) rest
+    (op_words a ha ra (spaced (Condition k) ++ (r ++ rest)) (spaced_stops (Condition k) (r ++ rest) (ends_unpaired a)))
+    (between q z Else (operand_words (as_operand (canonical b))) (operand_words (as_operand (canonical c))) rest
+    (op_words b hb rb (spaced Else ++ (z ++ rest)) (spaced_stops Else (z ++ rest) (ends_unpaired b))) (op_words c hc rc rest s))
+
 text_reads : (d : Dep (List ℕ)) → well d ≡ true → Reads d
 text_reads (one (plain w)) h rest s = word_front w rest (first_of_both (is_word w) _ h) s
 text_reads (one (versioned w c e)) h rest s =
@@ -239,19 +261,20 @@ text_reads (and a b) h rest s = let ha = first_of_both (well a) (well b) h in le
 text_reads (or a b) h rest s = let ha = first_of_both (well a) (well b) h in let hb = second_of_both (well a) (well b) h in chain_reads Either a b ha hb (text_reads a ha) (text_reads b hb) rest s
 text_reads (with a b) h rest s = let ha = first_of_both (well a) (well b) h in let hb = second_of_both (well a) (well b) h in chain_reads Jointly a b ha hb (text_reads a ha) (text_reads b hb) rest s
 text_reads (without a b) h rest s = let ha = first_of_both (well a) (well b) h in let hb = second_of_both (well a) (well b) h in pair_reads Minus a b ha hb (text_reads a ha) (text_reads b hb) rest s
-text_reads (if_then a b) h rest s = let ha = first_of_both (well a) (well b) h in let hb = second_of_both (well a) (well b) h in pair_reads If a b ha hb (text_reads a ha) (text_reads b hb) rest s
+text_reads (if_then a b) h rest s = let ha = first_of_both (well a) (well b) h in let hb = second_of_both (well a) (well b) h in pair_reads (Condition If) a b ha hb (text_reads a ha) (text_reads b hb) rest s
+text_reads (unless a b) h rest s = let ha = first_of_both (well a) (well b) h in let hb = second_of_both (well a) (well b) h in pair_reads (Condition Unless) a b ha hb (text_reads a ha) (text_reads b hb) rest s
 text_reads (if_else a b c) h rest s =
     let ha = first_of_both (well a) (well b && well c) h in
     let h1 = second_of_both (well a) (well b && well c) h in
     let hb = first_of_both (well b) (well c) h1 in
     let hc = second_of_both (well b) (well c) h1 in
-    let r = operand_text false b (text b) ++ (spaced Else ++ operand_text false c (text c)) in
-    let q = operand_text false b (text b) in
-    let z = operand_text false c (text c) in
-    between (operand_text false a (text a)) r If (operand_words (as_operand (canonical a))) (operand_words (as_operand (canonical b)) ++ sign Else ∷ operand_words (as_operand (canonical c))) rest
-    (op_words a ha (text_reads a ha) (spaced If ++ (r ++ rest)) (spaced_stops If (r ++ rest) (ends_unpaired a)))
-    (between q z Else (operand_words (as_operand (canonical b))) (operand_words (as_operand (canonical c))) rest
-    (op_words b hb (text_reads b hb) (spaced Else ++ (z ++ rest)) (spaced_stops Else (z ++ rest) (ends_unpaired b))) (op_words c hc (text_reads c hc) rest s))
+    else_reads If a b c ha hb hc (text_reads a ha) (text_reads b hb) (text_reads c hc) rest s
+text_reads (unless_else a b c) h rest s =
+    let ha = first_of_both (well a) (well b && well c) h in
+    let h1 = second_of_both (well a) (well b && well c) h in
+    let hb = first_of_both (well b) (well c) h1 in
+    let hc = second_of_both (well b) (well c) h1 in
+    else_reads Unless a b c ha hb hc (text_reads a ha) (text_reads b hb) (text_reads c hc) rest s
 text_reads d h rest s = cc
 
 -- what is written canonically means the dependency
@@ -281,7 +304,14 @@ means (or a b) h = let x = means a (first_of_both (well a) (well b) h) in let y 
 means (with a b) h = let x = means a (first_of_both (well a) (well b) h) in let y = means_operand b (means b (second_of_both (well a) (well b) h)) in front_sense Jointly (canonical a) (as_operand (canonical b)) ∙ rw (x, y) refl
 means (without a b) h = let x = means_operand a (means a (first_of_both (well a) (well b) h)) in let y = means_operand b (means b (second_of_both (well a) (well b) h)) in rw (x, y) refl
 means (if_then a b) h = let x = means_operand a (means a (first_of_both (well a) (well b) h)) in let y = means_operand b (means b (second_of_both (well a) (well b) h)) in rw (x, y) refl
+means (unless a b) h = let x = means_operand a (means a (first_of_both (well a) (well b) h)) in let y = means_operand b (means b (second_of_both (well a) (well b) h)) in rw (x, y) refl
 means (if_else a b c) h =
+    let h1 = second_of_both (well a) (well b && well c) h in
+    let x = means_operand a (means a (first_of_both (well a) (well b && well c) h)) in
+    let y = means_operand b (means b (first_of_both (well b) (well c) h1)) in
+    let z = means_operand c (means c (second_of_both (well b) (well c) h1)) in
+    rw (x, y, z) refl
+means (unless_else a b c) h =
     let h1 = second_of_both (well a) (well b && well c) h in
     let x = means_operand a (means a (first_of_both (well a) (well b && well c) h)) in
     let y = means_operand b (means b (first_of_both (well b) (well c) h1)) in
@@ -293,18 +323,18 @@ means d h = cc
 operand_is_right : (x : Expr) → expr_right x ≡ true → operand_right (as_operand x) ≡ true
 operand_is_right (alone a) h = h
 operand_is_right (chain j c) h = h
-operand_is_right (less a b) h = h
-operand_is_right (provided a b) h = h
-operand_is_right (provided_else a b c) h = h
-operand_is_right (provided_inside a b c) h = h
+operand_is_right (less a s b) h = h
+operand_is_right (provided k a s b) h = h
+operand_is_right (provided_else k a s b t c) h = h
+operand_is_right (provided_inside k a s b t c) h = h
 
 front_right : (j : Joint) (x : Expr) (b : Operand) → expr_right x ≡ true → operand_right b ≡ true → chain_right (front j x b) ≡ true
-front_right j (chain i c) b h k = elim (same_joint i j) as (λ s. chain_right (if s then more c b else two (inside (chain i c)) b) ≡ true) [ true ↦ and_from (chain_right c) (operand_right b) h k | false ↦ and_from (chain_right c) (operand_right b) h k ]
+front_right j (chain i c) b h k = elim (same_joint i j) as (λ s. chain_right (if s then more c by_sign b else two (inside (chain i c)) by_sign b) ≡ true) [ true ↦ and_from (chain_right c) (operand_right b) h k | false ↦ and_from (chain_right c) (operand_right b) h k ]
 front_right j (alone a) b h k = and_from (operand_right a) (operand_right b) h k
-front_right j (less a c) b h k = and_from (expr_right (less a c)) (operand_right b) h k
-front_right j (provided a c) b h k = and_from (expr_right (provided a c)) (operand_right b) h k
-front_right j (provided_else a c e) b h k = and_from (expr_right (provided_else a c e)) (operand_right b) h k
-front_right j (provided_inside a c e) b h k = and_from (expr_right (provided_inside a c e)) (operand_right b) h k
+front_right j (less a s c) b h k = and_from (expr_right (less a s c)) (operand_right b) h k
+front_right j (provided i a s c) b h k = and_from (expr_right (provided i a s c)) (operand_right b) h k
+front_right j (provided_else i a s c t e) b h k = and_from (expr_right (provided_else i a s c t e)) (operand_right b) h k
+front_right j (provided_inside i a s c t e) b h k = and_from (expr_right (provided_inside i a s c t e)) (operand_right b) h k
 
 is_right_operand : (d : Dep (List ℕ)) → expr_right (canonical d) ≡ true → operand_right (as_operand (canonical d)) ≡ true
 is_right_operand d h = operand_is_right (canonical d) h
@@ -322,7 +352,12 @@ is_right (or a b) h = front_right Either (canonical a) (as_operand (canonical b)
 is_right (with a b) h = front_right Jointly (canonical a) (as_operand (canonical b)) (is_right a (first_of_both (well a) (well b) h)) (is_right_operand b (is_right b (second_of_both (well a) (well b) h)))
 is_right (without a b) h = and_from (operand_right (as_operand (canonical a))) _ (is_right_operand a (is_right a (first_of_both (well a) (well b) h))) (is_right_operand b (is_right b (second_of_both (well a) (well b) h)))
 is_right (if_then a b) h = and_from (operand_right (as_operand (canonical a))) _ (is_right_operand a (is_right a (first_of_both (well a) (well b) h))) (is_right_operand b (is_right b (second_of_both (well a) (well b) h)))
+is_right (unless a b) h = and_from (operand_right (as_operand (canonical a))) _ (is_right_operand a (is_right a (first_of_both (well a) (well b) h))) (is_right_operand b (is_right b (second_of_both (well a) (well b) h)))
 is_right (if_else a b c) h =
+    let h1 = second_of_both (well a) (well b && well c) h in
+    and_from (operand_right (as_operand (canonical a))) _ (is_right_operand a (is_right a (first_of_both (well a) (well b && well c) h)))
+    (and_from (operand_right (as_operand (canonical b))) _ (is_right_operand b (is_right b (first_of_both (well b) (well c) h1))) (is_right_operand c (is_right c (second_of_both (well b) (well c) h1))))
+is_right (unless_else a b c) h =
     let h1 = second_of_both (well a) (well b && well c) h in
     and_from (operand_right (as_operand (canonical a))) _ (is_right_operand a (is_right a (first_of_both (well a) (well b && well c) h)))
     (and_from (operand_right (as_operand (canonical b))) _ (is_right_operand b (is_right b (first_of_both (well b) (well c) h1))) (is_right_operand c (is_right c (second_of_both (well b) (well c) h1))))
@@ -334,16 +369,16 @@ operand_ops (alone a) = refl
 operand_ops x = refl
 
 front_ops : (j : Joint) (x : Expr) (b : Operand) → chain_operators (front j x b) ≡ expr_operators x + operand_operators b + 1
-front_ops j (chain i c) b = elim (same_joint i j) as (λ s. chain_operators (if s then more c b else two (inside (chain i c)) b) ≡ chain_operators c + operand_operators b + 1) [ true ↦ refl | false ↦ refl ]
+front_ops j (chain i c) b = elim (same_joint i j) as (λ s. chain_operators (if s then more c by_sign b else two (inside (chain i c)) by_sign b) ≡ chain_operators c + operand_operators b + 1) [ true ↦ refl | false ↦ refl ]
 front_ops j x b = refl
 
 front_depth : (j : Joint) (x : Expr) (b : Operand) → chain_depth (front j x b) ≤ max (operand_depth (as_operand x)) (operand_depth b)
-front_depth j (chain i c) b = elim (same_joint i j) as (λ s. chain_depth (if s then more c b else two (inside (chain i c)) b) ≤ max (chain_depth c + 1) (operand_depth b)) [ true ↦ omega arith | false ↦ omega arith ]
+front_depth j (chain i c) b = elim (same_joint i j) as (λ s. chain_depth (if s then more c by_sign b else two (inside (chain i c)) by_sign b) ≤ max (chain_depth c + 1) (operand_depth b)) [ true ↦ omega arith | false ↦ omega arith ]
 front_depth j (alone a) b = omega arith
-front_depth j (less a c) b = omega arith
-front_depth j (provided a c) b = omega arith
-front_depth j (provided_else a c e) b = omega arith
-front_depth j (provided_inside a c e) b = omega arith
+front_depth j (less a s c) b = omega arith
+front_depth j (provided k a s c) b = omega arith
+front_depth j (provided_else k a s c t e) b = omega arith
+front_depth j (provided_inside k a s c t e) b = omega arith
 
 ops_operand : (d : Dep (List ℕ)) → expr_operators (canonical d) ≡ operators d → operand_operators (as_operand (canonical d)) ≡ operators d
 ops_operand d e = operand_ops (canonical d) ∙ e
@@ -357,7 +392,9 @@ ops (or a b) h = let ha = first_of_both (well a) (well b) h in let hb = second_o
 ops (with a b) h = let ha = first_of_both (well a) (well b) h in let hb = second_of_both (well a) (well b) h in let x = ops a ha in let y = ops_operand b (ops b hb) in let z = front_ops Jointly (canonical a) (as_operand (canonical b)) in omega arith
 ops (without a b) h = let ha = first_of_both (well a) (well b) h in let hb = second_of_both (well a) (well b) h in let x = ops_operand a (ops a ha) in let y = ops_operand b (ops b hb) in omega arith
 ops (if_then a b) h = let ha = first_of_both (well a) (well b) h in let hb = second_of_both (well a) (well b) h in let x = ops_operand a (ops a ha) in let y = ops_operand b (ops b hb) in omega arith
+ops (unless a b) h = let ha = first_of_both (well a) (well b) h in let hb = second_of_both (well a) (well b) h in let x = ops_operand a (ops a ha) in let y = ops_operand b (ops b hb) in omega arith
 ops (if_else a b c) h = let h1 = second_of_both (well a) (well b && well c) h in let ha = first_of_both (well a) (well b && well c) h in let hb = first_of_both (well b) (well c) h1 in let hc = second_of_both (well b) (well c) h1 in let x = ops_operand a (ops a ha) in let y = ops_operand b (ops b hb) in let z = ops_operand c (ops c hc) in omega arith
+ops (unless_else a b c) h = let h1 = second_of_both (well a) (well b && well c) h in let ha = first_of_both (well a) (well b && well c) h in let hb = first_of_both (well b) (well c) h1 in let hc = second_of_both (well b) (well c) h1 in let x = ops_operand a (ops a ha) in let y = ops_operand b (ops b hb) in let z = ops_operand c (ops c hc) in omega arith
 ops d h = cc
 
 depth : (d : Dep (List ℕ)) → well d ≡ true → operand_depth (as_operand (canonical d)) ≤ operators d
@@ -369,7 +406,14 @@ depth (or a b) h = let x = depth a (first_of_both (well a) (well b) h) in let y 
 depth (with a b) h = let x = depth a (first_of_both (well a) (well b) h) in let y = depth b (second_of_both (well a) (well b) h) in let z = front_depth Jointly (canonical a) (as_operand (canonical b)) in omega arith
 depth (without a b) h = let x = depth a (first_of_both (well a) (well b) h) in let y = depth b (second_of_both (well a) (well b) h) in omega arith
 depth (if_then a b) h = let x = depth a (first_of_both (well a) (well b) h) in let y = depth b (second_of_both (well a) (well b) h) in omega arith
+depth (unless a b) h = let x = depth a (first_of_both (well a) (well b) h) in let y = depth b (second_of_both (well a) (well b) h) in omega arith
 depth (if_else a b c) h =
+    let h1 = second_of_both (well a) (well b && well c) h in
+    let x = depth a (first_of_both (well a) (well b && well c) h) in
+    let y = depth b (first_of_both (well b) (well c) h1) in
+    let z = depth c (second_of_both (well b) (well c) h1) in
+    omega arith
+depth (unless_else a b c) h =
     let h1 = second_of_both (well a) (well b && well c) h in
     let x = depth a (first_of_both (well a) (well b && well c) h) in
     let y = depth b (first_of_both (well b) (well c) h1) in
@@ -380,10 +424,10 @@ depth d h = cc
 operand_deeper : (x : Expr) → expr_depth x ≤ operand_depth (as_operand x)
 operand_deeper (alone a) = omega arith
 operand_deeper (chain j c) = omega arith
-operand_deeper (less a b) = omega arith
-operand_deeper (provided a b) = omega arith
-operand_deeper (provided_else a b c) = omega arith
-operand_deeper (provided_inside a b c) = omega arith
+operand_deeper (less a s b) = omega arith
+operand_deeper (provided k a s b) = omega arith
+operand_deeper (provided_else k a s b t c) = omega arith
+operand_deeper (provided_inside k a s b t c) = omega arith
 
 -- the canonical text of a dependency whose names and EVRs are words is read as that dependency
 pub printed_is_read : (d : Dep (List ℕ)) → well d ≡ true → operators d ≤ 64 → reading (words (text d)) ≡ Ok d

@@ -9,11 +9,13 @@ use Rattle.solv_base.specs.Dependency.{Dep, plain, one, namespace, operators}
 use Rattle.solv_deps.specs.declared.fault.DepFault.{DepFault}
 use Rattle.solv_deps.specs.declared.sign.Joint.{Joint}
 use Rattle.solv_deps.specs.declared.sign.Joint.TheVariants.{Both, Either, Jointly}
+use Rattle.solv_deps.specs.declared.sign.Conditional.{Conditional}
+use Rattle.solv_deps.specs.declared.sign.Conditional.TheVariants.{If, Unless}
 use Rattle.solv_deps.specs.declared.sign.Operator.{Operator}
-use Rattle.solv_deps.specs.declared.sign.Operator.TheVariants.{Link, Minus, If, Else}
+use Rattle.solv_deps.specs.declared.sign.Operator.TheVariants.{Link, Minus, Condition, Else}
 use Rattle.solv_io.specs.Words.{is_blank}
 use Rattle.solv_deps.specs.Words.{is_open, is_close, ends_word, unpaired_after, word_rest, after_first, words_behind, words}
-use Rattle.solv_deps.specs.Grammar.{operator, comparison, opens, closes, is_plain, is_namespace, named, joined}
+use Rattle.solv_deps.specs.Grammar.{operator, comparison, opens, closes, is_plain, is_namespace, named, joined, under, under_else, operator_spelled, sign}
 use Rattle.solv_deps.specs.Reading.{Hand, nothing, in_chain, in_difference, in_condition, in_else, in_inner_else, Due, operand_due, evr_due, operator_due, Point, whole, inner_else, same_joint, going_on_if, goes_on, closed, close, go_on, at_operand, at_evr, at_operator, comparison_due, step_due, step, end_due, and_then, reading_from, reading, beginning}
 use Rattle.solv_deps.proofs.Printed.{is_word, well, right_cmp}
 use Rattle.solv_list.proofs.Booleans.{first_of_both, second_of_both}
@@ -24,17 +26,17 @@ abbrev hand_well : Hand → Bool
 hand_well nothing = true
 hand_well (in_chain j a) = well a
 hand_well (in_difference a) = well a
-hand_well (in_condition a) = well a
-hand_well (in_else a b) = well a && well b
-hand_well (in_inner_else a b) = well a && well b
+hand_well (in_condition k a) = well a
+hand_well (in_else k a b) = well a && well b
+hand_well (in_inner_else k a b) = well a && well b
 
 abbrev hand_ops : Hand → ℕ
 hand_ops nothing = 0
 hand_ops (in_chain j a) = operators a + 1
 hand_ops (in_difference a) = operators a + 1
-hand_ops (in_condition a) = operators a + 1
-hand_ops (in_else a b) = operators a + operators b + 2
-hand_ops (in_inner_else a b) = operators b + 1
+hand_ops (in_condition k a) = operators a + 1
+hand_ops (in_else k a b) = operators a + operators b + 2
+hand_ops (in_inner_else k a b) = operators b + 1
 
 abbrev outer_ops : List Hand → ℕ
 outer_ops [] = 0
@@ -42,8 +44,8 @@ outer_ops (h ∷ o) = hand_ops h + outer_ops o
 
 -- `B <ELSE>` stands in the parentheses after its `A <IF>`
 abbrev Linked : Hand → List Hand → Type 0
-Linked (in_inner_else a b) (in_condition c ∷ o) = operators a ≡ operators c
-Linked (in_inner_else a b) o = ⊥
+Linked (in_inner_else k a b) (in_condition i c ∷ o) = operators a ≡ operators c
+Linked (in_inner_else k a b) o = ⊥
 Linked h o = Unit {0}
 
 abbrev AllLinked : List Hand → Type 0
@@ -82,7 +84,7 @@ abbrev ok_word : List ℕ → Bool
 ok_word w = (opens w || closes w) || is_word w
 
 plain_word : (w : List ℕ) → ok_word w ≡ true → is_plain w ≡ true → is_word w ≡ true
-plain_word w ok p = find (opens w) (closes w) (is_none (operator w) && is_none (comparison w)) (is_word w) ok p
+plain_word w ok p = find (opens w) (closes w) (is_none (operator_spelled sign w) && is_none (comparison w)) (is_word w) ok p
   where
     find : (o c r i : Bool) → ((o || c) || i) ≡ true → (not o && (not c && r)) ≡ true → i ≡ true
     find true c r i h k = cc
@@ -148,14 +150,23 @@ joined_well Both a b h k = (and_from (well a) (well b) h k, omega arith)
 joined_well Either a b h k = (and_from (well a) (well b) h k, omega arith)
 joined_well Jointly a b h k = (and_from (well a) (well b) h k, omega arith)
 
+under_well : (k : Conditional) (a b : Dep (List ℕ)) → well a ≡ true → well b ≡ true → (well (under k a b) ≡ true) × (operators (under k a b) ≡ operators a + operators b + 1)
+under_well If a b g h = (and_from (well a) (well b) g h, omega arith)
+under_well Unless a b g h = (and_from (well a) (well b) g h, omega arith)
+
+under_else_well : (k : Conditional) (a b c : Dep (List ℕ)) → (well a && well b) ≡ true → well c ≡ true
+    → (well (under_else k a b c) ≡ true) × (operators (under_else k a b c) ≡ operators a + operators b + operators c + 2)
+under_else_well If a b c g h = (and_from (well a) _ (first_of_both (well a) (well b) g) (and_from (well b) (well c) (second_of_both (well a) (well b) g) h), omega arith)
+under_else_well Unless a b c g h = (and_from (well a) _ (first_of_both (well a) (well b) g) (and_from (well b) (well c) (second_of_both (well a) (well b) g) h), omega arith)
+
 inner_good : (o : List Hand) (d : Dep (List ℕ)) → list_all hand_well o ≡ true → well d ≡ true → IsGoodHand (0 + operators d + 1) o (inner_else o d)
 inner_good [] d w h = tt
 inner_good (nothing ∷ o) d w h = tt
 inner_good (in_chain j a ∷ o) d w h = tt
 inner_good (in_difference a ∷ o) d w h = tt
-inner_good (in_condition a ∷ o) d w h = (and_from (well a) (well d) (first_of_both (well a) (list_all hand_well o) w) h, omega arith, refl)
-inner_good (in_else a b ∷ o) d w h = tt
-inner_good (in_inner_else a b ∷ o) d w h = tt
+inner_good (in_condition k a ∷ o) d w h = (and_from (well a) (well d) (first_of_both (well a) (list_all hand_well o) w) h, omega arith, refl)
+inner_good (in_else k a b ∷ o) d w h = tt
+inner_good (in_inner_else k a b ∷ o) d w h = tt
 
 chain_good : (b : Bool) (i j : Joint) (a d : Dep (List ℕ)) (o : List Hand) → well a ≡ true → well d ≡ true → IsGoodHand (operators a + 1 + operators d + 1) o (going_on_if b (in_chain j (joined i a d)))
 chain_good true i j a d o h k = let g = joined_well i a d h k in let e = g.1 in (g.0, omega arith, tt)
@@ -164,19 +175,19 @@ chain_good false i j a d o h k = tt
 goes_good : (o : List Hand) (h : Hand) (d : Dep (List ℕ)) (op : Operator) → list_all hand_well (h ∷ o) ≡ true → well d ≡ true → IsGoodHand (hand_ops h + operators d + 1) o (goes_on o h d op)
 goes_good o nothing d (Link j) w k = (k, omega arith, tt)
 goes_good o nothing d Minus w k = (k, omega arith, tt)
-goes_good o nothing d If w k = (k, omega arith, tt)
+goes_good o nothing d (Condition c) w k = (k, omega arith, tt)
 goes_good o nothing d Else w k = inner_good o d w k
 goes_good o (in_chain i a) d (Link j) w k = chain_good (same_joint i j) i j a d o (first_of_both (well a) (list_all hand_well o) w) k
-goes_good o (in_condition a) d Else w k = (and_from (well a) (well d) (first_of_both (well a) (list_all hand_well o) w) k, omega arith, tt)
+goes_good o (in_condition c a) d Else w k = (and_from (well a) (well d) (first_of_both (well a) (list_all hand_well o) w) k, omega arith, tt)
 goes_good o (in_chain i a) d Minus w k = tt
-goes_good o (in_chain i a) d If w k = tt
+goes_good o (in_chain i a) d (Condition c) w k = tt
 goes_good o (in_chain i a) d Else w k = tt
-goes_good o (in_condition a) d (Link j) w k = tt
-goes_good o (in_condition a) d Minus w k = tt
-goes_good o (in_condition a) d If w k = tt
+goes_good o (in_condition c a) d (Link j) w k = tt
+goes_good o (in_condition c a) d Minus w k = tt
+goes_good o (in_condition c a) d (Condition c') w k = tt
 goes_good o (in_difference a) d op w k = tt
-goes_good o (in_else a b) d op w k = tt
-goes_good o (in_inner_else a b) d op w k = tt
+goes_good o (in_else c a b) d op w k = tt
+goes_good o (in_inner_else c a b) d op w k = tt
 
 go_on_good : (o : List Hand) (n : ℕ) (h : Hand) (d : Dep (List ℕ)) (op : Operator) (r : Option Hand) → GoodHands n (operators d) (h ∷ o) → IsGoodHand (hand_ops h + operators d + 1) o r → IsGood (go_on o n op r)
 go_on_good o n h d op None g k = tt
@@ -193,16 +204,16 @@ abbrev whole_is : Hand → Dep (List ℕ) → Type 0
 whole_is h d = (well (whole h d) ≡ true) × (operators (whole h d) ≤ hand_ops h + operators d)
 
 closed_good : (os : List Hand) (n : ℕ) (h o : Hand) (d : Dep (List ℕ)) → GoodHands n (operators d) (h ∷ o ∷ os) → well d ≡ true → GoodDue os n (closed h o d)
-closed_good os n (in_inner_else a b) (in_condition c) d g k =
+closed_good os n (in_inner_else kind a b) (in_condition i c) d g k =
     let e = g.links.0 in
     let m = g.counted in
-    let r = second_of_both (well a && well b) (list_all hand_well (in_condition c ∷ os)) g.wells in
+    let r = second_of_both (well a && well b) (list_all hand_well (in_condition i c ∷ os)) g.wells in
     (record { wells = and_from (well a && well b) _ (first_of_both (well a && well b) _ g.wells) (second_of_both (well c) (list_all hand_well os) r); links = (tt, g.links.1.1); counted = omega arith; limit = g.limit }, k, refl)
-closed_good os n (in_inner_else a b) nothing d g k = absurd (g.links.0)
-closed_good os n (in_inner_else a b) (in_chain j c) d g k = absurd (g.links.0)
-closed_good os n (in_inner_else a b) (in_difference c) d g k = absurd (g.links.0)
-closed_good os n (in_inner_else a b) (in_else c e) d g k = absurd (g.links.0)
-closed_good os n (in_inner_else a b) (in_inner_else c e) d g k = absurd (g.links.0)
+closed_good os n (in_inner_else kind a b) nothing d g k = absurd (g.links.0)
+closed_good os n (in_inner_else kind a b) (in_chain j c) d g k = absurd (g.links.0)
+closed_good os n (in_inner_else kind a b) (in_difference c) d g k = absurd (g.links.0)
+closed_good os n (in_inner_else kind a b) (in_else i c e) d g k = absurd (g.links.0)
+closed_good os n (in_inner_else kind a b) (in_inner_else i c e) d g k = absurd (g.links.0)
 closed_good os n nothing o d g k = let m = g.counted in (record { wells = g.wells; links = g.links.1; counted = omega arith; limit = g.limit }, k, refl)
 closed_good os n (in_chain j a) o d g k =
     let m = g.counted in
@@ -212,13 +223,16 @@ closed_good os n (in_chain j a) o d g k =
 closed_good os n (in_difference a) o d g k =
     let m = g.counted in
     (record { wells = second_of_both (well a) _ g.wells; links = g.links.1; counted = omega arith; limit = g.limit }, and_from (well a) (well d) (first_of_both (well a) _ g.wells) k, refl)
-closed_good os n (in_condition a) o d g k =
+closed_good os n (in_condition c a) o d g k =
     let m = g.counted in
-    (record { wells = second_of_both (well a) _ g.wells; links = g.links.1; counted = omega arith; limit = g.limit }, and_from (well a) (well d) (first_of_both (well a) _ g.wells) k, refl)
-closed_good os n (in_else a b) o d g k =
+    let w = under_well c a d (first_of_both (well a) _ g.wells) k in
+    let e = w.1 in
+    (record { wells = second_of_both (well a) _ g.wells; links = g.links.1; counted = omega arith; limit = g.limit }, w.0, refl)
+closed_good os n (in_else c a b) o d g k =
     let m = g.counted in
-    let ab = first_of_both (well a && well b) _ g.wells in
-    (record { wells = second_of_both (well a && well b) _ g.wells; links = g.links.1; counted = omega arith; limit = g.limit }, and_from (well a) _ (first_of_both (well a) (well b) ab) (and_from (well b) (well d) (second_of_both (well a) (well b) ab) k), refl)
+    let w = under_else_well c a b d (first_of_both (well a && well b) _ g.wells) k in
+    let e = w.1 in
+    (record { wells = second_of_both (well a && well b) _ g.wells; links = g.links.1; counted = omega arith; limit = g.limit }, w.0, refl)
 
 close_good : (o : List Hand) (n : ℕ) (h : Hand) (d : Dep (List ℕ)) → GoodHands n (operators d) (h ∷ o) → well d ≡ true → IsGood (close o n h d)
 close_good [] n h d g k = tt
@@ -256,12 +270,13 @@ end_good (o ∷ os) n (operator_due h name d) g = tt
 end_good [] n (operator_due nothing name d) g = let m = g.0.counted in let l = g.0.limit in (g.1, omega arith)
 end_good [] n (operator_due (in_chain j a) name d) g = let m = g.0.counted in let l = g.0.limit in let w = joined_well j a d (first_of_both (well a) _ g.0.wells) g.1 in let e = w.1 in (w.0, omega arith)
 end_good [] n (operator_due (in_difference a) name d) g = let m = g.0.counted in let l = g.0.limit in (and_from (well a) (well d) (first_of_both (well a) _ g.0.wells) g.1, omega arith)
-end_good [] n (operator_due (in_condition a) name d) g = let m = g.0.counted in let l = g.0.limit in (and_from (well a) (well d) (first_of_both (well a) _ g.0.wells) g.1, omega arith)
-end_good [] n (operator_due (in_else a b) name d) g =
+end_good [] n (operator_due (in_condition c a) name d) g = let m = g.0.counted in let l = g.0.limit in let w = under_well c a d (first_of_both (well a) _ g.0.wells) g.1 in let e = w.1 in (w.0, omega arith)
+end_good [] n (operator_due (in_else c a b) name d) g =
     let m = g.0.counted in let l = g.0.limit in
-    let ab = first_of_both (well a && well b) _ g.0.wells in
-    (and_from (well a) _ (first_of_both (well a) (well b) ab) (and_from (well b) (well d) (second_of_both (well a) (well b) ab) g.1), omega arith)
-end_good [] n (operator_due (in_inner_else a b) name d) g = absurd (g.0.links.0)
+    let w = under_else_well c a b d (first_of_both (well a && well b) _ g.0.wells) g.1 in
+    let e = w.1 in
+    (w.0, omega arith)
+end_good [] n (operator_due (in_inner_else c a b) name d) g = absurd (g.0.links.0)
 
 read_good : (ws : List (List ℕ)) (p : Point) → Good p → list_all ok_word ws ≡ true → IsWellRead (reading_from p ws)
 read_good [] p g h = end_good p.outer p.operators p.due g

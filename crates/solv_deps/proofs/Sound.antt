@@ -1,5 +1,6 @@
 -- What is read was written by the grammar.
 use Rattle.std.proofs.Common.{◌≡◌, ℕ, ◌+◌, Bool, true, false, ◌&&◌, List, [], ◌∷◌, ◌++◌, length, Option, Some, None, Result, Ok, Err, refl, sym, ap, ◌∙◌, append_assoc, append-nil, subst, inl, inr, ◌⊎◌, not, nat_le}
+use Rattle.std.specs.Option.{option_or}
 use Rattle.std.specs.Prelude.{codes, if◌then◌else◌, is_some}
 use Rattle.solv_base.specs.declared.comparison.Cmp.{Cmp}
 use Rattle.solv_base.specs.Dependency.{Dep, versioned, one}
@@ -7,9 +8,11 @@ use Rattle.solv_deps.specs.declared.fault.DepFault.{DepFault}
 use Rattle.solv_deps.specs.declared.fault.DepFault.TheVariants as Fault
 use Rattle.solv_deps.specs.declared.sign.Joint.{Joint}
 use Rattle.solv_deps.specs.declared.sign.Joint.TheVariants.{Both, Either, Jointly}
+use Rattle.solv_deps.specs.declared.sign.Conditional.{Conditional}
+use Rattle.solv_deps.specs.declared.sign.Conditional.TheVariants.{If, Unless}
 use Rattle.solv_deps.specs.declared.sign.Operator.{Operator}
-use Rattle.solv_deps.specs.declared.sign.Operator.TheVariants.{Link, Minus, If, Else}
-use Rattle.solv_deps.specs.Grammar.{operator, comparison, opens, closes, is_plain, is_namespace, named, joined, sign, word_is, Operand, Chain, name, compared, inside, two, more, alone, chain, less, provided, provided_else, provided_inside, operand_words, chain_words, expr_words, operand_sense, chain_sense, operand_right, chain_right, expr_right}
+use Rattle.solv_deps.specs.declared.sign.Operator.TheVariants.{Link, Minus, Condition, Else}
+use Rattle.solv_deps.specs.Grammar.{operator, comparison, opens, closes, is_plain, is_namespace, named, joined, Spelling, by_sign, by_word, spelled, operator_spelled, sign, rpm_word, word_is, Operand, Chain, name, compared, inside, two, more, alone, chain, less, provided, provided_else, provided_inside, operand_words, chain_words, expr_words, operand_sense, chain_sense, operand_right, chain_right, expr_right}
 use Rattle.solv_deps.specs.Reading.{Hand, nothing, in_chain, in_difference, in_condition, in_else, in_inner_else, Due, operand_due, evr_due, operator_due, Point, whole, goes_on, going_on_if, same_joint, closed, close, go_on, at_operand, at_evr, at_other, at_operator, comparison_due, step_due, step, and_then, reading_from, reading, beginning, end_due}
 use Rattle.solv_deps.specs.Laws.{Spells}
 use Rattle.solv_list.proofs.Lists.{same_bytes}
@@ -19,32 +22,47 @@ use Rattle.std.proofs.lemmas.Bool.{and_from}
 abbrev pub Words : Type 0
 Words = List (List ℕ)
 
--- a word that is an operator is its sign
+-- a word that is an operator is its sign, or rpm's word for it
 chosen : (b : Bool) (p o : Operator) (rest : Option Operator) → (if b then Some p else rest) ≡ Some o → ((b ≡ true) × (p ≡ o)) ⊎ (rest ≡ Some o)
 chosen true p o rest e = inl (refl, cc)
 chosen false p o rest e = inr e
 
-is_sign : (p o : Operator) (w : List ℕ) → (word_is (sign p) w ≡ true) × (p ≡ o) → w ≡ sign o
-is_sign p o w k = sym (same_bytes (sign p) w k.0) ∙ ap sign k.1
+is_text : (text : Operator → List ℕ) (p o : Operator) (w : List ℕ) → (word_is (text p) w ≡ true) × (p ≡ o) → w ≡ text o
+is_text text p o w k = sym (same_bytes (text p) w k.0) ∙ ap text k.1
 
-pub operator_sign : (w : List ℕ) (o : Operator) → operator w ≡ Some o → w ≡ sign o
-operator_sign w o e =
-    elim (chosen (word_is (codes "&") w) (Link Both) o _ e) [
-      | inl k ↦ is_sign (Link Both) o w k
-      | inr e ↦ elim (chosen (word_is (codes "|") w) (Link Either) o _ e) [
-        | inl k ↦ is_sign (Link Either) o w k
-        | inr e ↦ elim (chosen (word_is (codes "+") w) (Link Jointly) o _ e) [
-          | inl k ↦ is_sign (Link Jointly) o w k
-          | inr e ↦ elim (chosen (word_is (codes "-") w) Minus o _ e) [
-            | inl k ↦ is_sign Minus o w k
-            | inr e ↦ elim (chosen (word_is (codes "<IF>") w) If o _ e) [
-              | inl k ↦ is_sign If o w k
-              | inr e ↦ elim (chosen (word_is (codes "<ELSE>") w) Else o _ e) [ inl k ↦ is_sign Else o w k | inr e ↦ cc ]
+spelled_text : (text : Operator → List ℕ) (w : List ℕ) (o : Operator) → operator_spelled text w ≡ Some o → w ≡ text o
+spelled_text text w o e =
+    elim (chosen (word_is (text (Link Both)) w) (Link Both) o _ e) [
+      | inl k ↦ is_text text (Link Both) o w k
+      | inr e ↦ elim (chosen (word_is (text (Link Either)) w) (Link Either) o _ e) [
+        | inl k ↦ is_text text (Link Either) o w k
+        | inr e ↦ elim (chosen (word_is (text (Link Jointly)) w) (Link Jointly) o _ e) [
+          | inl k ↦ is_text text (Link Jointly) o w k
+          | inr e ↦ elim (chosen (word_is (text Minus) w) Minus o _ e) [
+            | inl k ↦ is_text text Minus o w k
+            | inr e ↦ elim (chosen (word_is (text (Condition If)) w) (Condition If) o _ e) [
+              | inl k ↦ is_text text (Condition If) o w k
+              | inr e ↦ elim (chosen (word_is (text (Condition Unless)) w) (Condition Unless) o _ e) [
+                | inl k ↦ is_text text (Condition Unless) o w k
+                | inr e ↦ elim (chosen (word_is (text Else) w) Else o _ e) [ inl k ↦ is_text text Else o w k | inr e ↦ cc ]
+              ]
             ]
           ]
         ]
       ]
     ]
+
+-- the operator has this spelling
+record Spelt (w : List ℕ) (o : Operator) : Type 0 where
+  pub spelling : Spelling
+  pub is : w ≡ spelled spelling o
+
+operator_spelt : (w : List ℕ) (o : Operator) → operator w ≡ Some o → Spelt w o
+operator_spelt w o e = find (operator_spelled sign w) refl e
+  where
+    find : (r : Option Operator) → operator_spelled sign w ≡ r → option_or r (operator_spelled rpm_word w) ≡ Some o → Spelt w o
+    find (Some p) k e = let same : p ≡ o = cc in record { spelling = by_sign; is = spelled_text sign w o (k ∙ ap Some same) }
+    find None k e = record { spelling = by_word; is = spelled_text rpm_word w o e }
 
 -- an operand that was written with this sense
 record Operands (words : Words) (d : Dep (List ℕ)) : Type 0 where
@@ -81,52 +99,56 @@ abbrev front_words : Joint → Front → Words
 front_words j (first x) = operand_words x
 front_words j (several c) = chain_words j c
 
-abbrev with_last : Front → Operand → Chain
-with_last (first x) y = two x y
-with_last (several c) y = more c y
+abbrev with_last : Front → Spelling → Operand → Chain
+with_last (first x) s y = two x s y
+with_last (several c) s y = more c s y
 
-last_right : (f : Front) (y : Operand) → front_right f ≡ true → operand_right y ≡ true → chain_right (with_last f y) ≡ true
-last_right (first x) y h k = and_from (operand_right x) (operand_right y) h k
-last_right (several c) y h k = and_from (chain_right c) (operand_right y) h k
+last_right : (f : Front) (s : Spelling) (y : Operand) → front_right f ≡ true → operand_right y ≡ true → chain_right (with_last f s y) ≡ true
+last_right (first x) s y h k = and_from (operand_right x) (operand_right y) h k
+last_right (several c) s y h k = and_from (chain_right c) (operand_right y) h k
 
-last_sense : (j : Joint) (f : Front) (y : Operand) → chain_sense j (with_last f y) ≡ joined j (front_sense j f) (operand_sense y)
-last_sense j (first x) y = refl
-last_sense j (several c) y = refl
+last_sense : (j : Joint) (f : Front) (s : Spelling) (y : Operand) → chain_sense j (with_last f s y) ≡ joined j (front_sense j f) (operand_sense y)
+last_sense j (first x) s y = refl
+last_sense j (several c) s y = refl
 
-last_words : (j : Joint) (f : Front) (y : Operand) → chain_words j (with_last f y) ≡ front_words j f ++ sign (Link j) ∷ operand_words y
-last_words j (first x) y = refl
-last_words j (several c) y = refl
+last_words : (j : Joint) (f : Front) (s : Spelling) (y : Operand) → chain_words j (with_last f s y) ≡ front_words j f ++ spelled s (Link j) ∷ operand_words y
+last_words j (first x) s y = refl
+last_words j (several c) s y = refl
 
 record Fronts (j : Joint) (words : Words) (d : Dep (List ℕ)) : Type 0 where
   pub front : Front
   pub right : front_right front ≡ true
   pub sense : front_sense j front ≡ d
-  pub is : front_words j front ++ sign (Link j) ∷ [] ≡ words
+  pub spelling : Spelling
+  pub is : front_words j front ++ spelled spelling (Link j) ∷ [] ≡ words
 
 record Lefts (o : Operator) (words : Words) (d : Dep (List ℕ)) : Type 0 where
   pub operand : Operand
   pub right : operand_right operand ≡ true
   pub sense : operand_sense operand ≡ d
-  pub is : operand_words operand ++ sign o ∷ [] ≡ words
+  pub spelling : Spelling
+  pub is : operand_words operand ++ spelled spelling o ∷ [] ≡ words
 
-record Conditions (words : Words) (a b : Dep (List ℕ)) : Type 0 where
+record Conditions (k : Conditional) (words : Words) (a b : Dep (List ℕ)) : Type 0 where
   pub operand : Operand
   pub condition : Operand
   pub right : operand_right operand ≡ true
   pub right_condition : operand_right condition ≡ true
   pub sense : operand_sense operand ≡ a
   pub sense_condition : operand_sense condition ≡ b
-  pub is : operand_words operand ++ sign If ∷ (operand_words condition ++ sign Else ∷ []) ≡ words
+  pub spelling : Spelling
+  pub else_spelling : Spelling
+  pub is : operand_words operand ++ spelled spelling (Condition k) ∷ (operand_words condition ++ spelled else_spelling Else ∷ []) ≡ words
 
 -- the words of a rule in hand, in its parentheses
 abbrev IsHand : List Hand → Hand → Words → Type 0
 IsHand o nothing ws = ws ≡ []
 IsHand o (in_chain j a) ws = Fronts j ws a
 IsHand o (in_difference a) ws = Lefts Minus ws a
-IsHand o (in_condition a) ws = Lefts If ws a
-IsHand o (in_else a b) ws = Conditions ws a b
-IsHand (in_condition c ∷ o) (in_inner_else a b) ws = (a ≡ c) × Lefts Else ws b
-IsHand o (in_inner_else a b) ws = ⊥
+IsHand o (in_condition k a) ws = Lefts (Condition k) ws a
+IsHand o (in_else k a b) ws = Conditions k ws a b
+IsHand (in_condition i c ∷ o) (in_inner_else k a b) ws = (k ≡ i) × ((a ≡ c) × Lefts Else ws b)
+IsHand o (in_inner_else k a b) ws = ⊥
 
 -- the words before the innermost parentheses that are open
 abbrev Outers : List Hand → Words → Type 0
@@ -154,14 +176,17 @@ record Operated (o : List Hand) (h : Hand) (nm : Option (List ℕ)) (d : Dep (Li
 
 -- a conditional whose `<ELSE>` stands in the parentheses is whole
 record Closed (h : Hand) (nm : Option (List ℕ)) (d : Dep (List ℕ)) (words : Words) : Type 0 where
+  pub kind : Conditional
   pub operand : Operand
+  pub spelling : Spelling
   pub condition : Operand
+  pub else_spelling : Spelling
   pub other : Operand
-  pub right : expr_right (provided_inside operand condition other) ≡ true
-  pub hand : h ≡ in_else (operand_sense operand) (operand_sense condition)
+  pub right : expr_right (provided_inside kind operand spelling condition else_spelling other) ≡ true
+  pub hand : h ≡ in_else kind (operand_sense operand) (operand_sense condition)
   pub bare : IsNone nm
   pub sense : operand_sense other ≡ d
-  pub is : expr_words (provided_inside operand condition other) ≡ words
+  pub is : expr_words (provided_inside kind operand spelling condition else_spelling other) ≡ words
 
 -- a comparison stands behind a bare name
 record Compared (o : List Hand) (h : Hand) (nm : List ℕ) (c : Cmp) (words : Words) : Type 0 where
@@ -187,7 +212,7 @@ record IsAt (o : List Hand) (next : Due) (words : Words) : Type 0 where
   pub is : before ++ here ≡ words
 
 abbrev is_inner : Hand → Bool
-is_inner (in_inner_else a b) = true
+is_inner (in_inner_else k a b) = true
 is_inner h = false
 
 behind : (a : Words) (w : List ℕ) (b ws : Words) → a ++ w ∷ [] ≡ ws → a ++ w ∷ b ≡ ws ++ b
@@ -201,33 +226,33 @@ whole_operated : (o : List Hand) (h : Hand) (vs : Words) (x : Operand) (d : Dep 
 whole_operated o nothing vs x d n e r s = record { expr = alone x; right = r; sense = s; is = rw e refl }
 whole_operated o (in_chain j a) vs x d n f r s =
     record {
-      expr = chain j (with_last f.front x);
-      right = last_right f.front x f.right r;
-      sense = rw (last_sense j f.front x, f.sense, s) refl;
-      is = last_words j f.front x ∙ behind (front_words j f.front) (sign (Link j)) (operand_words x) vs f.is;
+      expr = chain j (with_last f.front f.spelling x);
+      right = last_right f.front f.spelling x f.right r;
+      sense = rw (last_sense j f.front f.spelling x, f.sense, s) refl;
+      is = last_words j f.front f.spelling x ∙ behind (front_words j f.front) (spelled f.spelling (Link j)) (operand_words x) vs f.is;
     }
 whole_operated o (in_difference a) vs x d n l r s =
     record {
-      expr = less l.operand x;
+      expr = less l.operand l.spelling x;
       right = and_from (operand_right l.operand) (operand_right x) l.right r;
       sense = rw (l.sense, s) refl;
-      is = behind (operand_words l.operand) (sign Minus) (operand_words x) vs l.is;
+      is = behind (operand_words l.operand) (spelled l.spelling Minus) (operand_words x) vs l.is;
     }
-whole_operated o (in_condition a) vs x d n l r s =
+whole_operated o (in_condition k a) vs x d n l r s =
     record {
-      expr = provided l.operand x;
+      expr = provided k l.operand l.spelling x;
       right = and_from (operand_right l.operand) (operand_right x) l.right r;
       sense = rw (l.sense, s) refl;
-      is = behind (operand_words l.operand) (sign If) (operand_words x) vs l.is;
+      is = behind (operand_words l.operand) (spelled l.spelling (Condition k)) (operand_words x) vs l.is;
     }
-whole_operated o (in_else a b) vs x d n l r s =
+whole_operated o (in_else k a b) vs x d n l r s =
     record {
-      expr = provided_else l.operand l.condition x;
+      expr = provided_else k l.operand l.spelling l.condition l.else_spelling x;
       right = and_from (operand_right l.operand) (operand_right l.condition && operand_right x) l.right (and_from (operand_right l.condition) (operand_right x) l.right_condition r);
       sense = rw (l.sense, l.sense_condition, s) refl;
-      is = behind_else (operand_words l.operand) (sign If) (operand_words l.condition) (sign Else) (operand_words x) vs l.is;
+      is = behind_else (operand_words l.operand) (spelled l.spelling (Condition k)) (operand_words l.condition) (spelled l.else_spelling Else) (operand_words x) vs l.is;
     }
-whole_operated o (in_inner_else a b) vs x d n l r s = cc
+whole_operated o (in_inner_else k a b) vs x d n l r s = cc
 
 -- what stands at a point where an operator is due is an expression, where no `<ELSE>` is open
 whole_here : (o : List Hand) (h : Hand) (nm : Option (List ℕ)) (d : Dep (List ℕ)) (ws : Words) → is_inner h ≡ false → IsDue o (operator_due h nm d) ws → Spells ws (whole h d)
@@ -235,7 +260,7 @@ whole_here o h nm d ws n g =
     elim g [
       | inl x ↦ let P : Words → Type 0 = λ v. Spells v (whole h d) in subst P x.is (whole_operated o h x.front x.operand d n x.hand x.right x.sense)
       | inr y ↦ record {
-        expr = provided_inside y.operand y.condition y.other;
+        expr = provided_inside y.kind y.operand y.spelling y.condition y.else_spelling y.other;
         right = y.right;
         sense = rw (y.hand, y.sense) refl;
         is = y.is;
@@ -256,9 +281,9 @@ end_written [] (operator_due h nm x) ws d p e =
     outermost nothing g = refl
     outermost (in_chain j a) g = refl
     outermost (in_difference a) g = refl
-    outermost (in_condition a) g = refl
-    outermost (in_else a b) g = refl
-    outermost (in_inner_else a b) g = elim g [ inl x ↦ absurd x.hand | inr y ↦ let k = y.hand in cc ]
+    outermost (in_condition k a) g = refl
+    outermost (in_else k a b) g = refl
+    outermost (in_inner_else k a b) g = elim g [ inl x ↦ absurd x.hand | inr y ↦ let e = y.hand in cc ]
 end_written (h ∷ o) (operand_due k) ws d p e = cc
 end_written (h ∷ o) (evr_due k nm c) ws d p e = cc
 end_written (h ∷ o) (operator_due k nm x) ws d p e = cc
@@ -307,75 +332,76 @@ at_comparison o h nm d c w vs e g =
       | inr y ↦ absurd y.bare
     ]
 
--- a sign behind an operand
-with_sign : (o : List Hand) (h : Hand) (nm : Option (List ℕ)) (d : Dep (List ℕ)) (op : Operator) (k : Hand) (vs : Words) → IsDue o (operator_due h nm d) vs → goes_on o h d op ≡ Some k → IsHand o k (vs ++ sign op ∷ [])
-with_sign o h nm d op k vs g e =
+-- an operator behind an operand
+with_operator : (t : Spelling) (o : List Hand) (h : Hand) (nm : Option (List ℕ)) (d : Dep (List ℕ)) (op : Operator) (k : Hand) (vs : Words) → IsDue o (operator_due h nm d) vs → goes_on o h d op ≡ Some k → IsHand o k (vs ++ spelled t op ∷ [])
+with_operator t o h nm d op k vs g e =
     elim g [
       | inl x ↦
-          let P : Words → Type 0 = λ v. IsHand o k (v ++ sign op ∷ []) in
+          let P : Words → Type 0 = λ v. IsHand o k (v ++ spelled t op ∷ []) in
           subst P x.is (rule o h d op k x.front x.operand x.hand x.right x.sense e)
-      | inr y ↦ absurd (closed_stops o h d op k (operand_sense y.operand) (operand_sense y.condition) y.hand e)
+      | inr y ↦ absurd (closed_stops o h d op k y.kind (operand_sense y.operand) (operand_sense y.condition) y.hand e)
     ]
   where
-    closed_stops : (o : List Hand) (h : Hand) (d : Dep (List ℕ)) (op : Operator) (k : Hand) (a b : Dep (List ℕ)) → h ≡ in_else a b → goes_on o h d op ≡ Some k → ⊥
-    closed_stops o (in_else a' b') d (Link j) k a b s e = cc
-    closed_stops o (in_else a' b') d Minus k a b s e = cc
-    closed_stops o (in_else a' b') d If k a b s e = cc
-    closed_stops o (in_else a' b') d Else k a b s e = cc
-    closed_stops o nothing d op k a b s e = cc
-    closed_stops o (in_chain j c) d op k a b s e = cc
-    closed_stops o (in_difference c) d op k a b s e = cc
-    closed_stops o (in_condition c) d op k a b s e = cc
-    closed_stops o (in_inner_else c c') d op k a b s e = cc
+    closed_stops : (o : List Hand) (h : Hand) (d : Dep (List ℕ)) (op : Operator) (k : Hand) (i : Conditional) (a b : Dep (List ℕ)) → h ≡ in_else i a b → goes_on o h d op ≡ Some k → ⊥
+    closed_stops o (in_else i' a' b') d (Link j) k i a b s e = cc
+    closed_stops o (in_else i' a' b') d Minus k i a b s e = cc
+    closed_stops o (in_else i' a' b') d (Condition c) k i a b s e = cc
+    closed_stops o (in_else i' a' b') d Else k i a b s e = cc
+    closed_stops o nothing d op k i a b s e = cc
+    closed_stops o (in_chain j c) d op k i a b s e = cc
+    closed_stops o (in_difference c) d op k i a b s e = cc
+    closed_stops o (in_condition i' c) d op k i a b s e = cc
+    closed_stops o (in_inner_else i' c c') d op k i a b s e = cc
 
-    left_of : (o : List Hand) (op : Operator) (d : Dep (List ℕ)) (vs : Words) (x : Operand) → vs ≡ [] → operand_right x ≡ true → operand_sense x ≡ d → Lefts op ((vs ++ operand_words x) ++ sign op ∷ []) d
-    left_of o op d vs x e r s = record { operand = x; right = r; sense = s; is = rw e refl }
+    left_of : (o : List Hand) (op : Operator) (d : Dep (List ℕ)) (vs : Words) (x : Operand) → vs ≡ [] → operand_right x ≡ true → operand_sense x ≡ d → Lefts op ((vs ++ operand_words x) ++ spelled t op ∷ []) d
+    left_of o op d vs x e r s = record { operand = x; right = r; sense = s; spelling = t; is = rw e refl }
 
     chained : (o : List Hand) (b : Bool) (i j : Joint) (a d : Dep (List ℕ)) (k : Hand) (vs : Words) (x : Operand) → same_joint i j ≡ b → Fronts i vs a → operand_right x ≡ true → operand_sense x ≡ d
-        → going_on_if b (in_chain j (joined i a d)) ≡ Some k → IsHand o k ((vs ++ operand_words x) ++ sign (Link j) ∷ [])
+        → going_on_if b (in_chain j (joined i a d)) ≡ Some k → IsHand o k ((vs ++ operand_words x) ++ spelled t (Link j) ∷ [])
     chained o false i j a d k vs x q f r s e = cc
     chained o true i j a d k vs x q f r s e =
         let same : in_chain j (joined i a d) ≡ k = cc in
         let ij : i ≡ j = same_joint_is i j q in
-        let P : Hand → Type 0 = λ h. IsHand o h ((vs ++ operand_words x) ++ sign (Link j) ∷ []) in
+        let P : Hand → Type 0 = λ h. IsHand o h ((vs ++ operand_words x) ++ spelled t (Link j) ∷ []) in
         subst P same (rw (← ij) (record {
-          front = several (with_last f.front x);
-          right = last_right f.front x f.right r;
-          sense = rw (last_sense i f.front x, f.sense, s) refl;
-          is = ap (λ v. v ++ sign (Link i) ∷ []) (last_words i f.front x ∙ behind (front_words i f.front) (sign (Link i)) (operand_words x) vs f.is);
+          front = several (with_last f.front f.spelling x);
+          right = last_right f.front f.spelling x f.right r;
+          sense = rw (last_sense i f.front f.spelling x, f.sense, s) refl;
+          spelling = t;
+          is = ap (λ v. v ++ spelled t (Link i) ∷ []) (last_words i f.front f.spelling x ∙ behind (front_words i f.front) (spelled f.spelling (Link i)) (operand_words x) vs f.is);
         }))
 
     rule : (o : List Hand) (h : Hand) (d : Dep (List ℕ)) (op : Operator) (k : Hand) (vs : Words) (x : Operand) → IsHand o h vs → operand_right x ≡ true → operand_sense x ≡ d → goes_on o h d op ≡ Some k
-        → IsHand o k ((vs ++ operand_words x) ++ sign op ∷ [])
+        → IsHand o k ((vs ++ operand_words x) ++ spelled t op ∷ [])
     rule o nothing d (Link j) k vs x g r s e =
-        let P : Hand → Type 0 = λ h. IsHand o h ((vs ++ operand_words x) ++ sign (Link j) ∷ []) in
+        let P : Hand → Type 0 = λ h. IsHand o h ((vs ++ operand_words x) ++ spelled t (Link j) ∷ []) in
         let same : in_chain j d ≡ k = cc in
-        subst P same (record { front = first x; right = r; sense = s; is = rw g refl })
+        subst P same (record { front = first x; right = r; sense = s; spelling = t; is = rw g refl })
     rule o nothing d Minus k vs x g r s e =
-        let P : Hand → Type 0 = λ h. IsHand o h ((vs ++ operand_words x) ++ sign Minus ∷ []) in
+        let P : Hand → Type 0 = λ h. IsHand o h ((vs ++ operand_words x) ++ spelled t Minus ∷ []) in
         let same : in_difference d ≡ k = cc in
         subst P same (left_of o Minus d vs x g r s)
-    rule o nothing d If k vs x g r s e =
-        let P : Hand → Type 0 = λ h. IsHand o h ((vs ++ operand_words x) ++ sign If ∷ []) in
-        let same : in_condition d ≡ k = cc in
-        subst P same (left_of o If d vs x g r s)
-    rule (in_condition c ∷ o) nothing d Else k vs x g r s e =
-        let P : Hand → Type 0 = λ h. IsHand (in_condition c ∷ o) h ((vs ++ operand_words x) ++ sign Else ∷ []) in
-        let same : in_inner_else c d ≡ k = cc in
-        subst P same (refl, left_of o Else d vs x g r s)
+    rule o nothing d (Condition c) k vs x g r s e =
+        let P : Hand → Type 0 = λ h. IsHand o h ((vs ++ operand_words x) ++ spelled t (Condition c) ∷ []) in
+        let same : in_condition c d ≡ k = cc in
+        subst P same (left_of o (Condition c) d vs x g r s)
+    rule (in_condition i c ∷ o) nothing d Else k vs x g r s e =
+        let P : Hand → Type 0 = λ h. IsHand (in_condition i c ∷ o) h ((vs ++ operand_words x) ++ spelled t Else ∷ []) in
+        let same : in_inner_else i c d ≡ k = cc in
+        subst P same (refl, (refl, left_of o Else d vs x g r s))
     rule [] nothing d Else k vs x g r s e = cc
     rule (nothing ∷ o) nothing d Else k vs x g r s e = cc
     rule (in_chain j c ∷ o) nothing d Else k vs x g r s e = cc
     rule (in_difference c ∷ o) nothing d Else k vs x g r s e = cc
-    rule (in_else c c' ∷ o) nothing d Else k vs x g r s e = cc
-    rule (in_inner_else c c' ∷ o) nothing d Else k vs x g r s e = cc
+    rule (in_else i c c' ∷ o) nothing d Else k vs x g r s e = cc
+    rule (in_inner_else i c c' ∷ o) nothing d Else k vs x g r s e = cc
     rule o (in_chain i a) d (Link j) k vs x g r s e = chained o (same_joint i j) i j a d k vs x refl g r s e
     rule o (in_chain i a) d Minus k vs x g r s e = cc
-    rule o (in_chain i a) d If k vs x g r s e = cc
+    rule o (in_chain i a) d (Condition c) k vs x g r s e = cc
     rule o (in_chain i a) d Else k vs x g r s e = cc
-    rule o (in_condition a) d Else k vs x g r s e =
-        let P : Hand → Type 0 = λ h. IsHand o h ((vs ++ operand_words x) ++ sign Else ∷ []) in
-        let same : in_else a d ≡ k = cc in
+    rule o (in_condition c a) d Else k vs x g r s e =
+        let P : Hand → Type 0 = λ h. IsHand o h ((vs ++ operand_words x) ++ spelled t Else ∷ []) in
+        let same : in_else c a d ≡ k = cc in
         subst P same (record {
           operand = g.operand;
           condition = x;
@@ -383,14 +409,16 @@ with_sign o h nm d op k vs g e =
           right_condition = r;
           sense = g.sense;
           sense_condition = s;
-          is = sym (append_assoc (operand_words g.operand) (sign If ∷ operand_words x) (sign Else ∷ [])) ∙ ap (λ v. v ++ sign Else ∷ []) (behind (operand_words g.operand) (sign If) (operand_words x) vs g.is);
+          spelling = g.spelling;
+          else_spelling = t;
+          is = sym (append_assoc (operand_words g.operand) (spelled g.spelling (Condition c) ∷ operand_words x) (spelled t Else ∷ [])) ∙ ap (λ v. v ++ spelled t Else ∷ []) (behind (operand_words g.operand) (spelled g.spelling (Condition c)) (operand_words x) vs g.is);
         })
-    rule o (in_condition a) d (Link j) k vs x g r s e = cc
-    rule o (in_condition a) d Minus k vs x g r s e = cc
-    rule o (in_condition a) d If k vs x g r s e = cc
+    rule o (in_condition c a) d (Link j) k vs x g r s e = cc
+    rule o (in_condition c a) d Minus k vs x g r s e = cc
+    rule o (in_condition c a) d (Condition c') k vs x g r s e = cc
     rule o (in_difference a) d op k vs x g r s e = cc
-    rule o (in_else a b) d op k vs x g r s e = cc
-    rule o (in_inner_else a b) d op k vs x g r s e = cc
+    rule o (in_else c a b) d op k vs x g r s e = cc
+    rule o (in_inner_else c a b) d op k vs x g r s e = cc
 
 regroup : (us vs here : Words) (b c : List ℕ) → us ++ (vs ++ b ∷ (here ++ c ∷ [])) ≡ ((us ++ (vs ++ b ∷ [])) ++ here) ++ c ∷ []
 regroup us vs here b c = simp append_assoc
@@ -411,33 +439,37 @@ closed_due : (o : Hand) (os : List Hand) (h : Hand) (nm : Option (List ℕ)) (d 
 closed_due o os nothing nm d vs here k g = inl (in_parentheses o os nothing nm d vs here refl k g)
 closed_due o os (in_chain j a) nm d vs here k g = inl (in_parentheses o os (in_chain j a) nm d vs here refl k g)
 closed_due o os (in_difference a) nm d vs here k g = inl (in_parentheses o os (in_difference a) nm d vs here refl k g)
-closed_due o os (in_condition a) nm d vs here k g = inl (in_parentheses o os (in_condition a) nm d vs here refl k g)
-closed_due o os (in_else a b) nm d vs here k g = inl (in_parentheses o os (in_else a b) nm d vs here refl k g)
-closed_due (in_condition c) os (in_inner_else a b) nm d vs here k g =
+closed_due o os (in_condition c a) nm d vs here k g = inl (in_parentheses o os (in_condition c a) nm d vs here refl k g)
+closed_due o os (in_else c a b) nm d vs here k g = inl (in_parentheses o os (in_else c a b) nm d vs here refl k g)
+closed_due (in_condition i c) os (in_inner_else kind a b) nm d vs here k g =
     elim g [
       | inl x ↦
-          let l = x.hand.1 in
-          let same : a ≡ c = x.hand.0 in
+          let l = x.hand.1.1 in
+          let same : a ≡ c = x.hand.1.0 in
+          let same_kind : kind ≡ i = x.hand.0 in
           inr (record {
+            kind = i;
             operand = k.operand;
+            spelling = k.spelling;
             condition = l.operand;
+            else_spelling = l.spelling;
             other = x.operand;
             right = and_from (operand_right k.operand) (operand_right l.operand && operand_right x.operand) k.right (and_from (operand_right l.operand) (operand_right x.operand) l.right x.right);
-            hand = rw (same, k.sense, l.sense) refl;
+            hand = rw (same_kind, same, k.sense, l.sense) refl;
             bare = tt;
             sense = x.sense;
-            is = regroup_inside (operand_words k.operand) (sign If) (operand_words l.operand) (sign Else) (operand_words x.operand) (codes "(") (codes ")")
-                ∙ ap (λ v. v ++ codes "(" ∷ (((operand_words l.operand ++ sign Else ∷ []) ++ operand_words x.operand) ++ codes ")" ∷ [])) k.is
+            is = regroup_inside (operand_words k.operand) (spelled k.spelling (Condition i)) (operand_words l.operand) (spelled l.spelling Else) (operand_words x.operand) (codes "(") (codes ")")
+                ∙ ap (λ v. v ++ codes "(" ∷ (((operand_words l.operand ++ spelled l.spelling Else ∷ []) ++ operand_words x.operand) ++ codes ")" ∷ [])) k.is
                 ∙ ap (λ v. vs ++ codes "(" ∷ ((v ++ operand_words x.operand) ++ codes ")" ∷ [])) l.is
                 ∙ ap (λ v. vs ++ codes "(" ∷ (v ++ codes ")" ∷ [])) x.is;
           })
       | inr y ↦ let e = y.hand in cc
     ]
-closed_due nothing os (in_inner_else a b) nm d vs here k g = elim g [ inl x ↦ absurd x.hand | inr y ↦ let e = y.hand in cc ]
-closed_due (in_chain j c) os (in_inner_else a b) nm d vs here k g = elim g [ inl x ↦ absurd x.hand | inr y ↦ let e = y.hand in cc ]
-closed_due (in_difference c) os (in_inner_else a b) nm d vs here k g = elim g [ inl x ↦ absurd x.hand | inr y ↦ let e = y.hand in cc ]
-closed_due (in_else c c') os (in_inner_else a b) nm d vs here k g = elim g [ inl x ↦ absurd x.hand | inr y ↦ let e = y.hand in cc ]
-closed_due (in_inner_else c c') os (in_inner_else a b) nm d vs here k g = elim g [ inl x ↦ absurd x.hand | inr y ↦ let e = y.hand in cc ]
+closed_due nothing os (in_inner_else kind a b) nm d vs here k g = elim g [ inl x ↦ absurd x.hand | inr y ↦ let e = y.hand in cc ]
+closed_due (in_chain j c) os (in_inner_else kind a b) nm d vs here k g = elim g [ inl x ↦ absurd x.hand | inr y ↦ let e = y.hand in cc ]
+closed_due (in_difference c) os (in_inner_else kind a b) nm d vs here k g = elim g [ inl x ↦ absurd x.hand | inr y ↦ let e = y.hand in cc ]
+closed_due (in_else i c c') os (in_inner_else kind a b) nm d vs here k g = elim g [ inl x ↦ absurd x.hand | inr y ↦ let e = y.hand in cc ]
+closed_due (in_inner_else i c c') os (in_inner_else kind a b) nm d vs here k g = elim g [ inl x ↦ absurd x.hand | inr y ↦ let e = y.hand in cc ]
 
 abbrev At : Point → Words → Type 0
 At q ws = IsAt q.outer q.due ws
@@ -501,8 +533,8 @@ step_sign o n h nm d op w q ws k p e = cases (goes_on o h d op) refl e
     room true next g e = cc
     room false next g e =
         let same : record { outer = o; operators = n + 1; due = operand_due next } ≡ q = cc in
-        let sign_is : w ≡ sign op = operator_sign w op k in
-        let here : IsHand o next (p.here ++ w ∷ []) = rw sign_is (with_sign o h nm d op next p.here p.due g) in
+        let t = operator_spelt w op k in
+        let here : IsHand o next (p.here ++ w ∷ []) = rw t.is (with_operator t.spelling o h nm d op next p.here p.due g) in
         subst (λ q. At q (ws ++ w ∷ [])) same (further o (operator_due h nm d) (operand_due next) ws w p here)
 
     cases : (r : Option Hand) → goes_on o h d op ≡ r → go_on o n op r ≡ Ok q → At q (ws ++ w ∷ [])

@@ -1,5 +1,5 @@
 -- The canonical text of a dependency: words joined by one space, and an operand that is itself rich in parentheses, except at
--- the front of a chain that has the same operator.
+-- the front of a chain that has the same operator. Operators are written by their signs.
 use Rattle.std.specs.Prelude.{ℕ, Bool, true, false, not, ◌||◌, List, [], ◌++◌, codes, if◌then◌else◌, nat_lt}
 use Rattle.solv_base.specs.declared.comparison.Cmp.{Cmp}
 use Rattle.solv_base.specs.Dependency.{Dep, Capability, plain, versioned, one, namespace, and, or, with, without, if_then, if_else, unless, unless_else, missing}
@@ -7,7 +7,8 @@ use Rattle.solv_deps.specs.Words.{unpaired_in}
 use Rattle.solv_deps.specs.declared.sign.Joint.{Joint}
 use Rattle.solv_deps.specs.declared.sign.Joint.TheVariants.{Both, Either, Jointly}
 use Rattle.solv_deps.specs.declared.sign.Operator.{Operator}
-use Rattle.solv_deps.specs.declared.sign.Operator.TheVariants.{Link, Minus, If, Else}
+use Rattle.solv_deps.specs.declared.sign.Conditional.TheVariants.{If, Unless}
+use Rattle.solv_deps.specs.declared.sign.Operator.TheVariants.{Link, Minus, Condition, Else}
 use Rattle.solv_deps.specs.Grammar.{sign}
 
 -- the sign of a comparison
@@ -79,8 +80,8 @@ text (and a b) = chain_text Both a (text a) b (text b)
 text (or a b) = chain_text Either a (text a) b (text b)
 text (with a b) = chain_text Jointly a (text a) b (text b)
 text (without a b) = operand_text false a (text a) ++ (spaced Minus ++ operand_text false b (text b))
-text (if_then a b) = operand_text false a (text a) ++ (spaced If ++ operand_text false b (text b))
-text (if_else a b c) = operand_text false a (text a) ++ (spaced If ++ (operand_text false b (text b) ++ (spaced Else ++ operand_text false c (text c))))
-text (unless a b) = operand_text false a (text a) ++ (between (codes "<UNLESS>") ++ operand_text false b (text b))
-text (unless_else a b c) = operand_text false a (text a) ++ (between (codes "<UNLESS>") ++ (operand_text false b (text b) ++ (spaced Else ++ operand_text false c (text c))))
+text (if_then a b) = operand_text false a (text a) ++ (spaced (Condition If) ++ operand_text false b (text b))
+text (if_else a b c) = operand_text false a (text a) ++ (spaced (Condition If) ++ (operand_text false b (text b) ++ (spaced Else ++ operand_text false c (text c))))
+text (unless a b) = operand_text false a (text a) ++ (spaced (Condition Unless) ++ operand_text false b (text b))
+text (unless_else a b c) = operand_text false a (text a) ++ (spaced (Condition Unless) ++ (operand_text false b (text b) ++ (spaced Else ++ operand_text false c (text c))))
 text missing = []

@@ -1,29 +1,66 @@
--- The grammar of dependencies over words: libsolv's signs for rpm's boolean dependencies.
+-- The grammar of dependencies over words: rpm's boolean dependencies, with libsolv's signs or rpm's own words for the operators.
 use Rattle.std.specs.Prelude.{ℕ, ◌+◌, ◌-◌, Bool, true, false, not, ◌&&◌, List, [], ◌∷◌, ◌++◌, length, drop, take, Option, Some, None, codes, is_some, is_none, if◌then◌else◌, unwrap_or, max}
 use Rattle.std.specs.List.{list_any}
+use Rattle.std.specs.Option.{option_or}
 use Rattle.std.specs.Str.{bytes_eq}
 use Rattle.solv_deps.specs.declared.sign.Joint.{Joint}
 use Rattle.solv_deps.specs.declared.sign.Joint.TheVariants.{Both, Either, Jointly}
+use Rattle.solv_deps.specs.declared.sign.Conditional.{Conditional}
+use Rattle.solv_deps.specs.declared.sign.Conditional.TheVariants.{If, Unless}
 use Rattle.solv_deps.specs.declared.sign.Operator.{Operator}
-use Rattle.solv_deps.specs.declared.sign.Operator.TheVariants.{Link, Minus, If, Else}
+use Rattle.solv_deps.specs.declared.sign.Operator.TheVariants.{Link, Minus, Condition, Else}
 use Rattle.solv_deps.specs.Words.{is_open, is_close}
 use Rattle.solv_base.specs.declared.comparison.Cmp.{Cmp}
-use Rattle.solv_base.specs.Dependency.{Dep, plain, versioned, one, namespace, and, or, with, without, if_then, if_else}
+use Rattle.solv_base.specs.Dependency.{Dep, plain, versioned, one, namespace, and, or, with, without, if_then, if_else, unless, unless_else}
 
 -- is the word this text?
 abbrev pub word_is : List ℕ → List ℕ → Bool
 word_is text word = bytes_eq text word
 
--- the operator that a word is
+-- libsolv's sign of an operator
+abbrev pub sign : Operator → List ℕ
+sign (Link Both) = codes "&"
+sign (Link Either) = codes "|"
+sign (Link Jointly) = codes "+"
+sign Minus = codes "-"
+sign (Condition If) = codes "<IF>"
+sign (Condition Unless) = codes "<UNLESS>"
+sign Else = codes "<ELSE>"
+
+-- rpm's word for it
+abbrev pub rpm_word : Operator → List ℕ
+rpm_word (Link Both) = codes "and"
+rpm_word (Link Either) = codes "or"
+rpm_word (Link Jointly) = codes "with"
+rpm_word Minus = codes "without"
+rpm_word (Condition If) = codes "if"
+rpm_word (Condition Unless) = codes "unless"
+rpm_word Else = codes "else"
+
+-- how an operator is spelled: by its sign or by rpm's word
+pub data Spelling : Type 0 where
+  by_sign : Spelling
+  by_word : Spelling
+
+abbrev pub spelled : Spelling → Operator → List ℕ
+spelled by_sign o = sign o
+spelled by_word o = rpm_word o
+
+-- the operator that is spelled so
+abbrev pub operator_spelled : (Operator → List ℕ) → List ℕ → Option Operator
+operator_spelled text w =
+    if word_is (text (Link Both)) w then Some (Link Both)
+    else (if word_is (text (Link Either)) w then Some (Link Either)
+    else (if word_is (text (Link Jointly)) w then Some (Link Jointly)
+    else (if word_is (text Minus) w then Some Minus
+    else (if word_is (text (Condition If)) w then Some (Condition If)
+    else (if word_is (text (Condition Unless)) w then Some (Condition Unless)
+    else (if word_is (text Else) w then Some Else
+    else None))))))
+
+-- the operator that a word is, in either spelling
 abbrev pub operator : List ℕ → Option Operator
-operator w =
-    if word_is (codes "&") w then Some (Link Both)
-    else (if word_is (codes "|") w then Some (Link Either)
-    else (if word_is (codes "+") w then Some (Link Jointly)
-    else (if word_is (codes "-") w then Some Minus
-    else (if word_is (codes "<IF>") w then Some If
-    else (if word_is (codes "<ELSE>") w then Some Else
-    else None)))))
+operator w = option_or (operator_spelled sign w) (operator_spelled rpm_word w)
 
 -- what stands for a word that is no comparison
 abbrev pub no_comparison : Cmp
@@ -48,9 +85,9 @@ opens w = word_is (codes "(") w
 abbrev pub closes : List ℕ → Bool
 closes w = word_is (codes ")") w
 
--- a name or an EVR: any other word
+-- a name or an EVR, where one is due: any other word that is no operator's sign. So `and` is a name there.
 abbrev pub is_plain : List ℕ → Bool
-is_plain w = not (opens w) && (not (closes w) && (is_none (operator w) && is_none (comparison w)))
+is_plain w = not (opens w) && (not (closes w) && (is_none (operator_spelled sign w) && is_none (comparison w)))
 
 -- a name that begins with `namespace:`, has a `(` and ends with `)`
 abbrev pub is_namespace : List ℕ → Bool
@@ -66,9 +103,20 @@ joined Both a b = and a b
 joined Either a b = or a b
 joined Jointly a b = with a b
 
--- What is written: a dependency with its parentheses. An operand is a name, a name with a comparison and an EVR, or an
--- expression in parentheses; a chain has two operands or more; an expression is an operand, a chain, `A - B`, `A <IF> B`,
--- `A <IF> B <ELSE> C`, or `A <IF> (B <ELSE> C)`, which means the same.
+-- a dependency under a condition
+abbrev pub under : Conditional → Dep (List ℕ) → Dep (List ℕ) → Dep (List ℕ)
+under If a b = if_then a b
+under Unless a b = unless a b
+
+-- a dependency under a condition, with another one for where it does not count
+abbrev pub under_else : Conditional → Dep (List ℕ) → Dep (List ℕ) → Dep (List ℕ) → Dep (List ℕ)
+under_else If a b c = if_else a b c
+under_else Unless a b c = unless_else a b c
+
+-- What is written: a dependency with its parentheses and the spelling of each operator. An operand is a name, a name with a
+-- comparison and an EVR, or an expression in parentheses; a chain has two operands or more; an expression is an operand, a
+-- chain, `A - B`, `A <IF> B`, `A <IF> B <ELSE> C`, or `A <IF> (B <ELSE> C)`, which means the same, or one of the last three
+-- with `<UNLESS>`.
 mutual
   pub data Operand : Type 0 where
     name : List ℕ → Operand
@@ -76,25 +124,16 @@ mutual
     inside : Expr → Operand
 
   pub data Chain : Type 0 where
-    two : Operand → Operand → Chain
-    more : Chain → Operand → Chain
+    two : Operand → Spelling → Operand → Chain
+    more : Chain → Spelling → Operand → Chain
 
   pub data Expr : Type 0 where
     alone : Operand → Expr
     chain : Joint → Chain → Expr
-    less : Operand → Operand → Expr
-    provided : Operand → Operand → Expr
-    provided_else : Operand → Operand → Operand → Expr
-    provided_inside : Operand → Operand → Operand → Expr
-
--- the word of an operator
-abbrev pub sign : Operator → List ℕ
-sign (Link Both) = codes "&"
-sign (Link Either) = codes "|"
-sign (Link Jointly) = codes "+"
-sign Minus = codes "-"
-sign If = codes "<IF>"
-sign Else = codes "<ELSE>"
+    less : Operand → Spelling → Operand → Expr
+    provided : Conditional → Operand → Spelling → Operand → Expr
+    provided_else : Conditional → Operand → Spelling → Operand → Spelling → Operand → Expr
+    provided_inside : Conditional → Operand → Spelling → Operand → Spelling → Operand → Expr
 
 -- the words of what is written
 abbrev mutual
@@ -104,16 +143,16 @@ abbrev mutual
   operand_words (inside x) = codes "(" ∷ (expr_words x ++ codes ")" ∷ [])
 
   pub chain_words : Joint → Chain → List (List ℕ)
-  chain_words j (two a b) = operand_words a ++ sign (Link j) ∷ operand_words b
-  chain_words j (more c b) = chain_words j c ++ sign (Link j) ∷ operand_words b
+  chain_words j (two a s b) = operand_words a ++ spelled s (Link j) ∷ operand_words b
+  chain_words j (more c s b) = chain_words j c ++ spelled s (Link j) ∷ operand_words b
 
   pub expr_words : Expr → List (List ℕ)
   expr_words (alone a) = operand_words a
   expr_words (chain j c) = chain_words j c
-  expr_words (less a b) = operand_words a ++ sign Minus ∷ operand_words b
-  expr_words (provided a b) = operand_words a ++ sign If ∷ operand_words b
-  expr_words (provided_else a b c) = operand_words a ++ sign If ∷ (operand_words b ++ sign Else ∷ operand_words c)
-  expr_words (provided_inside a b c) = operand_words a ++ sign If ∷ codes "(" ∷ (operand_words b ++ sign Else ∷ (operand_words c ++ codes ")" ∷ []))
+  expr_words (less a s b) = operand_words a ++ spelled s Minus ∷ operand_words b
+  expr_words (provided k a s b) = operand_words a ++ spelled s (Condition k) ∷ operand_words b
+  expr_words (provided_else k a s b t c) = operand_words a ++ spelled s (Condition k) ∷ (operand_words b ++ spelled t Else ∷ operand_words c)
+  expr_words (provided_inside k a s b t c) = operand_words a ++ spelled s (Condition k) ∷ codes "(" ∷ (operand_words b ++ spelled t Else ∷ (operand_words c ++ codes ")" ∷ []))
 
 -- what it means: a chain groups from the left, and parentheses only group
 abbrev mutual
@@ -123,16 +162,16 @@ abbrev mutual
   operand_sense (inside x) = expr_sense x
 
   pub chain_sense : Joint → Chain → Dep (List ℕ)
-  chain_sense j (two a b) = joined j (operand_sense a) (operand_sense b)
-  chain_sense j (more c b) = joined j (chain_sense j c) (operand_sense b)
+  chain_sense j (two a s b) = joined j (operand_sense a) (operand_sense b)
+  chain_sense j (more c s b) = joined j (chain_sense j c) (operand_sense b)
 
   pub expr_sense : Expr → Dep (List ℕ)
   expr_sense (alone a) = operand_sense a
   expr_sense (chain j c) = chain_sense j c
-  expr_sense (less a b) = without (operand_sense a) (operand_sense b)
-  expr_sense (provided a b) = if_then (operand_sense a) (operand_sense b)
-  expr_sense (provided_else a b c) = if_else (operand_sense a) (operand_sense b) (operand_sense c)
-  expr_sense (provided_inside a b c) = if_else (operand_sense a) (operand_sense b) (operand_sense c)
+  expr_sense (less a s b) = without (operand_sense a) (operand_sense b)
+  expr_sense (provided k a s b) = under k (operand_sense a) (operand_sense b)
+  expr_sense (provided_else k a s b t c) = under_else k (operand_sense a) (operand_sense b) (operand_sense c)
+  expr_sense (provided_inside k a s b t c) = under_else k (operand_sense a) (operand_sense b) (operand_sense c)
 
 -- are its names, comparisons and EVRs such words?
 abbrev mutual
@@ -142,16 +181,16 @@ abbrev mutual
   operand_right (inside x) = expr_right x
 
   pub chain_right : Chain → Bool
-  chain_right (two a b) = operand_right a && operand_right b
-  chain_right (more c b) = chain_right c && operand_right b
+  chain_right (two a s b) = operand_right a && operand_right b
+  chain_right (more c s b) = chain_right c && operand_right b
 
   pub expr_right : Expr → Bool
   expr_right (alone a) = operand_right a
   expr_right (chain j c) = chain_right c
-  expr_right (less a b) = operand_right a && operand_right b
-  expr_right (provided a b) = operand_right a && operand_right b
-  expr_right (provided_else a b c) = operand_right a && (operand_right b && operand_right c)
-  expr_right (provided_inside a b c) = operand_right a && (operand_right b && operand_right c)
+  expr_right (less a s b) = operand_right a && operand_right b
+  expr_right (provided k a s b) = operand_right a && operand_right b
+  expr_right (provided_else k a s b t c) = operand_right a && (operand_right b && operand_right c)
+  expr_right (provided_inside k a s b t c) = operand_right a && (operand_right b && operand_right c)
 
 -- the parentheses that are open at one time
 abbrev mutual
@@ -161,16 +200,16 @@ abbrev mutual
   operand_depth (inside x) = expr_depth x + 1
 
   pub chain_depth : Chain → ℕ
-  chain_depth (two a b) = max (operand_depth a) (operand_depth b)
-  chain_depth (more c b) = max (chain_depth c) (operand_depth b)
+  chain_depth (two a s b) = max (operand_depth a) (operand_depth b)
+  chain_depth (more c s b) = max (chain_depth c) (operand_depth b)
 
   pub expr_depth : Expr → ℕ
   expr_depth (alone a) = operand_depth a
   expr_depth (chain j c) = chain_depth c
-  expr_depth (less a b) = max (operand_depth a) (operand_depth b)
-  expr_depth (provided a b) = max (operand_depth a) (operand_depth b)
-  expr_depth (provided_else a b c) = max (operand_depth a) (max (operand_depth b) (operand_depth c))
-  expr_depth (provided_inside a b c) = max (operand_depth a) (max (operand_depth b) (operand_depth c) + 1)
+  expr_depth (less a s b) = max (operand_depth a) (operand_depth b)
+  expr_depth (provided k a s b) = max (operand_depth a) (operand_depth b)
+  expr_depth (provided_else k a s b t c) = max (operand_depth a) (max (operand_depth b) (operand_depth c))
+  expr_depth (provided_inside k a s b t c) = max (operand_depth a) (max (operand_depth b) (operand_depth c) + 1)
 
 -- the operators that are written
 abbrev mutual
@@ -180,13 +219,13 @@ abbrev mutual
   operand_operators (inside x) = expr_operators x
 
   pub chain_operators : Chain → ℕ
-  chain_operators (two a b) = operand_operators a + operand_operators b + 1
-  chain_operators (more c b) = chain_operators c + operand_operators b + 1
+  chain_operators (two a s b) = operand_operators a + operand_operators b + 1
+  chain_operators (more c s b) = chain_operators c + operand_operators b + 1
 
   pub expr_operators : Expr → ℕ
   expr_operators (alone a) = operand_operators a
   expr_operators (chain j c) = chain_operators c
-  expr_operators (less a b) = operand_operators a + operand_operators b + 1
-  expr_operators (provided a b) = operand_operators a + operand_operators b + 1
-  expr_operators (provided_else a b c) = operand_operators a + operand_operators b + operand_operators c + 2
-  expr_operators (provided_inside a b c) = operand_operators a + operand_operators b + operand_operators c + 2
+  expr_operators (less a s b) = operand_operators a + operand_operators b + 1
+  expr_operators (provided k a s b) = operand_operators a + operand_operators b + 1
+  expr_operators (provided_else k a s b t c) = operand_operators a + operand_operators b + operand_operators c + 2
+  expr_operators (provided_inside k a s b t c) = operand_operators a + operand_operators b + operand_operators c + 2

@@ -8,7 +8,7 @@ use Rattle.solv_deps.specs.Entering.{dependency_entered}
 use Rattle.solv_deps.specs.Canonical.{text}
 use Rattle.solv_deps.specs.declared.place.Place.{Place}
 
--- the words of what is written by the grammar, within the limits, are read as what it means
+-- the words of what is written by the grammar, its operators in either spelling, within the limits, are read as what it means
 abbrev pub WrittenIsRead : Type 0
 WrittenIsRead = (x : Expr) → expr_right x ≡ true → expr_operators x ≤ 64 → expr_depth x ≤ 64 → reading (expr_words x) ≡ Ok (expr_sense x)
 

@@ -1,7 +1,7 @@
 -- What reading a dependency gives: its tree, or the first cause from left to right.
 use Rattle.std.specs.Prelude.{ℕ, ◌+◌, Bool, true, false, List, [], ◌∷◌, length, Option, Some, None, Result, Ok, Err, if◌then◌else◌, nat_le}
 use Rattle.solv_base.specs.declared.comparison.Cmp.{Cmp}
-use Rattle.solv_base.specs.Dependency.{Dep, versioned, one, without, if_then, if_else}
+use Rattle.solv_base.specs.Dependency.{Dep, versioned, one, without}
 use Rattle.solv_deps.specs.declared.fault.DepFault.{DepFault}
 use Rattle.solv_deps.specs.declared.fault.DepFault.TheVariants.{BadOperator, MissingOperand, MixedOperators, UnclosedParenthesis, TooDeep, OperatorNotHere}
 use Rattle.solv_deps.specs.declared.place.Place.{Place}
@@ -9,18 +9,19 @@ use Rattle.solv_deps.specs.Table.{stands_at}
 use Rattle.solv_deps.specs.Words.{words}
 use Rattle.solv_deps.specs.declared.sign.Joint.{Joint}
 use Rattle.solv_deps.specs.declared.sign.Joint.TheVariants.{Both, Either, Jointly}
+use Rattle.solv_deps.specs.declared.sign.Conditional.{Conditional}
 use Rattle.solv_deps.specs.declared.sign.Operator.{Operator}
-use Rattle.solv_deps.specs.declared.sign.Operator.TheVariants.{Link, Minus, If, Else}
-use Rattle.solv_deps.specs.Grammar.{operator, comparison, opens, closes, is_plain, is_namespace, named, joined}
+use Rattle.solv_deps.specs.declared.sign.Operator.TheVariants.{Link, Minus, Condition, Else}
+use Rattle.solv_deps.specs.Grammar.{operator, comparison, opens, closes, is_plain, is_namespace, named, joined, under, under_else}
 
 -- The rule in hand: what stands before the operand in hand, in its parentheses.
 pub data Hand : Type 0 where
   nothing : Hand  -- the first operand
   in_chain : Joint → Dep (List ℕ) → Hand  -- A &
   in_difference : Dep (List ℕ) → Hand  -- A -
-  in_condition : Dep (List ℕ) → Hand  -- A <IF>
-  in_else : Dep (List ℕ) → Dep (List ℕ) → Hand  -- A <IF> B <ELSE>
-  in_inner_else : Dep (List ℕ) → Dep (List ℕ) → Hand  -- B <ELSE>, in the parentheses after A <IF>
+  in_condition : Conditional → Dep (List ℕ) → Hand  -- A <IF>, A <UNLESS>
+  in_else : Conditional → Dep (List ℕ) → Dep (List ℕ) → Hand  -- A <IF> B <ELSE>
+  in_inner_else : Conditional → Dep (List ℕ) → Dep (List ℕ) → Hand  -- B <ELSE>, in the parentheses after A <IF>
 
 -- What the next word has to be.
 pub data Due : Type 0 where
@@ -40,9 +41,9 @@ abbrev pub whole : Hand → Dep (List ℕ) → Dep (List ℕ)
 whole nothing d = d
 whole (in_chain j a) d = joined j a d
 whole (in_difference a) d = without a d
-whole (in_condition a) d = if_then a d
-whole (in_else a b) d = if_else a b d
-whole (in_inner_else a b) d = if_else a b d
+whole (in_condition k a) d = under k a d
+whole (in_else k a b) d = under_else k a b d
+whole (in_inner_else k a b) d = under_else k a b d
 
 -- is it the same operator?
 abbrev pub same_joint : Joint → Joint → Bool
@@ -55,29 +56,29 @@ same_joint i j = false
 abbrev pub going_on_if : Bool → Hand → Option Hand
 going_on_if b h = if b then Some h else None
 
--- `<ELSE>` behind the first operand in parentheses: it belongs to the `<IF>` before them, if one stands there
+-- `<ELSE>` behind the first operand in parentheses: it belongs to the `<IF>` or `<UNLESS>` before them, if one stands there
 abbrev pub inner_else : List Hand → Dep (List ℕ) → Option Hand
-inner_else (in_condition a ∷ outer) b = Some (in_inner_else a b)
+inner_else (in_condition k a ∷ outer) b = Some (in_inner_else k a b)
 inner_else outer b = None
 
 -- the rule in hand behind an operand and an operator, where it goes on with this one
 abbrev pub goes_on : List Hand → Hand → Dep (List ℕ) → Operator → Option Hand
 goes_on outer nothing d (Link j) = Some (in_chain j d)
 goes_on outer nothing d Minus = Some (in_difference d)
-goes_on outer nothing d If = Some (in_condition d)
+goes_on outer nothing d (Condition k) = Some (in_condition k d)
 goes_on outer nothing d Else = inner_else outer d
 goes_on outer (in_chain i a) d (Link j) = going_on_if (same_joint i j) (in_chain j (joined i a d))
-goes_on outer (in_condition a) d Else = Some (in_else a d)
+goes_on outer (in_condition k a) d Else = Some (in_else k a d)
 goes_on outer h d o = None
 
--- an `<ELSE>` that belongs to no `<IF>` is no operator there; others are mixed
+-- an `<ELSE>` that belongs to neither an `<IF>` nor an `<UNLESS>` is no operator there; others are mixed
 abbrev pub refused_operator : Operator → DepFault
 refused_operator Else = BadOperator
 refused_operator o = MixedOperators
 
 -- what is due behind a closing parenthesis: `A <IF> (B <ELSE> C)` is `A <IF> B <ELSE> C`
 abbrev pub closed : Hand → Hand → Dep (List ℕ) → Due
-closed (in_inner_else a b) outer c = operator_due (in_else a b) None c
+closed (in_inner_else k a b) outer c = operator_due (in_else k a b) None c
 closed h outer d = operator_due outer None (whole h d)
 
 -- a closing parenthesis

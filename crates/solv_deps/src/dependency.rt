@@ -8,14 +8,14 @@ ghost use Rattle.solv_deps.specs.Inner.Drafts.{said};
 ghost use Rattle.solv_deps.specs.Reading.{dependency};
 ghost use Rattle.solv_deps.specs.Inner.Singles.{capability_of};
 ghost use Rattle.solv_deps.specs.Entering.{text_entered, relation_entered, dependency_entered};
-ghost use Rattle.solv_deps.specs.Inner.Entering.{text_read, IsEntered, IsRefusal, IsOfPool, refusal, link_node};
+ghost use Rattle.solv_deps.specs.Inner.Entering.{text_read, IsEntered, IsRefusal, IsOfPool, refusal, link_node, under_node, under_else_node};
 
 use crate::draft::{Draft, Written};
 use crate::fault::DepFault;
 use crate::forms::may_stand;
 use crate::place::Place;
 use crate::reading::read_tree;
-use crate::sign::Joint;
+use crate::sign::{Conditional, Joint};
 use crate::single::{Single, single_of};
 use solv_base::{Cmp, DepId, DepNode, NameId, Pool, PoolFault};
 
@@ -79,6 +79,26 @@ fn link(joint: Joint, left: DepId, right: DepId) -> DepNode
     }
 }
 
+/// The relation of a condition.
+fn under(kind: Conditional, left: DepId, condition: DepId) -> DepNode
+    ensures { result ≡ under_node kind left condition }
+{
+    match kind {
+        Conditional::If => DepNode::If(left, condition),
+        Conditional::Unless => DepNode::Unless(left, condition),
+    }
+}
+
+/// The relation of a condition with `<ELSE>`.
+fn under_else(kind: Conditional, left: DepId, condition: DepId, other: DepId) -> DepNode
+    ensures { result ≡ under_else_node kind left condition other }
+{
+    match kind {
+        Conditional::If => DepNode::IfElse(left, condition, other),
+        Conditional::Unless => DepNode::UnlessElse(left, condition, other),
+    }
+}
+
 /// Enters a bare name.
 fn enter_simple(pool: &mut Pool, name: &[u8]) -> Result<DepId, DepFault>
     ensures entered { IfOk result (λ id. IsEntered (one (plain name.now)) pool.old pool.new id) }
@@ -135,16 +155,16 @@ fn enter(pool: &mut Pool, draft: &Draft<'_>, number: u8) -> Result<DepId, DepFau
             let right = enter(pool, draft, b)?;
             enter_relation(pool, DepNode::Without(left, right))
         }
-        Written::If(a, b) => {
+        Written::Under(kind, a, b) => {
             let left = enter(pool, draft, a)?;
-            let right = enter(pool, draft, b)?;
-            enter_relation(pool, DepNode::If(left, right))
+            let condition = enter(pool, draft, b)?;
+            enter_relation(pool, under(kind, left, condition))
         }
-        Written::IfElse(a, b, c) => {
+        Written::UnderElse(kind, a, b, c) => {
             let left = enter(pool, draft, a)?;
             let condition = enter(pool, draft, b)?;
             let other = enter(pool, draft, c)?;
-            enter_relation(pool, DepNode::IfElse(left, condition, other))
+            enter_relation(pool, under_else(kind, left, condition, other))
         }
     }
 }

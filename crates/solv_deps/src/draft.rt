@@ -1,7 +1,7 @@
 //! What a text says, before any of it is entered into a pool.
 ghost use Rattle.std.specs.Prelude.{◌≡◌, ◌<◌, ◌+◌, [], length, IsTrue};
 
-use crate::sign::Joint;
+use crate::sign::{Conditional, Joint};
 use solv_base::Cmp;
 use std::marker::Model;
 
@@ -13,8 +13,8 @@ pub(crate) enum Written<'a> {
     Namespace(&'a [u8]),
     Joined(Joint, u8, u8),
     Without(u8, u8),
-    If(u8, u8),
-    IfElse(u8, u8, u8),
+    Under(Conditional, u8, u8),
+    UnderElse(Conditional, u8, u8, u8),
 }
 
 /// The parts of a text, each after its operands. With at most 64 operators there are at most 129.

@@ -3,11 +3,12 @@ ghost use Rattle.std.specs.Prelude.{◌≡◌, ◌<◌, length, true};
 ghost use Rattle.solv_base.specs.Dependency.{package_wise};
 ghost use Rattle.solv_base.specs.Places.{fits_place, unconditional};
 ghost use Rattle.solv_deps.specs.Inner.Drafts.{said};
+ghost use Rattle.solv_deps.specs.Inner.Conditions.{conditional_fits};
 ghost use Rattle.solv_deps.specs.Table.{is_capability, stands_at};
 
 use crate::draft::{Draft, Written};
 use crate::place::Place;
-use crate::sign::Joint;
+use crate::sign::{Conditional, Joint};
 
 /// Whether a dependency is a name, with a comparison and an EVR or without.
 fn is_capability(draft: &Draft<'_>, number: u8) -> bool
@@ -18,7 +19,7 @@ fn is_capability(draft: &Draft<'_>, number: u8) -> bool
         Written::Simple(_) | Written::Versioned(_, _, _) => true,
         Written::Namespace(_) => false,
         Written::Joined(_, _, _) | Written::Without(_, _) => false,
-        Written::If(_, _) | Written::IfElse(_, _, _) => false,
+        Written::Under(_, _, _) | Written::UnderElse(_, _, _, _) => false,
     }
 }
 
@@ -33,7 +34,7 @@ fn is_package_wise(draft: &Draft<'_>, number: u8) -> bool
         Written::Joined(Joint::Either, a, b)
         | Written::Joined(Joint::Jointly, a, b)
         | Written::Without(a, b) => is_package_wise(draft, a) && is_package_wise(draft, b),
-        Written::If(_, _) | Written::IfElse(_, _, _) => false,
+        Written::Under(_, _, _) | Written::UnderElse(_, _, _, _) => false,
     }
 }
 
@@ -50,26 +51,40 @@ fn is_unconditional(draft: &Draft<'_>, number: u8) -> bool
         Written::Joined(Joint::Jointly, a, b) | Written::Without(a, b) => {
             is_package_wise(draft, a) && is_package_wise(draft, b)
         }
-        Written::If(_, _) | Written::IfElse(_, _, _) => false,
+        Written::Under(_, _, _) | Written::UnderElse(_, _, _, _) => false,
     }
 }
 
-/// Whether a dependency may stand where something is required.
-fn fits_requirement(draft: &Draft<'_>, number: u8) -> bool
+/// Whether `<IF>`, or `<UNLESS>`, may stand there: the first where something is required, the other where something conflicts.
+fn stands_where(kind: Conditional, required: bool) -> bool
+    ensures { result ≡ conditional_fits required kind }
+{
+    match kind {
+        Conditional::If => required,
+        Conditional::Unless => !required,
+    }
+}
+
+/// Whether a dependency may stand where something is required, or where something conflicts.
+fn fits(draft: &Draft<'_>, number: u8, required: bool) -> bool
     requires { number < length draft.now }
-    ensures { result ≡ fits_place true (said draft.now number) }
+    ensures { result ≡ fits_place required (said draft.now number) }
 {
     match draft.get(number) {
         Written::Simple(_) | Written::Versioned(_, _, _) | Written::Namespace(_) => true,
         Written::Joined(Joint::Both, a, b) | Written::Joined(Joint::Either, a, b) => {
-            fits_requirement(draft, a) && fits_requirement(draft, b)
+            fits(draft, a, required) && fits(draft, b, required)
         }
         Written::Joined(Joint::Jointly, a, b) | Written::Without(a, b) => {
             is_package_wise(draft, a) && is_package_wise(draft, b)
         }
-        Written::If(a, b) => fits_requirement(draft, a) && is_unconditional(draft, b),
-        Written::IfElse(a, b, c) => {
-            fits_requirement(draft, a) && (is_unconditional(draft, b) && fits_requirement(draft, c))
+        Written::Under(kind, a, b) => {
+            stands_where(kind, required) && (fits(draft, a, required) && is_unconditional(draft, b))
+        }
+        Written::UnderElse(kind, a, b, c) => {
+            stands_where(kind, required)
+                && (fits(draft, a, required)
+                    && (is_unconditional(draft, b) && fits(draft, c, required)))
         }
     }
 }
@@ -80,8 +95,8 @@ pub(crate) fn may_stand(draft: &Draft<'_>, number: u8, place: Place) -> bool
     ensures { result ≡ stands_at place (said draft.now number) }
 {
     match place {
-        Place::Requires => fits_requirement(draft, number),
-        Place::Conflicts => is_unconditional(draft, number),
+        Place::Requires => fits(draft, number, true),
+        Place::Conflicts => fits(draft, number, false),
         Place::Plain => is_capability(draft, number),
     }
 }

@@ -1,7 +1,9 @@
 //! Dependency text, read and printed.
 //!
-//! The text is that of libsolv's testcase format, with rpm's boolean dependencies: `&`, `|`, `+`, `-`, `<IF>` and
-//! `<ELSE>` between operands, each a name, a name with a comparison and an EVR, or parentheses.
+//! The text is that of libsolv's testcase format, with rpm's boolean dependencies: `&`, `|`, `+`, `-`, `<IF>`, `<UNLESS>`
+//! and `<ELSE>`, or rpm's words `and`, `or`, `with`, `without`, `if`, `unless` and `else` for them, between operands, each a
+//! name, a name with a comparison and an EVR, or parentheses. Such a word is an operator where one may stand, and a name
+//! or an EVR where one is due; what is printed has the signs.
 //!
 //! - [`read_dep`]: the dependency that a text spells at a [`Place`], entered into a pool, or the first cause,
 //!   [`DepFault`], from left to right. A text is read into a draft first, so that one with a cause of its own enters

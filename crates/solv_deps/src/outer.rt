@@ -1,6 +1,6 @@
 //! The rules that open parentheses interrupt.
 
-use crate::sign::Joint;
+use crate::sign::{Conditional, Joint};
 use std::marker::Model;
 
 /// What stands before the operand in hand, in its parentheses.
@@ -12,12 +12,12 @@ pub(crate) enum Rule {
     Chain(Joint, u8),
     /// `A -`
     Difference(u8),
-    /// `A <IF>`
-    Condition(u8),
-    /// `A <IF> B <ELSE>`
-    Else(u8, u8),
-    /// `B <ELSE>`, in the parentheses behind `A <IF>`.
-    InnerElse(u8, u8),
+    /// `A <IF>`, or the same with `<UNLESS>`.
+    Condition(Conditional, u8),
+    /// `A <IF> B <ELSE>`, or the same with `<UNLESS>`.
+    Else(Conditional, u8, u8),
+    /// `B <ELSE>`, in the parentheses behind `A <IF>` or `A <UNLESS>`.
+    InnerElse(Conditional, u8, u8),
 }
 
 /// At most 64 rules, the innermost first.

@@ -41,9 +41,13 @@ fn finish_rule(draft: &mut Draft<'_>, rule: Rule, id: u8) -> u8
         Rule::Nothing => id,
         Rule::Chain(joint, left) => draft.push(&Written::Joined(joint, left, id)),
         Rule::Difference(left) => draft.push(&Written::Without(left, id)),
-        Rule::Condition(left) => draft.push(&Written::If(left, id)),
-        Rule::Else(left, condition) => draft.push(&Written::IfElse(left, condition, id)),
-        Rule::InnerElse(left, condition) => draft.push(&Written::IfElse(left, condition, id)),
+        Rule::Condition(kind, left) => draft.push(&Written::Under(kind, left, id)),
+        Rule::Else(kind, left, condition) => {
+            draft.push(&Written::UnderElse(kind, left, condition, id))
+        }
+        Rule::InnerElse(kind, left, condition) => {
+            draft.push(&Written::UnderElse(kind, left, condition, id))
+        }
     }
 }
 
@@ -54,12 +58,12 @@ fn else_inside(rule: Rule, id: u8) -> Option<Rule>
     ensures pending { option_pending result ≤ 1 }
 {
     match rule {
-        Rule::Condition(left) => Some(Rule::InnerElse(left, id)),
+        Rule::Condition(kind, left) => Some(Rule::InnerElse(kind, left, id)),
         Rule::Nothing => None,
         Rule::Chain(_, _) => None,
         Rule::Difference(_) => None,
-        Rule::Else(_, _) => None,
-        Rule::InnerElse(_, _) => None,
+        Rule::Else(_, _, _) => None,
+        Rule::InnerElse(_, _, _) => None,
     }
 }
 
@@ -84,7 +88,7 @@ fn begin_rule(outer: &Outer, id: u8, op: Operator) -> Option<Rule>
     match op {
         Operator::Link(joint) => Some(Rule::Chain(joint, id)),
         Operator::Minus => Some(Rule::Difference(id)),
-        Operator::If => Some(Rule::Condition(id)),
+        Operator::Condition(kind) => Some(Rule::Condition(kind, id)),
         Operator::Else => else_here(outer, id),
     }
 }
@@ -108,13 +112,13 @@ fn go_on(draft: &mut Draft<'_>, outer: &Outer, rule: Rule, id: u8, op: Operator)
             }
             None
         }
-        Rule::Condition(left) => match op {
-            Operator::Else => Some(Rule::Else(left, id)),
+        Rule::Condition(kind, left) => match op {
+            Operator::Else => Some(Rule::Else(kind, left, id)),
             _ => None,
         },
         Rule::Difference(_) => None,
-        Rule::Else(_, _) => None,
-        Rule::InnerElse(_, _) => None,
+        Rule::Else(_, _, _) => None,
+        Rule::InnerElse(_, _, _) => None,
     }
 }
 
@@ -191,8 +195,8 @@ fn close_rule<'a>(draft: &mut Draft<'a>, rule: Rule, before: Rule, id: u8) -> Du
     ensures longer { length draft.new + due_pending result ≤ length draft.old + pending rule + pending before }
     ensures entered { due_entered result ≡ 1 }
 {
-    if let Rule::InnerElse(left, condition) = rule {
-        return Due::Operator(Rule::Else(left, condition), id);
+    if let Rule::InnerElse(kind, left, condition) = rule {
+        return Due::Operator(Rule::Else(kind, left, condition), id);
     }
     let whole = finish_rule(draft, rule, id);
     Due::Operator(before, whole)

@@ -1,7 +1,7 @@
 //! Operators and comparisons.
 
 ghost use Rattle.std.specs.Prelude.{◌≡◌, Some};
-ghost use Rattle.solv_deps.specs.Grammar.{operator, comparison, word_is, opens, closes, is_plain, is_namespace};
+ghost use Rattle.solv_deps.specs.Grammar.{operator, operator_spelled, sign, rpm_word, comparison, word_is, opens, closes, is_plain, is_namespace};
 
 use solv_base::Cmp;
 
@@ -13,12 +13,19 @@ pub enum Joint {
     Jointly,
 }
 
+/// How an operand depends on a condition: it is wanted only where this holds, or only where it does not.
+#[derive(Clone, Copy, PartialEq, Eq, Debug)]
+pub enum Conditional {
+    If,
+    Unless,
+}
+
 /// An operator between dependencies.
 #[derive(Clone, Copy, PartialEq, Eq, Debug)]
 pub enum Operator {
     Link(Joint),
     Minus,
-    If,
+    Condition(Conditional),
     Else,
 }
 
@@ -29,9 +36,9 @@ fn is_word(word: &[u8], text: &[u8]) -> bool
     text == word
 }
 
-/// The operator that a word is.
-pub(crate) fn operator_of(word: &[u8]) -> Option<Operator>
-    ensures { result ≡ operator word.now }
+/// The operator whose sign a word is.
+fn signed_operator(word: &[u8]) -> Option<Operator>
+    ensures { result ≡ operator_spelled sign word.now }
 {
     if is_word(word, b"&") {
         return Some(Operator::Link(Joint::Both));
@@ -46,12 +53,54 @@ pub(crate) fn operator_of(word: &[u8]) -> Option<Operator>
         return Some(Operator::Minus);
     }
     if is_word(word, b"<IF>") {
-        return Some(Operator::If);
+        return Some(Operator::Condition(Conditional::If));
+    }
+    if is_word(word, b"<UNLESS>") {
+        return Some(Operator::Condition(Conditional::Unless));
     }
     if is_word(word, b"<ELSE>") {
         return Some(Operator::Else);
     }
     None
+}
+
+/// The operator for which rpm has this word.
+fn worded_operator(word: &[u8]) -> Option<Operator>
+    ensures { result ≡ operator_spelled rpm_word word.now }
+{
+    if is_word(word, b"and") {
+        return Some(Operator::Link(Joint::Both));
+    }
+    if is_word(word, b"or") {
+        return Some(Operator::Link(Joint::Either));
+    }
+    if is_word(word, b"with") {
+        return Some(Operator::Link(Joint::Jointly));
+    }
+    if is_word(word, b"without") {
+        return Some(Operator::Minus);
+    }
+    if is_word(word, b"if") {
+        return Some(Operator::Condition(Conditional::If));
+    }
+    if is_word(word, b"unless") {
+        return Some(Operator::Condition(Conditional::Unless));
+    }
+    if is_word(word, b"else") {
+        return Some(Operator::Else);
+    }
+    None
+}
+
+/// The operator that a word is where one may stand, by its sign or by rpm's word.
+pub(crate) fn operator_of(word: &[u8]) -> Option<Operator>
+    ensures { result ≡ operator word.now }
+{
+    let signed = signed_operator(word);
+    if signed.is_some() {
+        return signed;
+    }
+    worded_operator(word)
 }
 
 fn cmp(less: bool, equal: bool, greater: bool) -> Option<Cmp>
@@ -103,14 +152,14 @@ pub(crate) fn closes_one(word: &[u8]) -> bool
     is_word(word, b")")
 }
 
-/// Whether a word is a name or an EVR where one is due.
+/// Whether a word is a name or an EVR where one is due. There rpm's words for operators are names and EVRs like others.
 pub(crate) fn is_plain_word(word: &[u8]) -> bool
     ensures { result ≡ is_plain word.now }
 {
     if opens_one(word) || closes_one(word) {
         return false;
     }
-    operator_of(word).is_none() && comparison_of(word).is_none()
+    signed_operator(word).is_none() && comparison_of(word).is_none()
 }
 
 /// Whether a name is a namespace, as `namespace:language(de)`.

@@ -5,11 +5,12 @@ ghost use Rattle.solv_pool.specs.Words.{when};
 ghost use Rattle.solv_trail.specs.Asked.{is_enabled};
 ghost use Rattle.solv_trail.specs.declared.questions.Question.TheVariants.{Requires, Recommends};
 ghost use Rattle.solv_questions.specs.Questions.{first_ask, first_possible};
-ghost use Rattle.solv_plan.specs.Inner.Plans.{some_enabled, demand_queries, keep_query, keep_queries, question_of, wanted_holds, row_query, wanted_query, want_queries, is_supplementing, named_query, plan_asks};
+ghost use Rattle.solv_plan.specs.Inner.Plans.{some_enabled, demand_queries, keep_query, keep_queries, question_of, wanted_holds, row_query, wanted_query, want_query, want_queries, is_supplementing, named_query, plan_asks};
 ghost use Rattle.solv_plan.specs.Inside.{some_inside};
 
-use crate::choosing::ask_tree;
+use crate::choosing::{ask_against, ask_tree};
 use crate::plans::{Demand, Keep, Named, Plan, Relations, Supplement, Want, Wanted};
+use crate::seen::Seen;
 use crate::trees::holds_by_tree;
 use crate::wants::Wants;
 use solv_base::DepId;
@@ -201,12 +202,20 @@ fn ask_wanted(
     ensures { result ≡ first_ask (is_fact known.now.lits) (wanted_query (is_fact known.now.lits) relations.now question wanted ∷ []) }
 {
     if wanted.by_tree {
-        let nodes = relations.nodes.held();
-        let rows = &relations.rows;
-        let standings = &relations.standings;
-        ask_tree(nodes, rows, standings, known, wanted.dep, question)
+        ask_tree(relations, known, wanted.dep, question)
     } else {
         ask_row(known, relations, wanted.dep, question)
+    }
+}
+
+/// What a package asks for that is in.
+fn ask_of_package(known: &Known, relations: &Relations, want: &Want, asking: Asking) -> Option<Ask>
+    ensures { result ≡ first_ask (is_fact known.now.lits) (want_query (is_fact known.now.lits) relations.now (question_of asking) want.now ∷ []) }
+{
+    if want.against {
+        ask_against(relations, known, want.pack, want.wanted.dep)
+    } else {
+        ask_wanted(known, relations, want.wanted, question(asking, want))
     }
 }
 
@@ -217,7 +226,7 @@ fn ask_want(known: &Known, relations: &Relations, want: &Want, asking: Asking) -
     if !known.is_in(want.pack) {
         return None;
     }
-    ask_wanted(known, relations, want.wanted, question(asking, want))
+    ask_of_package(known, relations, want, asking)
 }
 
 /// What the first of these asks for.
@@ -276,7 +285,11 @@ fn is_met(known: &Known, relations: &Relations, wanted: &Wanted) -> bool
     ensures { result ≡ wanted_holds (is_fact known.now.lits) relations.now wanted.now }
 {
     if wanted.by_tree {
-        holds_by_tree(relations.nodes.held(), &relations.rows, known, wanted.dep)
+        let seen = Seen {
+            rows: &relations.rows,
+            without: PackNo(0),
+        };
+        holds_by_tree(relations.nodes.held(), &seen, known, wanted.dep)
     } else {
         is_some_in(known, relations.rows.row(wanted.dep))
     }

@@ -1,4 +1,4 @@
--- The requirements that have a rule are those that count, and what rules ask for are packages.
+-- The requirements and conflicts that have a rule are those that count, and what rules ask for are packages.
 use Rattle.std.proofs.Common.{◌≡◌, ℕ, Bool, true, false, not, ◌&&◌, List, [], ◌∷◌, ◌++◌, map, length, Option, Some, None, refl, sym, ap, ◌∙◌}
 use Rattle.std.specs.Prelude.{filter, flat_map}
 use Rattle.std.specs.List.{list_all}
@@ -20,14 +20,14 @@ use Rattle.solv_pool.specs.declared.jobs.Action.TheVariants as action
 use Rattle.solv_questions.specs.Questions.{Request, rules_of}
 use Rattle.solv_questions.proofs.Members.{all_by}
 use Rattle.solv_questions.proofs.Origins.{IsFrom, is_from}
-use Rattle.solv_plan.specs.PlanOf.{want_of, required_by}
+use Rattle.solv_plan.specs.PlanOf.{want_of, conflict_of, required_by}
 use Rattle.solv_plan.proofs.Tables.{flat_flat, flat_alike, append_none}
 use Rattle.solv_planning.specs.Inner.Readiness.{asks_for_packages}
 use Rattle.solv_planning.specs.Inner.Rows.{wants_of}
 use Rattle.solv_planning.proofs.Packs.{packs_of}
 
 module _ (r : Request) where
-  -- lists of rules without a requirement
+  -- lists of rules by which nothing is asked for
   no_wants : {X : Type 0} (f : X → HardRule) → ((x : X) → wants_of r.catalog (f x) ≡ []) → (xs : List X) → flat_map (wants_of r.catalog) (map f xs) ≡ []
   no_wants f h [] = refl
   no_wants f h (x ∷ xs) = ap (λ t. t ++ flat_map (wants_of r.catalog) (map f xs)) (h x) ∙ no_wants f h xs
@@ -54,7 +54,12 @@ module _ (r : Request) where
   required_wants p [] = refl
   required_wants p (need ∷ needs) = ap (λ t. want_of r.catalog p need.dep ∷ t) (required_wants p needs)
 
-  asked_wants : (p : ℕ) (a : Package) → flat_map (wants_of r.catalog) (rules_asked_by r.catalog r.marks p a) ≡ map (λ need. want_of r.catalog p need.dep) (counted_requirements r.catalog r.marks p a)
+  conflict_wants : (p : ℕ) (ds : List ℕ) → flat_map (wants_of r.catalog) (map (rich_con p) ds) ≡ map (conflict_of r.catalog p) ds
+  conflict_wants p [] = refl
+  conflict_wants p (d ∷ ds) = ap (λ t. conflict_of r.catalog p d ∷ t) (conflict_wants p ds)
+
+  asked_wants : (p : ℕ) (a : Package)
+      → flat_map (wants_of r.catalog) (rules_asked_by r.catalog r.marks p a) ≡ map (λ need. want_of r.catalog p need.dep) (counted_requirements r.catalog r.marks p a) ++ map (conflict_of r.catalog p) (counted_rich_conflicts r.catalog r.marks p a)
   asked_wants p a =
       let one : List HardRule = not_installable_rules r.catalog p in
       let two : List HardRule = requirement_rules r.catalog r.marks p a in
@@ -62,17 +67,22 @@ module _ (r : Request) where
       let four : List HardRule = rich_conflict_rules r.catalog r.marks p a in
       let five : List HardRule = obsoletion_rules r.catalog r.marks p a in
       let six : List HardRule = same_name_rules r.catalog r.marks p in
+      let needs : List Need = counted_requirements r.catalog r.marks p a in
+      let front =
+      none_behind (one ++ two) three (no_wants_each (λ d. map (con p d) (conflicting r.catalog r.marks p d)) (λ d. no_wants (con p d) (λ q. refl) (conflicting r.catalog r.marks p d)) (package_wise_conflicts r.catalog a))
+      ∙ none_before one two (no_wants_when (not (is_installable r.catalog p)) (not_installable p ∷ []) refl)
+      ∙ required_wants p needs in
       none_behind (one ++ two ++ three ++ four ++ five) six (no_wants (same p) (λ q. refl) (later_namesakes r.catalog r.marks p))
       ∙ none_behind (one ++ two ++ three ++ four) five (no_wants_each (λ d. map (obs p d) (obsoleted r.catalog r.marks p d)) (λ d. no_wants (obs p d) (λ q. refl) (obsoleted r.catalog r.marks p d)) a.obsoletes)
-      ∙ none_behind (one ++ two ++ three) four (no_wants (rich_con p) (λ d. refl) (counted_rich_conflicts r.catalog r.marks p a))
-      ∙ none_behind (one ++ two) three (no_wants_each (λ d. map (con p d) (conflicting r.catalog r.marks p d)) (λ d. no_wants (con p d) (λ q. refl) (conflicting r.catalog r.marks p d)) (package_wise_conflicts r.catalog a))
-      ∙ none_before one two (no_wants_when (not (is_installable r.catalog p)) (not_installable p ∷ []) refl)
-      ∙ required_wants p (counted_requirements r.catalog r.marks p a)
+      ∙ flat_map-append (wants_of r.catalog) (one ++ two ++ three) four
+      ∙ ap (λ t. t ++ flat_map (wants_of r.catalog) four) front
+      ∙ ap (λ t. map (λ need. want_of r.catalog p need.dep) needs ++ t) (conflict_wants p (counted_rich_conflicts r.catalog r.marks p a))
 
   package_wants : (p : ℕ) → flat_map (wants_of r.catalog) (rules_of_package r.catalog r.marks p) ≡ required_by r p
   package_wants p = step (package_at r.catalog p)
     where
-      step : (o : Option Package) → flat_map (wants_of r.catalog) (option_map_or (rules_asked_by r.catalog r.marks p) o []) ≡ option_map_or (λ a. map (λ need. want_of r.catalog p need.dep) (counted_requirements r.catalog r.marks p a)) o []
+      step : (o : Option Package) → flat_map (wants_of r.catalog) (option_map_or (rules_asked_by r.catalog r.marks p) o [])
+          ≡ option_map_or (λ a. map (λ need. want_of r.catalog p need.dep) (counted_requirements r.catalog r.marks p a) ++ map (conflict_of r.catalog p) (counted_rich_conflicts r.catalog r.marks p a)) o []
       step None = refl
       step (Some a) = asked_wants p a
 

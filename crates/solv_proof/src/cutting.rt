@@ -38,6 +38,17 @@ pub(crate) fn three_words(line: &[u8]) -> Option<(&[u8], &[u8], &[u8])>
     }
 }
 
+/// How many words there are. Room is taken by it and nothing else, so no clause says it.
+pub(crate) fn room_for(words: Option<&[u8]>) -> usize {
+    match words {
+        Some(text) => {
+            let spaces = text.iter().filter(|byte| **byte == b' ').count();
+            spaces.saturating_add(1)
+        }
+        None => 0,
+    }
+}
+
 /// Whether a word is left.
 pub(crate) fn has_words(words: Option<&[u8]>) -> bool
     ensures { result ≡ is_some_list (words_left (option_map (λ text. text.now) words.entry)) }

@@ -1,11 +1,9 @@
 //! What is due for a script that was read.
 ghost use Rattle.std.specs.Prelude.{◌≡◌, ◌≤◌, true, false, Some, IfOk};
-ghost use Rattle.std.specs.List.{list_all};
 ghost use Rattle.solv_pool.specs.Catalog.{catalog_of};
 ghost use Rattle.solv_pool.specs.HardRules.{hard_rules};
 ghost use Rattle.solv_pool.specs.TaskBelonging.{IsClosed};
 ghost use Rattle.solv_pool.specs.TaskForms.{HasForms};
-ghost use Rattle.solv_tags.specs.Inner.EntryForms.{conflicts_unconditionally};
 ghost use Rattle.solv_rules.specs.Books.{first_fault};
 ghost use Rattle.solv_answers.specs.Answers.{IsPrepared};
 ghost use Rattle.solv_run.specs.Cases.{IsDueFor, IsGoodAnswer};
@@ -105,7 +103,6 @@ fn answered_due(
 ) -> Result<Conclusion, AllocError>
     requires closed { IsClosed script.now.task }
     requires forms { HasForms script.now.task }
-    requires unconditional { list_all (conflicts_unconditionally (catalog_of script.now.task)) script.now.task.universe.packages ≡ true }
     requires prepared { IsPrepared script.now.task prepared.now }
     requires budget { command.now.budget ≤ 1000000 }
     ensures { IfOk result (λ conclusion. IsDueFor command.now script.now conclusion.due conclusion.answers) }
@@ -141,7 +138,6 @@ pub(crate) fn script_due(
 ) -> Result<Conclusion, AllocError>
     requires closed { IsClosed script.now.task }
     requires forms { HasForms script.now.task }
-    requires unconditional { list_all (conflicts_unconditionally (catalog_of script.now.task)) script.now.task.universe.packages ≡ true }
     requires budget { command.now.budget ≤ 1000000 }
     ensures { IfOk result (λ conclusion. IsDueFor command.now script.now conclusion.due conclusion.answers) }
 {

@@ -17,7 +17,7 @@ use Rattle.solv_script.specs.declared.scripts.ScriptFault.TheVariants as fault
 use Rattle.solv_script.proofs.Fetches.{fetches_same}
 use Rattle.solv_said.specs.Dues.{read_fault_due}
 use Rattle.solv_said.specs.Explained.{HoldScript}
-use Rattle.solv_said.specs.Fetches.{IsNamed, HasAskedAll, HasAskedFront, HasScript, IsUnreadDue, WasFetched, asked_none, asked_script, asked_more, not_read, refused, stopped}
+use Rattle.solv_said.specs.Fetches.{IsNamed, HasAskedAll, HasAskedFront, HasScript, IsUnreadDue, WasFetched, asked_script, asked_more, not_read, refused, stopped}
 use Rattle.solv_said.specs.Inner.Faults.{HasNoScript, IsFaultDue, IsReadFaultOf}
 use Rattle.solv_said.specs.declared.dues.Due.{Due}
 
@@ -152,9 +152,6 @@ front_all piece files fetched h = record {
   due = record { behind = []; is = append-nil h.names ∙ h.all_due };
 }
 
-front_read : (piece : Piece) (files : FilesRun) (script : Script) → IsRead piece files script → HasAskedFrontOf piece files
-front_read piece files script h = front_all piece files h.fetched h.has
-
 front_ended : (piece : Piece) (files : FilesRun) (f : ScriptFault) → HasEnded piece files f → HasAskedFrontOf piece files
 front_ended piece files (fault.Refused where_ line cause) h = front_all piece files h.fetched h.has
 front_ended piece files (fault.ReadFault name) h = record {
@@ -237,9 +234,6 @@ nothing (Some b) = ap Some (sym (append-nil b))
 -- nothing was asked for
 pub none_asked : (files : FilesRun) → files.asked_after ≡ files.asked_before → AskedBesides files []
 none_asked files h = h ∙ nothing files.asked_before
-
-pub asked_not : (files : FilesRun) (file : List ℕ) → files.asked_after ≡ files.asked_before → HasNoScript (Some file) files fault.Memory
-asked_not files file h = record { due = λ program due same. absurd same; front = asked_none (none_asked files h) }
 
 pub if_wanting : {T E : Type 0} (P : Type 0) (r : Result T E) → P → IfErr r (λ e. P)
 if_wanting P (Ok x) h = tt

@@ -1,15 +1,7 @@
 -- What is said on both sinks.
-use Rattle.std.proofs.Common.{ℕ, ◌≡◌, List, [], Option, Some, None, refl, ap, ◌∙◌, arith, take, length}
+use Rattle.std.proofs.Common.{ℕ, ◌≡◌, List, Option, ap, ◌∙◌, arith, take, length}
 use Rattle.std.proofs.lemmas.Grind.{common_steps}
 use Rattle.solv_io.specs.Writes.{then_bytes, WritesPrefix}
-
-nothing_more : (before : Option (List ℕ)) → before ≡ then_bytes before []
-nothing_more None = refl
-nothing_more (Some bytes) = ap Some (grind (arith, common_steps))
-
--- nothing was written of a text
-pub no_prefix : (before after : Option (List ℕ)) (text : List ℕ) → after ≡ before → WritesPrefix before after text
-no_prefix before after text same = (0, omega arith, same ∙ nothing_more before)
 
 -- all of it was
 pub all_prefix : (before after : Option (List ℕ)) (text : List ℕ) → after ≡ then_bytes before text → WritesPrefix before after text

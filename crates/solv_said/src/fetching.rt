@@ -1,12 +1,9 @@
 //! The script that a run reads.
-ghost use Rattle.std.specs.Prelude.{◌≡◌, ℕ, true, List, Option, Some, IfOk, IfErr};
-ghost use Rattle.std.specs.List.{list_all};
-ghost use Rattle.solv_pool.specs.Catalog.{catalog_of};
+ghost use Rattle.std.specs.Prelude.{◌≡◌, ℕ, List, Option, Some, IfOk, IfErr};
 ghost use Rattle.solv_pool.specs.TaskBelonging.{IsClosed};
 ghost use Rattle.solv_pool.specs.TaskForms.{HasForms};
 ghost use Rattle.solv_script.specs.FileRuns.{FilesRun};
 ghost use Rattle.solv_script.specs.Inner.FileRuns.{HasEnded, IsRead, script_piece};
-ghost use Rattle.solv_tags.specs.Inner.EntryForms.{conflicts_unconditionally};
 ghost use Rattle.solv_said.specs.Fetches.{WasFetched};
 ghost use Rattle.solv_said.specs.Inner.Faults.{HasNoScript, IsReadFaultOf};
 ghost use Rattle.solv_said.specs.Runs.{files_run};
@@ -42,7 +39,6 @@ fn read_fetched<F: Files>(
         (files_run F.contents F.asked F.faults files.old files.new)) }
     ensures closed { IfOk result (λ script. IsClosed script.task) }
     ensures forms { IfOk result (λ script. HasForms script.task) }
-    ensures unconditional { IfOk result (λ script. list_all (conflicts_unconditionally (catalog_of script.task)) script.task.universe.packages ≡ true) }
     ensures ended { IfErr result (HasEnded (script_piece file.now bytes.items)
         (files_run F.contents F.asked F.faults files.old files.new)) }
     ensures contents { F.contents files.new ≡ F.contents files.old }
@@ -62,7 +58,6 @@ pub fn fetch_script<F: Files>(
         (files_run F.contents F.asked F.faults files.old files.new)) }
     ensures closed { IfOk result (λ script. IsClosed script.task) }
     ensures forms { IfOk result (λ script. HasForms script.task) }
-    ensures unconditional { IfOk result (λ script. list_all (conflicts_unconditionally (catalog_of script.task)) script.task.universe.packages ≡ true) }
     ensures ended { IfErr result (HasNoScript (Some file.now)
         (files_run F.contents F.asked F.faults files.old files.new)) }
     ensures contents { F.contents files.new ≡ F.contents files.old }

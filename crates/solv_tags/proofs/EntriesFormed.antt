@@ -7,7 +7,7 @@ use Rattle.std.proofs.lemmas.Bool.Decides.{nat_tests}
 use Rattle.solv_io.specs.Lines.{numbered_lines}
 use Rattle.solv_io.specs.Words.{words_of}
 use Rattle.solv_base.specs.Dependency.{Dep, one, namespace, and, or, with, without, operators}
-use Rattle.solv_base.specs.Places.{fits_place, unconditional}
+use Rattle.solv_base.specs.Places.{fits_place}
 use Rattle.solv_base.specs.Pool.{Held}
 use Rattle.solv_pool.specs.Written.{WrittenNeed, WrittenPackage}
 use Rattle.solv_pool.specs.Contents.{most_packages}
@@ -42,21 +42,9 @@ is_placed Requires d = has_written_form true d
 is_placed Conflicts d = has_written_form false d
 is_placed Plain d = is_capability d
 
--- what has no condition may stand at a conflict
-unconditional_fits : (d : Dep (List ℕ)) → unconditional d ≡ true → fits_place false d ≡ true
-unconditional_fits (one c) h = refl
-unconditional_fits (namespace n) h = refl
-unconditional_fits (and a b) h =
-    and_from (fits_place false a) (fits_place false b) (unconditional_fits a (first_of_both (unconditional a) (unconditional b) h)) (unconditional_fits b (second_of_both (unconditional a) (unconditional b) h))
-unconditional_fits (or a b) h =
-    and_from (fits_place false a) (fits_place false b) (unconditional_fits a (first_of_both (unconditional a) (unconditional b) h)) (unconditional_fits b (second_of_both (unconditional a) (unconditional b) h))
-unconditional_fits (with a b) h = h
-unconditional_fits (without a b) h = h
-unconditional_fits d h = absurd (cc)
-
 stands_placed : (place : Place) (d : Dep (List ℕ)) → stands_at place d ≡ true → nat_le (operators d) most_operators ≡ true → is_placed place d ≡ true
 stands_placed Requires d h few = rw (h, few) refl
-stands_placed Conflicts d h few = rw (unconditional_fits d h, few, h) refl
+stands_placed Conflicts d h few = rw (h, few) refl
 stands_placed Plain d h few = h
 
 stands_if : (place : Place) (x d : Dep (List ℕ)) (b : Bool) → stands_at place x ≡ b → (let r : Result (Dep (List ℕ)) DepFault = if b then Ok x else Err OperatorNotHere in r) ≡ Ok d → stands_at place d ≡ true

@@ -1,6 +1,6 @@
 -- Dependencies have by their ids the forms that they have as they are written.
 use Rattle.std.proofs.Common.{◌≡◌, ℕ, Bool, true, false, List, [], ◌∷◌, ◌++◌, map, drop, length, Option, Some, None, Result, Ok, Err, refl, sym, ap, ◌∙◌, add-one}
-use Rattle.std.specs.Prelude.{◌&&◌, ◌||◌, nat_le, is_some, slice_get, option_map, unwrap_or, IfOk, IsOkAnd}
+use Rattle.std.specs.Prelude.{◌&&◌, nat_le, is_some, slice_get, option_map, unwrap_or, IfOk, IsOkAnd}
 use Rattle.std.specs.List.{list_all}
 use Rattle.std.proofs.lemmas.List.{map-append}
 use Rattle.std.proofs.Math.Seq.{drop-append_seam}
@@ -18,7 +18,6 @@ use Rattle.solv_pool.specs.Written.{WrittenNeed, written_package}
 use Rattle.solv_pool.specs.declared.packages.Need.{Need}
 use Rattle.solv_pool.specs.declared.packages.Package.{Package}
 use Rattle.solv_tags.specs.EntryForms.{has_written_form, is_written_formed}
-use Rattle.solv_tags.specs.Inner.EntryForms.{is_unconditional, conflicts_unconditionally}
 use Rattle.solv_tags.specs.Inner.RepositoryReading.{IsTaken}
 use Rattle.solv_tags.specs.Testtags.{Repository}
 use Rattle.solv_tags.specs.declared.tag_fault.TagFault.{TagFault}
@@ -115,22 +114,14 @@ four_true a b c d h =
     (first_of_both a (b && (c && d)) h, first_of_both b (c && d) later, first_of_both c d last, second_of_both c d last)
 
 module _ (catalog : Catalog) where
-  -- a relation whose text has such a form has it, and at a conflict no condition
+  -- a relation has such a form where its text does
   written_form : (at : Bool) (d : ℕ) → has_written_form at (text_tree catalog.pool d) ≡ true → has_form catalog at d ≡ true
   unfolding text_tree
   written_form at d h =
       let f = text_at catalog.pool in
       let t = tree catalog.pool.nodes d in
       let own : (fits_place at (map_dep f t) && nat_le (operators (map_dep f t)) most_operators) ≡ has_form catalog at d = rw (fits_mapped f at t, operators_mapped f t) refl in
-      sym own ∙ first_of_both (fits_place at (map_dep f t) && nat_le (operators (map_dep f t)) most_operators) (at || unconditional (map_dep f t)) h
-
-  written_unconditional : (at : Bool) (d : ℕ) → has_written_form at (text_tree catalog.pool d) ≡ true → (at || is_unconditional catalog d) ≡ true
-  unfolding text_tree
-  written_unconditional at d h =
-      let f = text_at catalog.pool in
-      let t = tree catalog.pool.nodes d in
-      ap (λ b. at || b) (sym (unconditional_mapped f t))
-      ∙ second_of_both (fits_place at (map_dep f t) && nat_le (operators (map_dep f t)) most_operators) (at || unconditional (map_dep f t)) h
+      sym own ∙ h
 
   pub written_plain : (d : ℕ) → is_capability (text_tree catalog.pool d) ≡ is_plain_form catalog d
   unfolding text_tree
@@ -177,7 +168,7 @@ module _ (catalog : Catalog) where
     weak_pass : list_all (p true) (a.recommends ++ (a.suggests ++ (a.supplements ++ a.enhances))) ≡ true
     weak_pass = all_from (p true) (has_written_form true) (text_tree catalog.pool) (from true) (a.recommends ++ (a.suggests ++ (a.supplements ++ a.enhances))) parts.weak
 
-  -- a package whose text has such forms has them, and conflicts with nothing that has a condition
+  -- a package whose text has such forms has them
   formed : (a : Package) → is_written_formed (written_package catalog.pool a) ≡ true → is_formed catalog a ≡ true
   formed a h =
       let parts = parts_of a h in
@@ -185,15 +176,9 @@ module _ (catalog : Catalog) where
       let form : (at : Bool) (d : ℕ) → has_written_form at (text_tree catalog.pool d) ≡ true → has_form catalog at d ≡ true = written_form in
       rw (needs_pass (has_form catalog) form a parts, conflicts_pass (has_form catalog) form a parts, plain, weak_pass (has_form catalog) form a parts) refl
 
-  free : (a : Package) → is_written_formed (written_package catalog.pool a) ≡ true → conflicts_unconditionally catalog a ≡ true
-  free a h = let p : Bool → ℕ → Bool = λ at d. at || is_unconditional catalog d in conflicts_pass p written_unconditional a (parts_of a h)
-
   -- so do packages
   pub all_formed : (packages : List Package) → list_all is_written_formed (map (written_package catalog.pool) packages) ≡ true → list_all (is_formed catalog) packages ≡ true
   all_formed packages h = all_from (is_formed catalog) is_written_formed (written_package catalog.pool) formed packages h
-
-  pub all_free : (packages : List Package) → list_all is_written_formed (map (written_package catalog.pool) packages) ≡ true → list_all (conflicts_unconditionally catalog) packages ≡ true
-  all_free packages h = all_from (conflicts_unconditionally catalog) is_written_formed (written_package catalog.pool) free packages h
 
 -- the packages that were added have such forms in their text where what was read has
 taken_text : (given : Result Repository TagFault) (pool : Held) (old new : Contents) → IfOk given (λ r. list_all is_written_formed r.packages ≡ true) → IsOkAnd given (λ r. IsTaken r pool old new)
@@ -207,11 +192,7 @@ taken_text (Ok r) pool old new formed taken =
     ∙ ap (list_all is_written_formed) taken.packages.texts
     ∙ formed
 
--- so they have them, and conflict with nothing that has a condition
+-- so they have them
 pub taken_formed : (given : Result Repository TagFault) (pool : Held) (old new : Contents) → IfOk given (λ r. list_all is_written_formed r.packages ≡ true) → IsOkAnd given (λ r. IsTaken r pool old new)
     → list_all (is_formed (alone pool new)) (drop (length old.packages) new.packages) ≡ true
 taken_formed given pool old new formed taken = all_formed (alone pool new) (drop (length old.packages) new.packages) (taken_text given pool old new formed taken)
-
-pub taken_free : (given : Result Repository TagFault) (pool : Held) (old new : Contents) → IfOk given (λ r. list_all is_written_formed r.packages ≡ true) → IsOkAnd given (λ r. IsTaken r pool old new)
-    → list_all (conflicts_unconditionally (alone pool new)) (drop (length old.packages) new.packages) ≡ true
-taken_free given pool old new formed taken = all_free (alone pool new) (drop (length old.packages) new.packages) (taken_text given pool old new formed taken)

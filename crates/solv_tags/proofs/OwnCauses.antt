@@ -54,7 +54,7 @@ both_steps (Err e) next h k = h
 operator_own : (o : Operator) → IsOwn (refused_operator o)
 operator_own (sign.Link j) = refl
 operator_own sign.Minus = refl
-operator_own sign.If = refl
+operator_own (sign.Condition k) = refl
 operator_own sign.Else = refl
 
 go_on_own : (outer : List Hand) (n : ℕ) (o : Operator) (h : Option Hand) → IfErr (go_on outer n o h) IsOwn

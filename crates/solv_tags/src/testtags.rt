@@ -6,7 +6,6 @@ ghost use Rattle.solv_pool.specs.Belonging.{IsOver};
 ghost use Rattle.solv_pool.specs.Inner.Catalog.{alone};
 ghost use Rattle.solv_pool.specs.TaskForms.{is_formed};
 ghost use Rattle.solv_io.specs.Lines.{numbered_lines};
-ghost use Rattle.solv_tags.specs.Inner.EntryForms.{conflicts_unconditionally};
 ghost use Rattle.solv_tags.specs.Inner.RepositoryReading.{IsTaken, IsTagRefusal, HasOneForm};
 ghost use Rattle.solv_tags.specs.Inner.TagReading.{IsReading, HasMore, IsReadTo, tagged_of};
 ghost use Rattle.solv_tags.specs.Inner.Testtags.{testtags_file};
@@ -86,7 +85,6 @@ pub fn read_testtags(
     ensures read { OnOk result (IsOkAnd (testtags_file pool.old (length universe.old.packages) repo bytes.now) (λ r. IsTaken r pool.new universe.old universe.new)) }
     ensures over { OnOk result (IsOver pool.new universe.new) }
     ensures forms { OnOk result (list_all (is_formed (alone pool.new universe.new)) (drop (length universe.old.packages) universe.new.packages) ≡ true) }
-    ensures unconditional { OnOk result (list_all (conflicts_unconditionally (alone pool.new universe.new)) (drop (length universe.old.packages) universe.new.packages) ≡ true) }
     ensures refused { IfErr result (λ fault. IsTagRefusal fault (testtags_file pool.old (length universe.old.packages) repo bytes.now)) }
     ensures form { IfErr result (λ fault. HasOneForm fault.cause) }
     ensures unchanged { OnErr result (universe.new ≡ universe.old) }

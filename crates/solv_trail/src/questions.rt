@@ -13,6 +13,7 @@ pub enum Question {
     Keep(PackNo),
     BestUpdate(JobNo, PackNo),
     Requires(PackNo, DepId),
+    Conflicts(PackNo, DepId),
     Recommends(PackNo, DepId),
     Supplements(NameId),
 }

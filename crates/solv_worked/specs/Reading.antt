@@ -1,9 +1,9 @@
 -- Short ways to read what the definitions say of a task.
-use Rattle.std.specs.Prelude.{ℕ, ℤ, pos, neg_ℤ, Bool, true, false, List, None, flat_map}
+use Rattle.std.specs.Prelude.{ℕ, ℤ, pos, neg_ℤ, Bool, true, false, List, Some, None, filter, flat_map}
 use Rattle.std.specs.List.{list_all}
 use Rattle.solv_base.specs.Dependency.{Dep}
 use Rattle.solv_pool.specs.Words.{is_among}
-use Rattle.solv_pool.specs.Catalog.{catalog_of, dependency}
+use Rattle.solv_pool.specs.Catalog.{catalog_of, dependency, packages}
 use Rattle.solv_pool.specs.Holding.{holds}
 use Rattle.solv_pool.specs.JobMarks.{marks_of}
 use Rattle.solv_pool.specs.RuleMeaning.{HardRule, meets_rule}
@@ -12,6 +12,7 @@ use Rattle.solv_pool.specs.Updates.{feature_set, legal_set}
 use Rattle.solv_pool.specs.HardRules.{package_rules, hard_rules}
 use Rattle.solv_pool.specs.Clauses.{dependency_clauses, rule_clauses}
 use Rattle.solv_pool.specs.declared.tasks.Task.{Task}
+use Rattle.solv_questions.specs.Candidates.{may_break}
 
 -- the literal "package p is in"
 abbrev pub yes : ℕ → ℤ
@@ -68,3 +69,7 @@ legals_in task p = legal_set (catalog_of task) task.flags (marks_of task) p
 -- the best of a list
 abbrev pub best_in : Task → List ℕ → List ℕ
 best_in task list = best (catalog_of task) list
+
+-- the packages that may be taken against a conflict of p, in the set of these numbers, where none is known out
+abbrev pub taken_against : Task → ℕ → ℕ → List ℕ → List ℕ
+taken_against task p d set = filter (may_break (catalog_of task) (λ q. false) (Some p) (is_among set) (relation task d)) (packages (catalog_of task))

@@ -35,7 +35,7 @@ pub fn rows_of_result_lines()
 pub fn rows_of_orders_and_reasons()
     ensures order { line_set (solved_lines (catalog_of spoken) order_alone made placed happened (0 ∷ 1 ∷ 3 ∷ 4 ∷ [])) ≡ codes "cycle B-1-1.noarch@system C-1-1.noarch@available A-2-1.noarch@available" ∷ codes "order 0000001 install C-1-1.noarch@available" ∷ codes "order 0000002 install A-2-1.noarch@available" ∷ codes "order 0000003 erase B-1-1.noarch@system" ∷ codes "precycle C-1-1.noarch@available A-2-1.noarch@available" ∷ [] }
     ensures reasons { line_set (solved_lines (catalog_of spoken) reason_alone made placed happened (0 ∷ 1 ∷ 3 ∷ 4 ∷ 5 ∷ 6 ∷ [])) ≡ codes "reason A-1-1.i686@available recommended" ∷ codes "reason A-2-1.noarch@available follows" ∷ codes "reason C-1-1.noarch@available job" ∷ codes "reason P-1-1.i686@available requires" ∷ [] }
-    ensures words { map question_word (question.BestJob 0 ∷ question.Keep 1 ∷ question.BestUpdate 0 1 ∷ question.Supplements 0 ∷ []) ≡ codes "job" ∷ codes "update" ∷ codes "update" ∷ codes "supplemented" ∷ [] }
+    ensures words { map question_word (question.BestJob 0 ∷ question.Keep 1 ∷ question.BestUpdate 0 1 ∷ question.Conflicts 1 0 ∷ question.Supplements 0 ∷ []) ≡ codes "job" ∷ codes "update" ∷ codes "update" ∷ codes "conflicts" ∷ codes "supplemented" ∷ [] }
     ensures digits { map seven_digits (1 ∷ 1234567 ∷ 12345678 ∷ []) ≡ codes "0000001" ∷ codes "1234567" ∷ codes "12345678" ∷ [] }
 {}
 

@@ -1,9 +1,9 @@
 -- A draft: what a text says so far, each part after its operands, before any of it is entered into a pool.
 use Rattle.std.specs.Prelude.{ℕ, suc, ◌≡◌, ◌<◌, ◌≤◌, Bool, true, ◌&&◌, List, [], ◌∷◌, ◌++◌, length, nat_lt, get_or, take}
-use Rattle.solv_base.specs.Dependency.{Dep, plain, versioned, one, namespace, without, if_then, if_else, missing}
+use Rattle.solv_base.specs.Dependency.{Dep, plain, versioned, one, namespace, without, missing}
 use Rattle.solv_deps.specs.declared.draft.Written.{Written}
-use Rattle.solv_deps.specs.declared.draft.Written.TheVariants.{Simple, Versioned, Namespace, Joined, Without, If, IfElse}
-use Rattle.solv_deps.specs.Grammar.{joined}
+use Rattle.solv_deps.specs.declared.draft.Written.TheVariants.{Simple, Versioned, Namespace, Joined, Without, Under, UnderElse}
+use Rattle.solv_deps.specs.Grammar.{joined, under, under_else}
 
 -- the dependency at this place
 abbrev pub at : List (Dep (List ℕ)) → ℕ → Dep (List ℕ)
@@ -16,8 +16,8 @@ written of (Versioned name c evr) = one (versioned name.now c evr.now)
 written of (Namespace name) = namespace name.now
 written of (Joined j a b) = joined j (of a) (of b)
 written of (Without a b) = without (of a) (of b)
-written of (If a b) = if_then (of a) (of b)
-written of (IfElse a b c) = if_else (of a) (of b) (of c)
+written of (Under k a b) = under k (of a) (of b)
+written of (UnderElse k a b c) = under_else k (of a) (of b) (of c)
 
 -- the dependencies of parts that follow these
 abbrev pub written_after : List (Dep (List ℕ)) → List Written → List (Dep (List ℕ))
@@ -31,8 +31,8 @@ operands_below n (Versioned name c evr) = true
 operands_below n (Namespace name) = true
 operands_below n (Joined j a b) = nat_lt a n && nat_lt b n
 operands_below n (Without a b) = nat_lt a n && nat_lt b n
-operands_below n (If a b) = nat_lt a n && nat_lt b n
-operands_below n (IfElse a b c) = nat_lt a n && (nat_lt b n && nat_lt c n)
+operands_below n (Under k a b) = nat_lt a n && nat_lt b n
+operands_below n (UnderElse k a b c) = nat_lt a n && (nat_lt b n && nat_lt c n)
 
 -- the operands of each part come before it; so many parts stand before these
 abbrev pub operands_first : ℕ → List Written → Bool

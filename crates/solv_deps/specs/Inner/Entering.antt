@@ -1,7 +1,7 @@
 -- Entering a dependency into a pool: texts from left to right, each relation directly after its operands, each once.
 use Rattle.std.specs.Prelude.{ℕ, List, length, Result, Ok, Err, ◌≡◌, ◌<◌}
 use Rattle.solv_base.specs.declared.relation.DepNode.{DepNode}
-use Rattle.solv_base.specs.declared.relation.DepNode.TheVariants.{And, Or, With}
+use Rattle.solv_base.specs.declared.relation.DepNode.TheVariants.{And, Or, With, If, IfElse, Unless, UnlessElse}
 use Rattle.solv_base.specs.declared.interning.PoolFault.{PoolFault}
 use Rattle.solv_base.specs.declared.interning.PoolFault.TheVariants as PoolFull
 use Rattle.solv_base.specs.Dependency.{Dep}
@@ -11,6 +11,8 @@ use Rattle.solv_deps.specs.declared.fault.DepFault.{DepFault}
 use Rattle.solv_deps.specs.declared.fault.DepFault.TheVariants.{FullNames, FullRelations, Memory}
 use Rattle.solv_deps.specs.declared.sign.Joint.{Joint}
 use Rattle.solv_deps.specs.declared.sign.Joint.TheVariants.{Both, Either, Jointly}
+use Rattle.solv_deps.specs.declared.sign.Conditional.{Conditional}
+use Rattle.solv_deps.specs.declared.sign.Conditional.TheVariants as kind
 use Rattle.solv_deps.specs.Reading.{and_then, dependency}
 use Rattle.solv_deps.specs.Entering.{Entered, dependency_entered}
 
@@ -47,3 +49,13 @@ abbrev pub link_node : Joint → ℕ → ℕ → DepNode
 link_node Both a b = And a b
 link_node Either a b = Or a b
 link_node Jointly a b = With a b
+
+-- the relation of a condition
+abbrev pub under_node : Conditional → ℕ → ℕ → DepNode
+under_node kind.If a b = If a b
+under_node kind.Unless a b = Unless a b
+
+-- the relation of a condition with `<ELSE>`
+abbrev pub under_else_node : Conditional → ℕ → ℕ → ℕ → DepNode
+under_else_node kind.If a b c = IfElse a b c
+under_else_node kind.Unless a b c = UnlessElse a b c

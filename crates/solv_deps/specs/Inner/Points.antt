@@ -16,9 +16,9 @@ abbrev pub rule_hand : (ℕ → Dep (List ℕ)) → Rule → Hand
 rule_hand at Nothing = nothing
 rule_hand at (Chain j a) = in_chain j (at a)
 rule_hand at (Difference a) = in_difference (at a)
-rule_hand at (Condition a) = in_condition (at a)
-rule_hand at (Else a b) = in_else (at a) (at b)
-rule_hand at (InnerElse a b) = in_inner_else (at a) (at b)
+rule_hand at (Condition k a) = in_condition k (at a)
+rule_hand at (Else k a b) = in_else k (at a) (at b)
+rule_hand at (InnerElse k a b) = in_inner_else k (at a) (at b)
 
 -- the rules that open parentheses interrupt
 abbrev pub hands : (ℕ → Dep (List ℕ)) → List Rule → List Hand
@@ -36,9 +36,9 @@ abbrev pub rule_in : ℕ → Rule → Bool
 rule_in n Nothing = true
 rule_in n (Chain j a) = nat_lt a n
 rule_in n (Difference a) = nat_lt a n
-rule_in n (Condition a) = nat_lt a n
-rule_in n (Else a b) = nat_lt a n && nat_lt b n
-rule_in n (InnerElse a b) = nat_lt a n && nat_lt b n
+rule_in n (Condition k a) = nat_lt a n
+rule_in n (Else k a b) = nat_lt a n && nat_lt b n
+rule_in n (InnerElse k a b) = nat_lt a n && nat_lt b n
 
 -- the same of a rule, if there is one
 abbrev pub option_in : ℕ → Option Rule → Bool
@@ -61,9 +61,9 @@ abbrev pub pending : Rule → ℕ
 pending Nothing = 0
 pending (Chain j a) = 1
 pending (Difference a) = 1
-pending (Condition a) = 1
-pending (Else a b) = 1
-pending (InnerElse a b) = 1
+pending (Condition k a) = 1
+pending (Else k a b) = 1
+pending (InnerElse k a b) = 1
 
 -- the same of a rule, if there is one
 abbrev pub option_pending : Option Rule → ℕ

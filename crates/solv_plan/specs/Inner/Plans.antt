@@ -11,7 +11,7 @@ use Rattle.solv_plan.specs.declared.plans.Demand.{Demand}
 use Rattle.solv_plan.specs.declared.plans.Keep.{Keep}
 use Rattle.solv_plan.specs.Inside.{some_inside, row_at}
 use Rattle.solv_plan.specs.Trees.{tree_holds}
-use Rattle.solv_plan.specs.Inner.Choosing.{tree_query}
+use Rattle.solv_plan.specs.Inner.Choosing.{tree_query, against_query}
 use Rattle.solv_plan.specs.declared.plans.Want.{Want}
 use Rattle.solv_plan.specs.declared.plans.Wanted.{Wanted}
 use Rattle.solv_plan.specs.declared.plans.Relations.{Relations}
@@ -60,9 +60,15 @@ module _ (known : ℤ → Bool) (relations : Relations) where
   abbrev pub wanted_query : Question → Wanted → Query
   wanted_query question wanted = if wanted.by_tree then tree_query relations.nodes relations.rows relations.standings known question wanted.dep else row_query question wanted.dep
 
-  -- a dependency, where the package that asks for it is in
+  -- a dependency of a package: what is to hold, or what is not to
+  abbrev pub want_query : (ℕ → ℕ → Question) → Want → Query
+  want_query asking want =
+      if want.against then against_query relations.nodes relations.rows relations.standings known want.pack want.wanted.dep
+      else wanted_query (asking want.pack want.wanted.dep) want.wanted
+
+  -- where the package is in
   abbrev pub want_queries : (ℕ → ℕ → Question) → Want → List Query
-  want_queries asking want = when (set_of known want.pack) (wanted_query (asking want.pack want.wanted.dep) want.wanted ∷ [])
+  want_queries asking want = when (set_of known want.pack) (want_query asking want ∷ [])
 
   -- one of its supplements holds
   abbrev pub is_supplementing : Supplement → Bool

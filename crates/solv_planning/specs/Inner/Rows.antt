@@ -3,9 +3,9 @@ use Rattle.std.specs.Prelude.{ℕ, Bool, not, ◌&&◌, List, [], ◌∷◌, ◌
 use Rattle.solv_pool.specs.Words.{when}
 use Rattle.solv_pool.specs.Catalog.{Catalog, is_installed}
 use Rattle.solv_pool.specs.JobMarks.{marked}
-use Rattle.solv_pool.specs.RuleMeaning.{HardRule, req}
+use Rattle.solv_pool.specs.RuleMeaning.{HardRule, req, rich_con}
 use Rattle.solv_questions.specs.Questions.{Request, is_update_of, is_feature_of, close_candidates, far_candidates}
-use Rattle.solv_plan.specs.PlanOf.{want_of, best_job_demand, job_demand, best_update_demand}
+use Rattle.solv_plan.specs.PlanOf.{want_of, conflict_of, best_job_demand, job_demand, best_update_demand}
 use Rattle.solv_plan.specs.declared.plans.Keep.{Keep}
 use Rattle.solv_plan.specs.declared.plans.Want.{Want}
 use Rattle.solv_planning.specs.declared.demands.JobDemands.{JobDemands}
@@ -33,10 +33,11 @@ module _ (r : Request) where
     features = row.features ++ when (is_feature_of p x.1) (x.0 ∷ []);
   }
 
--- the requirement of a rule, if it is of one
+-- what a rule says that a package asks for: a requirement, or a conflict that no package meets alone
 module _ (catalog : Catalog) where
   abbrev pub wants_of : HardRule → List Want
   wants_of (req p d) = want_of catalog p d ∷ []
+  wants_of (rich_con p d) = conflict_of catalog p d ∷ []
   wants_of _ = []
 
 -- what is asked of a package with these rules on it

@@ -1,7 +1,7 @@
 use Rattle.std.proofs.Common.{length}
 use Rattle.solv_tags.specs.Inner.Testtags.{testtags_file}
 use Rattle.solv_tags.proofs.EntriesFormed.{file_formed}
-use Rattle.solv_tags.proofs.FormsById.{taken_formed, taken_free}
+use Rattle.solv_tags.proofs.FormsById.{taken_formed}
 use Rattle.solv_tags.proofs.testtags.read_testtags.Goals as goal
 
 pub returns-in-Ok-clause-forms : goal.returns-in-Ok-clause-forms
@@ -9,11 +9,4 @@ returns-in-Ok-clause-forms c =
     let held = c.args.pool.now in
     let universe = c.args.universe.now in
     taken_formed (testtags_file held (length universe.packages) c.new-reader.result.repo c.args.bytes.now) c.read_all.new.pool universe c.read_all.new.universe
-    (file_formed held (length universe.packages) c.new-reader.result.repo c.args.bytes.now) c.in-Ok.ensures.read
-
-pub returns-in-Ok-clause-unconditional : goal.returns-in-Ok-clause-unconditional
-returns-in-Ok-clause-unconditional c =
-    let held = c.args.pool.now in
-    let universe = c.args.universe.now in
-    taken_free (testtags_file held (length universe.packages) c.new-reader.result.repo c.args.bytes.now) c.read_all.new.pool universe c.read_all.new.universe
     (file_formed held (length universe.packages) c.new-reader.result.repo c.args.bytes.now) c.in-Ok.ensures.read
