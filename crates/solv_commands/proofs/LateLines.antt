@@ -1,18 +1,18 @@
--- A line is not built only where it has a form that comes late.
+-- A line is not built only where it begins another round.
 use Rattle.std.proofs.Common.{ℕ, ◌≡◌, ◌&&◌, Bool, true, false, List, [], ◌∷◌, Option, Some, None, Result, Ok, Err, refl, ap, ◌∙◌}
 use Rattle.std.specs.Prelude.{codes, if◌then◌else◌}
 use Rattle.std.specs.List.{list_any}
 use Rattle.std.specs.Str.{bytes_eq}
 use Rattle.solv_deps.specs.Grammar.{comparison, is_namespace}
 use Rattle.solv_pool.specs.declared.jobs.Action.{Action}
-use Rattle.solv_pool.specs.declared.jobs.Action.TheVariants.{Install, Erase, Update, Lock, Verify, Multiversion, AllowUninstall, Favor, Disfavor, Noop}
+use Rattle.solv_pool.specs.declared.jobs.Action.TheVariants.{Install, Erase, Update, Distupgrade, Lock, Verify, Multiversion, AllowUninstall, Favor, Disfavor, UserInstalled, Noop}
 use Rattle.solv_commands.specs.Commas.{between_commas}
-use Rattle.solv_commands.specs.Commands.{Asked, and_then, or_cause, fits_type, file_of, repo_line, system_line, namespace_line, disable_line, evrcmp_line, result_line, action, in_brackets, flag_word, before_flags, flag_cause, flags_cause, forcebest, one_package, some_words, all_packages, selection, asked, fits_forcebest, has_job_words, job_line, by_name, by_provides, one_of}
-use Rattle.solv_commands.specs.LateForms.{is_late_word, is_late_action, flags_in, has_late_flag, is_late_job, NotBuiltIsLate}
+use Rattle.solv_commands.specs.Commands.{Asked, and_then, or_cause, fits_type, file_of, repo_line, system_line, namespace_line, disable_line, evrcmp_line, result_line, action, in_brackets, flag_word, before_flags, no_job_flags, with_job_flag, with_job_flags, job_flags, one_package, some_words, all_packages, selection, asked, fits_flags, has_job_words, job_line, by_name, by_provides, one_of}
+use Rattle.solv_commands.specs.LateForms.{is_late_word, NotBuiltIsLate}
 use Rattle.solv_commands.specs.Numbers.{priority}
+use Rattle.solv_commands.specs.declared.flags_of_jobs.JobFlags.{JobFlags}
 use Rattle.solv_commands.specs.declared.causes.Cause.{Cause}
 use Rattle.solv_commands.specs.declared.causes.Cause.TheVariants.{BadNumber, BadOperator, UnknownJobFlag, NotBuilt}
-use Rattle.std.proofs.lemmas.Bool.{or_left, or_right}
 
 -- where this is not built, that holds
 abbrev LateOnly : {A : Type 0} → Type 0 → Result A Cause → Type 0
@@ -106,84 +106,62 @@ module _ {P : Type 0} where
   asked_built Install [] = λ h. absurd (cc)
   asked_built Erase [] = λ h. absurd (cc)
   asked_built Update [] = λ h. absurd (cc)
+  asked_built Distupgrade [] = λ h. absurd (cc)
   asked_built Lock [] = λ h. absurd (cc)
   asked_built Verify [] = λ h. absurd (cc)
   asked_built Multiversion [] = λ h. absurd (cc)
   asked_built AllowUninstall [] = λ h. absurd (cc)
   asked_built Favor [] = λ h. absurd (cc)
   asked_built Disfavor [] = λ h. absurd (cc)
+  asked_built UserInstalled [] = λ h. absurd (cc)
 
-action_late : (word : List ℕ) → LateOnly (is_late_action word ≡ true) (action word)
-action_late word =
-    let is : List ℕ → Bool = bytes_eq word in
-    late_if (is (codes "install")) _ _ (λ e h. absurd (cc)) (λ e.
-    late_if (is (codes "erase")) _ _ (λ e h. absurd (cc)) (λ e.
-    late_if (is (codes "update")) _ _ (λ e h. absurd (cc)) (λ e.
-    late_if (is (codes "lock")) _ _ (λ e h. absurd (cc)) (λ e.
-    late_if (is (codes "verify")) _ _ (λ e h. absurd (cc)) (λ e.
-    late_if (is (codes "multiversion")) _ _ (λ e h. absurd (cc)) (λ e.
-    late_if (is (codes "allowuninstall")) _ _ (λ e h. absurd (cc)) (λ e.
-    late_if (is (codes "favor")) _ _ (λ e h. absurd (cc)) (λ e.
-    late_if (is (codes "disfavor")) _ _ (λ e h. absurd (cc)) (λ e.
-    late_if (is (codes "noop")) _ _ (λ e h. absurd (cc)) (λ e.
-    late_if (is (codes "distupgrade")) _ _ (λ e h. or_left (is (codes "distupgrade")) (is (codes "userinstalled")) e) (λ e.
-    late_if (is (codes "userinstalled")) _ _ (λ e h. or_right (is (codes "distupgrade")) (is (codes "userinstalled")) e) (λ e h. absurd (cc)))))))))))))
+module _ {P : Type 0} where
+  action_built : (word : List ℕ) → LateOnly P (action word)
+  action_built word =
+      let is : List ℕ → Bool = bytes_eq word in
+      late_if (is (codes "install")) _ _ (λ e h. absurd (cc)) (λ e.
+      late_if (is (codes "erase")) _ _ (λ e h. absurd (cc)) (λ e.
+      late_if (is (codes "update")) _ _ (λ e h. absurd (cc)) (λ e.
+      late_if (is (codes "distupgrade")) _ _ (λ e h. absurd (cc)) (λ e.
+      late_if (is (codes "lock")) _ _ (λ e h. absurd (cc)) (λ e.
+      late_if (is (codes "verify")) _ _ (λ e h. absurd (cc)) (λ e.
+      late_if (is (codes "multiversion")) _ _ (λ e h. absurd (cc)) (λ e.
+      late_if (is (codes "allowuninstall")) _ _ (λ e h. absurd (cc)) (λ e.
+      late_if (is (codes "favor")) _ _ (λ e h. absurd (cc)) (λ e.
+      late_if (is (codes "disfavor")) _ _ (λ e h. absurd (cc)) (λ e.
+      late_if (is (codes "userinstalled")) _ _ (λ e h. absurd (cc)) (λ e.
+      late_if (is (codes "noop")) _ _ (λ e h. absurd (cc)) (λ e h. absurd (cc)))))))))))))
 
-flag_late : (flag : List ℕ) → flag_cause flag ≡ Some NotBuilt → bytes_eq flag (codes "cleandeps") ≡ true
-flag_late flag = by_name (bytes_eq flag (codes "forcebest")) (bytes_eq flag (codes "cleandeps"))
-  where
-    by_name : (b c : Bool) → (if b then None else (if c then Some NotBuilt else Some UnknownJobFlag)) ≡ Some NotBuilt → c ≡ true
-    by_name true c h = absurd (cc)
-    by_name false true h = refl
-    by_name false false h = absurd (cc)
+  flag_built : (name : List ℕ) (flags : JobFlags) → LateOnly P (with_job_flag name flags)
+  flag_built name flags =
+      late_if (bytes_eq name (codes "forcebest")) _ _ (λ e h. absurd (cc)) (λ e. late_if (bytes_eq name (codes "cleandeps")) _ _ (λ e h. absurd (cc)) (λ e h. absurd (cc)))
 
-abbrev has_flag : List (List ℕ) → Bool
-has_flag flags = list_any (λ flag. bytes_eq flag (codes "cleandeps")) flags
+  flags_built : (names : List (List ℕ)) (flags : JobFlags) → LateOnly P (with_job_flags names flags)
+  flags_built [] flags = λ h. absurd (cc)
+  flags_built (name ∷ names) flags = late_then (with_job_flag name flags) (with_job_flags names) (flag_built name flags) (λ more. flags_built names more)
 
-flags_late : (flags : List (List ℕ)) → flags_cause flags ≡ Some NotBuilt → has_flag flags ≡ true
-flags_late [] h = absurd (cc)
-flags_late (flag ∷ flags) h = by_cause (λ (k : flags_cause flags ≡ Some NotBuilt). flags_late flags k) (flag_cause flag) refl
-  where
-    by_cause : (flags_cause flags ≡ Some NotBuilt → has_flag flags ≡ true) → (o : Option Cause) → flag_cause flag ≡ o → has_flag (flag ∷ flags) ≡ true
-    by_cause behind (Some c) e =
-        let first : Some c ≡ Some NotBuilt = rw e at h in
-        or_left (bytes_eq flag (codes "cleandeps")) (has_flag flags) (flag_late flag (e ∙ first))
-    by_cause behind None e =
-        let later : flags_cause flags ≡ Some NotBuilt = rw e at h in
-        or_right (bytes_eq flag (codes "cleandeps")) (has_flag flags) (behind later)
+  job_flags_built : (o : Option (List ℕ)) → LateOnly P (job_flags o)
+  job_flags_built None = λ h. absurd (cc)
+  job_flags_built (Some word) = flags_built (between_commas (in_brackets word)) no_job_flags
 
-forced_late : (o : Option (List ℕ)) → LateOnly (has_flag (flags_in o) ≡ true) (forcebest o)
-forced_late None h = absurd (cc)
-forced_late (Some word) h = by_cause (flags_cause (between_commas (in_brackets word))) refl
-  where
-    by_cause : (o : Option Cause) → flags_cause (between_commas (in_brackets word)) ≡ o → has_flag (between_commas (in_brackets word)) ≡ true
-    by_cause None e = let given : Result Bool Cause = Ok true in let no : given ≡ Err NotBuilt = rw e at h in absurd (cc)
-    by_cause (Some c) e =
-        let given : Result Bool Cause = Err c in
-        let first : given ≡ Err NotBuilt = rw e at h in
-        let same : c ≡ NotBuilt = cc in
-        flags_late (between_commas (in_brackets word)) (e ∙ ap Some same)
-
-job_late : (words : List (List ℕ)) → LateOnly (is_late_job words ≡ true) (job_line words)
-job_late [] = λ h. absurd (cc)
-job_late (word ∷ words) =
-    late_if (has_job_words word words) _ _
-    (λ e. late_then (action word) _ (λ h. or_left (is_late_action word) (has_late_flag words) (action_late word h))
-    (λ a. late_then (forcebest (flag_word words)) _ (λ h. or_right (is_late_action word) (has_late_flag words) (forced_late (flag_word words) h))
-    (λ best. late_if (fits_forcebest a best) _ _ (λ e. late_then (asked a (before_flags words)) _ (asked_built a (before_flags words)) (λ s h. absurd (cc))) (λ e h. absurd (cc)))))
-    (λ e h. absurd (cc))
+  job_built : (words : List (List ℕ)) → LateOnly P (job_line words)
+  job_built [] = λ h. absurd (cc)
+  job_built (word ∷ words) =
+      late_if (has_job_words word words) _ _
+      (λ e. late_then (action word) _ (action_built word)
+      (λ a. late_then (job_flags (flag_word words)) _ (job_flags_built (flag_word words))
+      (λ flags. late_if (fits_flags a flags) _ _ (λ e. late_then (asked a (before_flags words)) _ (asked_built a (before_flags words)) (λ s h. absurd (cc))) (λ e h. absurd (cc)))))
+      (λ e h. absurd (cc))
 
 pub command_late : NotBuiltIsLate
 command_late = λ first words.
     let is : List ℕ → Bool = bytes_eq first in
-    let word = is_late_word first in
-    let job = is (codes "job") && is_late_job words in
     late_if (is (codes "repo")) _ _ (λ e. repo_built words) (λ e.
     late_if (is (codes "system")) _ _ (λ e. system_built words) (λ e.
     late_if (is (codes "solverflags")) _ _ (λ e h. absurd (cc)) (λ e.
     late_if (is (codes "namespace")) _ _ (λ e. namespace_built words) (λ e.
     late_if (is (codes "disable")) _ _ (λ e. disable_built words) (λ e.
     late_if (is (codes "evrcmp")) _ _ (λ e. evrcmp_built words) (λ e.
-    late_if (is (codes "job")) _ _ (λ e h. or_right word job (rw (e, job_late words h) refl)) (λ e.
+    late_if (is (codes "job")) _ _ (λ e. job_built words) (λ e.
     late_if (is (codes "result")) _ _ (λ e. result_built words) (λ e.
-    late_if (is (codes "nextjob")) _ _ (λ e h. or_left word job e) (λ e h. absurd (cc))))))))))
+    late_if (is (codes "nextjob")) _ _ (λ e h. e) (λ e h. absurd (cc))))))))))

@@ -1,13 +1,15 @@
 -- Lines of scripts as commands: what the words of a line say by themselves, or the first cause for which they say nothing.
-use Rattle.std.specs.Prelude.{ℕ, ℤ, ◌-◌, ◌==◌, ◌&&◌, Bool, true, false, List, [], ◌∷◌, ◌++◌, codes, length, take, drop, flat_map, nat_le, Option, Some, None, Result, Ok, Err, if◌then◌else◌}
+use Rattle.std.specs.Prelude.{ℕ, ℤ, ◌-◌, ◌==◌, not, ◌&&◌, ◌||◌, Bool, true, false, List, [], ◌∷◌, ◌++◌, codes, length, take, drop, flat_map, nat_le, Option, Some, None, Result, Ok, Err, if◌then◌else◌}
 use Rattle.std.specs.List.{list_any}
 use Rattle.std.specs.Str.{bytes_eq}
 use Rattle.solv_base.specs.declared.comparison.Cmp.{Cmp}
 use Rattle.solv_deps.specs.Grammar.{comparison, is_namespace}
 use Rattle.solv_pool.specs.declared.jobs.Action.{Action}
-use Rattle.solv_pool.specs.declared.jobs.Action.TheVariants.{Install, Erase, Update, Lock, Verify, Multiversion, AllowUninstall, Favor, Disfavor, Noop}
+use Rattle.solv_pool.specs.declared.jobs.Action.TheVariants.{Install, Erase, Update, Distupgrade, Lock, Verify, Multiversion, AllowUninstall, Favor, Disfavor, UserInstalled, Noop}
+use Rattle.solv_pool.specs.JobKinds.{is_erase}
 use Rattle.solv_commands.specs.Commas.{between_commas}
 use Rattle.solv_commands.specs.Numbers.{priority}
+use Rattle.solv_commands.specs.declared.flags_of_jobs.JobFlags.{JobFlags}
 use Rattle.solv_commands.specs.declared.causes.Cause.{Cause}
 use Rattle.solv_commands.specs.declared.causes.Cause.TheVariants.{BadWords, BadNumber, BadRepoType, BadNamespace, BadOperator, UnknownJob, UnknownJobFlag, FlagNotHere, UnknownSelection, UnknownLine, NotBuilt}
 
@@ -17,7 +19,7 @@ pub data Asked : Type 0 where
   by_name by_provides one_of : List (List ℕ) → Asked
   all nothing : Asked
 
--- a line: a repository that is empty names no file; a `result` line has the word of its kinds, and its file; a job has its action, its selection, whether the best is forced, and its own text
+-- a line: a repository that is empty names no file; a `result` line has the word of its kinds, and its file; a job has its action, its selection, its flags, and its own text
 pub data Command : Type 0 where
   repo : List ℕ → ℤ → Option (List ℕ) → Command
   system : List ℕ → List ℕ → Option (List ℕ) → Command
@@ -26,7 +28,7 @@ pub data Command : Type 0 where
   disable : List ℕ → Command
   evrcmp : List ℕ → Cmp → List ℕ → Command
   results : List ℕ → List ℕ → Command
-  job : Action → Asked → Bool → List ℕ → Command
+  job : Action → Asked → JobFlags → List ℕ → Command
 
 abbrev pub and_then : {A B : Type 0} → Result A Cause → (A → Result B Cause) → Result B Cause
 and_then (Ok x) next = next x
@@ -94,21 +96,21 @@ abbrev pub result_line : List (List ℕ) → Result Command Cause
 result_line (kinds ∷ file ∷ []) = Ok (results kinds file)
 result_line words = Err BadWords
 
--- the action that a word is; two are not built yet
+-- the action that a word is
 abbrev pub action : List ℕ → Result Action Cause
 action word =
     if bytes_eq word (codes "install") then Ok Install
     else (if bytes_eq word (codes "erase") then Ok Erase
     else (if bytes_eq word (codes "update") then Ok Update
+    else (if bytes_eq word (codes "distupgrade") then Ok Distupgrade
     else (if bytes_eq word (codes "lock") then Ok Lock
     else (if bytes_eq word (codes "verify") then Ok Verify
     else (if bytes_eq word (codes "multiversion") then Ok Multiversion
     else (if bytes_eq word (codes "allowuninstall") then Ok AllowUninstall
     else (if bytes_eq word (codes "favor") then Ok Favor
     else (if bytes_eq word (codes "disfavor") then Ok Disfavor
+    else (if bytes_eq word (codes "userinstalled") then Ok UserInstalled
     else (if bytes_eq word (codes "noop") then Ok Noop
-    else (if bytes_eq word (codes "distupgrade") then Err NotBuilt
-    else (if bytes_eq word (codes "userinstalled") then Err NotBuilt
     else Err UnknownJob)))))))))))
 
 -- a word in square brackets
@@ -132,30 +134,26 @@ before_flags [] = []
 before_flags (word ∷ []) = if is_bracketed word then [] else word ∷ []
 before_flags (word ∷ next ∷ others) = word ∷ before_flags (next ∷ others)
 
--- why a flag may not stand, if so; one is not built yet
-abbrev pub flag_cause : List ℕ → Option Cause
-flag_cause flag =
-    if bytes_eq flag (codes "forcebest") then None
-    else (if bytes_eq flag (codes "cleandeps") then Some NotBuilt
-    else Some UnknownJobFlag)
+-- no flag
+abbrev pub no_job_flags : JobFlags
+no_job_flags = record { forcebest = false; cleandeps = false }
 
--- the first cause of these flags
-abbrev pub flags_cause : List (List ℕ) → Option Cause
-flags_cause [] = None
-flags_cause (flag ∷ flags) = or_else (flag_cause flag) (flags_cause flags)
-  where
-    or_else : Option Cause → Option Cause → Option Cause
-    or_else (Some cause) other = Some cause
-    or_else None other = other
+-- the flags with the one of this name
+abbrev pub with_job_flag : List ℕ → JobFlags → Result JobFlags Cause
+with_job_flag name flags =
+    if bytes_eq name (codes "forcebest") then Ok (record flags { forcebest = true })
+    else (if bytes_eq name (codes "cleandeps") then Ok (record flags { cleandeps = true })
+    else Err UnknownJobFlag)
 
--- is the best forced? It is where there are flags, since no other flag is known
-abbrev pub forcebest : Option (List ℕ) → Result Bool Cause
-forcebest None = Ok false
-forcebest (Some word) = without_cause (flags_cause (between_commas (in_brackets word)))
-  where
-    without_cause : Option Cause → Result Bool Cause
-    without_cause None = Ok true
-    without_cause (Some cause) = Err cause
+-- the flags with those of these names, in order
+abbrev pub with_job_flags : List (List ℕ) → JobFlags → Result JobFlags Cause
+with_job_flags [] flags = Ok flags
+with_job_flags (name ∷ names) flags = and_then (with_job_flag name flags) (with_job_flags names)
+
+-- the flags of a job, which the word in brackets names between commas
+abbrev pub job_flags : Option (List ℕ) → Result JobFlags Cause
+job_flags None = Ok no_job_flags
+job_flags (Some word) = with_job_flags (between_commas (in_brackets word)) no_job_flags
 
 -- may the best be forced for this action?
 abbrev pub takes_forcebest : Action → Bool
@@ -199,18 +197,18 @@ abbrev pub has_job_words : List ℕ → List (List ℕ) → Bool
 has_job_words word [] = bytes_eq word (codes "noop")
 has_job_words word (next ∷ others) = true
 
--- may the best be forced, where it is?
-abbrev pub fits_forcebest : Action → Bool → Bool
-fits_forcebest action best = if best then takes_forcebest action else true
+-- may these flags stand at this action? The best may be forced where something comes, and only an erase job cleans
+abbrev pub fits_flags : Action → JobFlags → Bool
+fits_flags action flags = (not flags.forcebest || takes_forcebest action) && (not flags.cleandeps || is_erase action)
 
 -- `job ACTION SELECTION [FLAG,..]`
 abbrev pub job_line : List (List ℕ) → Result Command Cause
 job_line [] = Err BadWords
 job_line (word ∷ words) =
     if has_job_words word words
-    then and_then (action word) (λ a. and_then (forcebest (flag_word words)) (λ best.
-    if fits_forcebest a best
-    then and_then (asked a (before_flags words)) (λ s. Ok (job a s best (joined (word ∷ words))))
+    then and_then (action word) (λ a. and_then (job_flags (flag_word words)) (λ flags.
+    if fits_flags a flags
+    then and_then (asked a (before_flags words)) (λ s. Ok (job a s flags (joined (word ∷ words))))
     else Err FlagNotHere))
     else Err BadWords
 

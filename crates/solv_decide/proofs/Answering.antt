@@ -29,13 +29,13 @@ use Rattle.solv_core.specs.declared.verdicts.Verdict.TheVariants as verdict
 use Rattle.solv_rules.specs.Books.{owners_from}
 use Rattle.solv_questions.specs.Questions.{Request, rules_of, enabled_rules, asks}
 use Rattle.solv_questions.specs.Inner.Law.{QuestionsKeepTheLaw}
-use Rattle.solv_questions.proofs.Members.{Has, all_by, all_at, has_flat, of_flat}
+use Rattle.solv_pool.proofs.Members.{Has, all_by, all_at, has_flat, of_flat}
 use Rattle.solv_questions.proofs.Origins.{is_from, of_enabled}
 use Rattle.solv_questions.proofs.Placed.{placed}
 use Rattle.solv_plan.specs.Inner.Plans.{plan_asks}
 use Rattle.solv_plan.specs.Inner.PlanLaw.{PlansAskTheQuestions}
-use Rattle.solv_decide.specs.Deciding.{Asker, IsAskedFor, IsSolution, IsRefuted, IsDecided, rules_on, clauses_on, meets_all}
-use Rattle.solv_decide.specs.Inner.Deciding.{IsLawful}
+use Rattle.solv_decide.specs.Deciding.{IsSolution, IsRefuted, rules_on, clauses_on, meets_all}
+use Rattle.solv_decide.specs.Inner.Deciding.{Asker, IsAskedFor, IsDecided, IsLawful}
 use Rattle.solv_decide.proofs.Enabling.{clauses_are, used_there, lengths_are}
 
 module _ (r : Request) (asker : Asker) (core : CoreOf) (asked : IsAskedFor r asker core) (plans : PlansAskTheQuestions) where

@@ -11,7 +11,7 @@ use Rattle.solv_trail.specs.Asked.{is_enabled, enabled_clauses}
 use Rattle.solv_trail.specs.Propagated.{in_use}
 use Rattle.solv_rules.specs.Books.{owners_from}
 use Rattle.solv_questions.specs.Questions.{enabled_from}
-use Rattle.solv_questions.proofs.Members.{Has}
+use Rattle.solv_pool.proofs.Members.{Has}
 use Rattle.solv_list.proofs.Lists.{list_all_join}
 
 module _ (catalog : Catalog) (enabled : List Bool) where

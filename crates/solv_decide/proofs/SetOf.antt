@@ -14,7 +14,7 @@ use Rattle.solv_trail.specs.Asked.{set_of}
 use Rattle.solv_core.specs.GoodTrails.{facts_of, literal_of}
 use Rattle.solv_core.specs.declared.verdicts.Event.{Event}
 use Rattle.solv_core.specs.declared.verdicts.Event.TheVariants as event
-use Rattle.solv_questions.proofs.Members.{Has}
+use Rattle.solv_pool.proofs.Members.{Has}
 use Rattle.solv_questions.proofs.Asking.{in_range}
 use Rattle.solv_decide.specs.Inner.Sets.{pack_of}
 use Rattle.solv_decide.specs.Sets.{IsSetOf}

@@ -22,13 +22,13 @@ use Rattle.solv_rules.specs.declared.fault.BookFault.{BookFault}
 use Rattle.solv_rules.specs.declared.fault.BookFault.TheVariants.{TooManyWords}
 use Rattle.std.proofs.lemmas.Bool.Decides.{nat_tests}
 use Rattle.solv_rules.specs.Books.{owners_from, read_rules}
-use Rattle.solv_questions.specs.Law.{AsksInForm}
+use Rattle.solv_questions.specs.Inner.Law.{AsksInForm}
 use Rattle.solv_questions.specs.Questions.{Request, rules_of, asks}
-use Rattle.solv_plan.specs.PlanOf.{plan_of}
+use Rattle.solv_plan.specs.Inner.PlanOf.{plan_of}
 use Rattle.solv_core.specs.declared.verdicts.Verdict.{Verdict}
-use Rattle.solv_decide.specs.Deciding.{Asker, IsAskedFor, IsDecided}
+use Rattle.solv_decide.specs.Inner.Deciding.{Asker, IsAskedFor, IsDecided}
 use Rattle.solv_decide.proofs.Enabling.{owners_below}
-use Rattle.solv_questions.proofs.Members.{Has, any_has}
+use Rattle.solv_pool.proofs.Members.{Has, any_has}
 use Rattle.solv_questions.proofs.Asking.{in_range}
 use Rattle.solv_list.proofs.Lists.{all_weaker, list_all_join}
 

@@ -1,42 +1,19 @@
 -- What deciding gives: sets by the questions of a task, and refutations.
 use Rattle.std.specs.Prelude.{◌≡◌, ℕ, ℤ, Bool, true, List, flat_map, length, nat_lt, ◌&&◌}
 use Rattle.std.specs.List.{list_all}
-use Rattle.solv_base.specs.Dependency.{IsWellFounded}
 use Rattle.solv_pool.specs.Clauses.{rule_clauses}
 use Rattle.solv_pool.specs.Propagation.{is_fact}
 use Rattle.solv_pool.specs.RuleMeaning.{HardRule, meets_rule}
 use Rattle.solv_derive.specs.Leaves.{leaves}
 use Rattle.solv_derive.specs.Logs.{is_good_log}
-use Rattle.solv_derive.specs.Range.{are_over, steps_over}
+use Rattle.solv_derive.specs.Range.{steps_over}
 use Rattle.solv_derive.specs.declared.logs.Log.{Log}
 use Rattle.solv_trail.specs.Asked.{set_of}
 use Rattle.solv_trail.specs.Propagated.{in_use}
 use Rattle.solv_core.specs.Cores.{CoreOf}
 use Rattle.solv_core.specs.GoodTrails.{IsGoodTrail, facts_of}
 use Rattle.solv_core.specs.declared.verdicts.Trail.{Trail}
-use Rattle.solv_core.specs.declared.verdicts.Verdict.{Verdict}
-use Rattle.solv_core.specs.declared.verdicts.Verdict.TheVariants as verdict
-use Rattle.solv_rules.specs.Books.{owners_from}
 use Rattle.solv_questions.specs.Questions.{Request, rules_of, enabled_rules, asks}
-use Rattle.solv_questions.specs.Law.{AsksInForm}
-use Rattle.solv_plan.specs.PlanOf.{plan_of}
-use Rattle.solv_plan.specs.declared.plans.Plan.{Plan}
-
--- who asks: a plan, for so many packages
-pub record Asker : Type 0 where
-  pub plan : Plan
-  pub packages : ℕ
-
--- it asks the questions of this request, and the core is over the clauses of all its rules
-pub record IsAskedFor (r : Request) (asker : Asker) (core : CoreOf) : Type 0 where
-  pub plan : asker.plan ≡ plan_of r
-  pub packages : asker.packages ≡ length r.catalog.universe.packages
-  pub formed : AsksInForm r
-  pub founded : IsWellFounded r.catalog.pool.nodes
-  pub clauses : core.clauses ≡ flat_map (rule_clauses r.catalog) (rules_of r)
-  pub owners : core.owners ≡ owners_from r.catalog 0 (rules_of r)
-  pub count : core.packages ≡ length r.catalog.universe.packages
-  pub over : are_over core.packages core.clauses ≡ true
 
 module _ (r : Request) (enabled : List Bool) where
   -- the rules that are enabled
@@ -62,9 +39,3 @@ module _ (r : Request) (enabled : List Bool) where
     pub over : steps_over core.packages log.steps ≡ true
     pub rests : list_all (λ rule. nat_lt rule (length core.clauses) && in_use core.owners enabled rule) (leaves log.steps) ≡ true
     pub none : (set : ℕ → Bool) → set 0 ≡ true → meets_all set ≡ true → ⊥
-
-  -- a set, or a refutation; nothing is said where the ledger is spent
-  abbrev pub IsDecided : CoreOf → Verdict → Type 0
-  IsDecided core (verdict.Sat trail) = IsSolution trail
-  IsDecided core (verdict.Unsat log) = IsRefuted core log
-  IsDecided core verdict.Spent = Unit {0}

@@ -13,7 +13,7 @@ ghost use Rattle.solv_core.specs.Inner.Running.{is_spent_verdict};
 ghost use Rattle.solv_core.specs.declared.ledger.Ledger.{Ledger as LedgerOf};
 ghost use Rattle.solv_rules.specs.Making.{asks_in_form};
 ghost use Rattle.solv_questions.specs.Questions.{asks, request_of, rules_of};
-ghost use Rattle.solv_decide.specs.Deciding.{IsAskedFor, IsDecided};
+ghost use Rattle.solv_decide.specs.Inner.Deciding.{IsAskedFor, IsDecided};
 
 use crate::phases::Phases;
 use crate::solving::solve;

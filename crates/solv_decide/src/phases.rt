@@ -7,7 +7,7 @@ ghost use Rattle.solv_jobs.specs.Marking.{HasMarks};
 ghost use Rattle.solv_rules.specs.Books.{read_rules};
 ghost use Rattle.solv_questions.specs.Questions.{rules_of, request_of};
 ghost use Rattle.solv_plan.specs.Inner.Plans.{plan_asks};
-ghost use Rattle.solv_plan.specs.PlanOf.{plan_of};
+ghost use Rattle.solv_plan.specs.Inner.PlanOf.{plan_of};
 ghost use Rattle.solv_plan.specs.Inner.Settling.{is_right_for};
 ghost use Rattle.solv_decide.specs.Inner.Deciding.{IsLawful};
 ghost use Rattle.solv_decide.specs.Inner.GuideLaw.{lawful};
@@ -39,7 +39,7 @@ impl Drop for Phases {
 }
 
 impl Model for Phases {
-    ghost use Rattle.solv_decide.specs.Deciding.{Asker};
+    ghost use Rattle.solv_decide.specs.Inner.Deciding.{Asker};
 
     ghost Value = { Asker };
 

@@ -6,7 +6,7 @@ ghost use Rattle.solv_core.specs.Inner.Ledgers.{GrowsLedger, run_of};
 ghost use Rattle.solv_core.specs.Ledgers.{IsGoodLedger};
 ghost use Rattle.solv_core.specs.Inner.Running.{is_log_over, is_spent_verdict};
 ghost use Rattle.solv_questions.specs.Questions.{Request, asks};
-ghost use Rattle.solv_decide.specs.Deciding.{IsAskedFor, IsDecided};
+ghost use Rattle.solv_decide.specs.Inner.Deciding.{IsAskedFor, IsDecided};
 
 use crate::phases::Phases;
 use crate::recalling::run_recalling;

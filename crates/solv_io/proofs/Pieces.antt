@@ -2,7 +2,7 @@
 use Rattle.std.proofs.Common.{ℕ, ◌≡◌, ◌+◌, ◌≤◌, ◌∙◌, List, ◌++◌, length, take, drop, refl, sym, ap, arith, append_assoc, length-drop, Option, Some, None}
 use Rattle.std.proofs.Math.Seq.{take-add}
 use Rattle.std.proofs.lemmas.List.{take-append-drop}
-use Rattle.solv_io.specs.Inner.Fetches.{AppendsUpTo}
+use Rattle.solv_io.specs.Fetches.{AppendsUpTo}
 use Rattle.solv_io.specs.Writes.{then_bytes}
 
 -- a prefix of a piece, and a prefix of what follows it, are a longer prefix

@@ -2,4 +2,3 @@
 pub mod Counters
 pub mod Fetches
 pub mod Statuses
-pub mod Writes

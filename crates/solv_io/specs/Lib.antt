@@ -2,4 +2,5 @@ pub mod Counters
 pub mod Writes
 pub mod Lines
 pub mod Words
+pub mod Fetches
 pub mod Inner

@@ -1,6 +1,6 @@
 ghost use Rattle.std.specs.Prelude.{ℕ, ◌≡◌, ◌≤◌, ◌++◌, take, List, Option, IfSome, IsSomeAnd, OnOk, OnErr};
-ghost use Rattle.solv_io.specs.Inner.Counters.{CountsFaults};
-ghost use Rattle.solv_io.specs.Inner.Fetches.{fetch_ending, asked_after, AppendsUpTo};
+ghost use Rattle.solv_io.specs.Counters.{CountsFaults};
+ghost use Rattle.solv_io.specs.Fetches.{fetch_ending, asked_after, AppendsUpTo};
 
 use crate::FileFault;
 

@@ -1,7 +1,9 @@
 ghost use Rattle.std.specs.Prelude.{ℕ, ◌≡◌, ◌++◌, ◌||◌, [], take, List, Some, None, is_none, IfSome, IsSomeAnd, OnOk, OnErr, IfErr};
 ghost use Rattle.std.specs.Option.{option_copied};
-ghost use Rattle.solv_io.specs.Inner.Counters.{CountsFaults, FailsExactly, calls_after, faults_after, next_fails};
-ghost use Rattle.solv_io.specs.Inner.Fetches.{fetch_ending, asked_after, names_after, AppendsUpTo, file_of, file_or_empty};
+ghost use Rattle.solv_io.specs.Inner.Counters.{FailsExactly, calls_after, faults_after, next_fails};
+ghost use Rattle.solv_io.specs.Counters.{CountsFaults};
+ghost use Rattle.solv_io.specs.Inner.Fetches.{file_of, file_or_empty};
+ghost use Rattle.solv_io.specs.Fetches.{fetch_ending, asked_after, names_after, AppendsUpTo};
 ghost use Rattle.solv_io.specs.declared.faults.FileFault.TheVariants.{Memory};
 
 use crate::{FileFault, Files};

@@ -1,6 +1,7 @@
 ghost use Rattle.std.specs.Prelude.{ℕ, ◌≡◌, ◌<◌, ◌≤◌, ◌++◌, min, length, take, List, Some, IfOk, OnErr, IfErr};
-ghost use Rattle.solv_io.specs.Inner.Counters.{CountsFaults, FailsExactly, calls_after, faults_after, next_fails};
-ghost use Rattle.solv_io.specs.Inner.Writes.{write_ending};
+ghost use Rattle.solv_io.specs.Inner.Counters.{FailsExactly, calls_after, faults_after, next_fails};
+ghost use Rattle.solv_io.specs.Counters.{CountsFaults};
+ghost use Rattle.solv_io.specs.Writes.{write_ending};
 ghost use Rattle.solv_io.specs.declared.faults.SinkFault.TheVariants.{Memory};
 
 use crate::{Sink, SinkFault};

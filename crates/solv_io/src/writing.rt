@@ -1,7 +1,6 @@
 ghost use Rattle.std.specs.Prelude.{ℕ, ◌≡◌, ◌<◌, ◌≤◌, [], length, take, List, Option, IfOk, IsOk, OnOk, OnErr};
-ghost use Rattle.solv_io.specs.Inner.Counters.{CountsFaults};
-ghost use Rattle.solv_io.specs.Inner.Writes.{write_ending};
-ghost use Rattle.solv_io.specs.Writes.{then_bytes, WritesPrefix};
+ghost use Rattle.solv_io.specs.Counters.{CountsFaults};
+ghost use Rattle.solv_io.specs.Writes.{write_ending, then_bytes, WritesPrefix};
 
 use crate::SinkFault;
 

@@ -10,10 +10,11 @@ use Rattle.solv_pool.specs.Catalog.{Catalog, catalog_of, packages}
 use Rattle.solv_pool.specs.declared.tasks.Task.{Task}
 use Rattle.solv_pool.specs.Selections.{selects, selection}
 use Rattle.solv_pool.specs.TaskBelonging.{is_pack}
-use Rattle.solv_pool.specs.JobMarks.{mark_each, favour_of, favour_after, marks_of, job_selects, job_selects_installed, is_update, is_verify, is_multiversion, is_allow_uninstall, is_erase}
+use Rattle.solv_pool.specs.JobKinds.{job_selects, job_selects_installed, is_update, is_distupgrade, is_verify, is_multiversion, is_allow_uninstall, is_erase}
+use Rattle.solv_pool.specs.JobMarks.{mark_each, favour_of, favour_after, marks_by}
 use Rattle.solv_pool.specs.declared.jobs.Job.{Job}
 use Rattle.solv_pool.specs.declared.jobs.Action.{Action}
-use Rattle.solv_pool.specs.declared.jobs.Action.TheVariants.{Install, Erase, Update, Lock, Verify, Multiversion, AllowUninstall, Favor, Disfavor, Noop}
+use Rattle.solv_pool.specs.declared.jobs.Action.TheVariants.{Install, Erase, Update, Distupgrade, Lock, Verify, Multiversion, AllowUninstall, Favor, Disfavor, UserInstalled, Noop}
 use Rattle.solv_jobs.specs.declared.marking.Mark.{Mark}
 use Rattle.solv_jobs.specs.declared.marking.Mark.TheVariants as mark
 use Rattle.solv_jobs.specs.Inner.Marking.{with_values, with_jobs, with_favours, favour_given, makes, may_bear, bears}
@@ -79,7 +80,7 @@ among_bearers catalog m j q from upto = among_filter (may_bear catalog m) (selec
 module _ (catalog : Catalog) (m : Mark) where
   -- p was marked, or may be and is by one of these jobs
   abbrev marked_then : (ℕ → Bool) → List Job → ℕ → Bool
-  marked_then f jobs q = f q || (may_bear catalog m q && list_any (λ job. makes m job.action && selects catalog job.choice q) jobs)
+  marked_then f jobs q = f q || (may_bear catalog m q && list_any (λ job. makes m job && selects catalog job.choice q) jobs)
 
   jobs_in_table : (f : ℕ → Bool) (jobs : List Job)
       → with_jobs catalog m jobs (false ∷ map f (packages catalog)) ≡ false ∷ map (marked_then f jobs) (packages catalog)
@@ -89,7 +90,7 @@ module _ (catalog : Catalog) (m : Mark) where
       nothing true b = refl
       nothing false true = refl
       nothing false false = refl
-  jobs_in_table f (job ∷ jobs) = step (makes m job.action) (jobs_in_table f jobs) (jobs_in_table g jobs)
+  jobs_in_table f (job ∷ jobs) = step (makes m job) (jobs_in_table f jobs) (jobs_in_table g jobs)
     where
       n : ℕ
       n = length catalog.universe.packages
@@ -115,11 +116,11 @@ module _ (catalog : Catalog) (m : Mark) where
       step : (b : Bool) → with_jobs catalog m jobs (false ∷ map f (packages catalog)) ≡ false ∷ map (marked_then f jobs) (packages catalog)
           → with_jobs catalog m jobs (false ∷ map g (packages catalog)) ≡ false ∷ map (marked_then g jobs) (packages catalog)
           → with_jobs catalog m jobs (if b then with_values true (filter (may_bear catalog m) (selection catalog job.choice)) (false ∷ map f (packages catalog)) else (false ∷ map f (packages catalog)))
-          ≡ false ∷ map (λ q. f q || (may_bear catalog m q && ((b && selects catalog job.choice q) || list_any (λ job. makes m job.action && selects catalog job.choice q) jobs))) (packages catalog)
+          ≡ false ∷ map (λ q. f q || (may_bear catalog m q && ((b && selects catalog job.choice q) || list_any (λ job. makes m job && selects catalog job.choice q) jobs))) (packages catalog)
       step true as_before as_marked =
           ap (λ t. with_jobs catalog m jobs t) one ∙ as_marked
-          ∙ ap (λ t. false ∷ t) (map_within (marked_then g jobs) (λ q. f q || (may_bear catalog m q && (selects catalog job.choice q || list_any (λ job. makes m job.action && selects catalog job.choice q) jobs))) 1 n
-          (λ q from upto. join (selects catalog job.choice q) (may_bear catalog m q) (list_any (λ job. makes m job.action && selects catalog job.choice q) jobs) (f q)))
+          ∙ ap (λ t. false ∷ t) (map_within (marked_then g jobs) (λ q. f q || (may_bear catalog m q && (selects catalog job.choice q || list_any (λ job. makes m job && selects catalog job.choice q) jobs))) 1 n
+          (λ q from upto. join (selects catalog job.choice q) (may_bear catalog m q) (list_any (λ job. makes m job && selects catalog job.choice q) jobs) (f q)))
       step false as_before as_marked = as_before
 
 replicated : {T : Type 0} (x : T) (start count : ℕ) → replicate count x ≡ map (λ q. x) (range_with_len start count)
@@ -136,10 +137,14 @@ marks_in_table catalog jobs m = ap (λ t. with_jobs catalog m jobs t) (fresh fal
   where
     named : (m : Mark) → (false ∷ map (marked_then catalog m (λ q. false) jobs) (packages catalog)) ≡ mark_each catalog jobs (bears catalog jobs m)
     named mark.Update = refl
+    named mark.Dup = refl
     named mark.Verify = refl
     named mark.Multiversion = refl
     named mark.AllowUninstall = refl
     named mark.Erased = refl
+    named mark.Asked = refl
+    named mark.UserInstalled = refl
+    named mark.GivenUp = refl
 
 module _ (catalog : Catalog) where
   -- the favour of q after these jobs
@@ -172,10 +177,12 @@ module _ (catalog : Catalog) where
       step Install = kept
       step Erase = kept
       step Update = kept
+      step Distupgrade = kept
       step Lock = kept
       step Verify = kept
       step Multiversion = kept
       step AllowUninstall = kept
+      step UserInstalled = kept
       step Noop = kept
 
 -- the table of favour after all jobs
@@ -183,9 +190,10 @@ pub favours_are : (catalog : Catalog) (jobs : List Job) → with_favours catalog
 favours_are catalog jobs = ap (λ t. with_favours catalog jobs t) (fresh (pos 0) (length catalog.universe.packages)) ∙ favours_in_table catalog (λ q. pos 0) jobs
 
 -- the marks of all jobs have an entry for each package and for the system
-pub marks_each : (task : Task) → HasMarks (length task.universe.packages) (marks_of task)
+pub marks_each : (task : Task) → HasMarks (length task.universe.packages) (marks_by (catalog_of task) task.jobs)
 marks_each task = record {
   update = each false (job_selects_installed (catalog_of task) task.jobs is_update);
+  dup = each false (job_selects_installed (catalog_of task) task.jobs is_distupgrade);
   verify = each false (job_selects_installed (catalog_of task) task.jobs is_verify);
   multiversion = each false (job_selects (catalog_of task) task.jobs is_multiversion);
   allow_uninstall = each false (job_selects_installed (catalog_of task) task.jobs is_allow_uninstall);

@@ -3,7 +3,7 @@ ghost use Rattle.std.specs.Prelude.{◌≡◌, ◌<◌, ◌≤◌, ◌+◌, ◌|
 ghost use Rattle.std.specs.List.{list_all};
 ghost use Rattle.solv_pool.specs.Catalog.{catalog_of, packages};
 ghost use Rattle.solv_pool.specs.Selections.{selection};
-ghost use Rattle.solv_pool.specs.JobMarks.{mark_each, favour_of, marks_of};
+ghost use Rattle.solv_pool.specs.JobMarks.{mark_each, favour_of, marks_by, is_to_move};
 ghost use Rattle.solv_pool.specs.TaskBelonging.{IsClosed, choice_fits, is_pack};
 ghost use Rattle.solv_prov.specs.Index.{IsIndexOf};
 ghost use Rattle.solv_jobs.specs.Inner.Marking.{with_values, with_job, with_favour, favour_given, makes, is_of_installed, may_bear, bears};
@@ -17,24 +17,35 @@ use std::alloc::{AllocError, Global};
 
 /// The marks that are true or false.
 #[derive(Clone, Copy)]
-pub(crate) enum Mark {
+pub enum Mark {
     Update,
+    Dup,
     Verify,
     Multiversion,
     AllowUninstall,
     Erased,
+    /// Selected by an install job.
+    Asked,
+    /// Installed, and what the user asked for.
+    UserInstalled,
+    /// Installed, and to go with what nobody needs any more.
+    GivenUp,
 }
 
 /// Whether a job makes a mark.
-fn makes(mark: Mark, action: Action) -> bool
-    ensures { result ≡ makes mark action }
+fn makes(mark: Mark, job: &Job) -> bool
+    ensures { result ≡ makes mark job.now }
 {
     match mark {
-        Mark::Update => matches!(action, Action::Update),
-        Mark::Verify => matches!(action, Action::Verify),
-        Mark::Multiversion => matches!(action, Action::Multiversion),
-        Mark::AllowUninstall => matches!(action, Action::AllowUninstall),
-        Mark::Erased => matches!(action, Action::Erase),
+        Mark::Update => matches!(job.action, Action::Update),
+        Mark::Dup => matches!(job.action, Action::Distupgrade),
+        Mark::Verify => matches!(job.action, Action::Verify),
+        Mark::Multiversion => matches!(job.action, Action::Multiversion),
+        Mark::AllowUninstall => matches!(job.action, Action::AllowUninstall),
+        Mark::Erased => matches!(job.action, Action::Erase),
+        Mark::Asked => matches!(job.action, Action::Install),
+        Mark::UserInstalled => matches!(job.action, Action::UserInstalled),
+        Mark::GivenUp => matches!(job.action, Action::Erase) && job.cleandeps,
     }
 }
 
@@ -43,8 +54,9 @@ fn is_of_installed(mark: Mark) -> bool
     ensures { result ≡ is_of_installed mark }
 {
     match mark {
-        Mark::Update | Mark::Verify | Mark::AllowUninstall => true,
-        Mark::Multiversion | Mark::Erased => false,
+        Mark::Update | Mark::Dup | Mark::Verify | Mark::AllowUninstall => true,
+        Mark::UserInstalled | Mark::GivenUp => true,
+        Mark::Multiversion | Mark::Erased | Mark::Asked => false,
     }
 }
 
@@ -77,7 +89,7 @@ fn put_job(
     ensures made { OnOk result (table.new ≡ with_job (catalog_of task.now) mark job.now table.old) }
     ensures each { length table.new ≡ length table.old }
 {
-    if makes(mark, job.action) {
+    if makes(mark, job) {
         let packs = selected(alloc, task, prov, &job.choice)?;
         put_marks(task, mark, &packs, table);
     }
@@ -85,7 +97,7 @@ fn put_job(
 }
 
 /// The packages that bear a mark, by their numbers.
-fn marked_by(
+pub fn marked_by(
     alloc: Global,
     task: &Task,
     prov: &Providers,
@@ -158,19 +170,29 @@ fn favours(alloc: Global, task: &Task, prov: &Providers) -> Result<Items<i8>, Al
     Ok(Items::wrap(table))
 }
 
-/// What the jobs of a task say of each package.
+/// What the jobs of a task say of each package, before anything is cleaned.
 pub fn read_marks(alloc: Global, task: &Task, prov: &Providers) -> Result<Marks, AllocError>
     requires index { IsIndexOf prov.now (catalog_of task.now) }
     requires closed { IsClosed task.now }
-    ensures exact { IfOk result (λ marks. marks ≡ marks_of task.now) }
+    ensures exact { IfOk result (λ marks. marks ≡ marks_by (catalog_of task.now) task.now.jobs) }
     ensures each { IfOk result (λ marks. HasMarks (length task.now.universe.packages) marks) }
 {
     Ok(Marks {
         update: marked_by(alloc, task, prov, Mark::Update)?,
+        dup: marked_by(alloc, task, prov, Mark::Dup)?,
         verify: marked_by(alloc, task, prov, Mark::Verify)?,
         multiversion: marked_by(alloc, task, prov, Mark::Multiversion)?,
         allow_uninstall: marked_by(alloc, task, prov, Mark::AllowUninstall)?,
         erased: marked_by(alloc, task, prov, Mark::Erased)?,
         favour: favours(alloc, task, prov)?,
     })
+}
+
+/// Whether a package is marked to move, for update or for a distribution upgrade.
+pub fn is_to_move(task: &Task, marks: &Marks, pack: PackNo) -> bool
+    requires marks { HasMarks (length task.now.universe.packages) marks.now }
+    requires within { pack ≤ length task.now.universe.packages }
+    ensures { result ≡ is_to_move marks.now pack }
+{
+    marks.update.held()[pack.0 as usize] || marks.dup.held()[pack.0 as usize]
 }

@@ -1,5 +1,5 @@
 -- What is said of a rule.
-use Rattle.std.specs.Prelude.{ℕ, Bool, List, [], ◌++◌, ◌==◌, length, Option, Some, None, codes, option_and_then, slice_get, if◌then◌else◌}
+use Rattle.std.specs.Prelude.{ℕ, Bool, List, ◌++◌, ◌==◌, length, Option, Some, None, codes, option_and_then, slice_get, if◌then◌else◌}
 use Rattle.std.specs.List.{list_any}
 use Rattle.std.specs.Option.{option_map_or}
 use Rattle.solv_base.specs.Dependency.{Dep}
@@ -8,8 +8,7 @@ use Rattle.solv_pool.specs.Catalog.{Catalog, catalog_of, members, dependency}
 use Rattle.solv_pool.specs.Holding.{package_meets}
 use Rattle.solv_pool.specs.PackageText.{package_text}
 use Rattle.solv_pool.specs.Parts.{parts}
-use Rattle.solv_pool.specs.RuleMeaning.{HardRule, not_installable, req, con, rich_con, obs, same, infarch, update, feature, install, erase, lock, best_job, best_update, rule_with}
-use Rattle.solv_pool.specs.declared.hard_rules.Rules.{Rules}
+use Rattle.solv_pool.specs.RuleMeaning.{HardRule, not_installable, req, con, rich_con, obs, same, infarch, update, dup, feature, install, erase, lock, best_job, best_update}
 use Rattle.solv_pool.specs.declared.jobs.Choice.{Choice}
 use Rattle.solv_pool.specs.declared.jobs.Choice.TheVariants.{Name, Provides}
 use Rattle.solv_pool.specs.declared.tasks.Task.{Task}
@@ -69,13 +68,10 @@ module _ (task : Task) where
   text_of_rule (same p q) = codes "cannot install both " ++ (named (catalog_of task) p ++ (codes " and " ++ named (catalog_of task) q))
   text_of_rule (infarch p) = named (catalog_of task) p ++ codes " has inferior architecture"
   text_of_rule (update p xs) = codes "problem with installed package " ++ named (catalog_of task) p
+  text_of_rule (dup p xs) = codes "problem with installed package " ++ named (catalog_of task) p
   text_of_rule (feature p xs) = codes "problem with installed package " ++ named (catalog_of task) p
   text_of_rule (install j xs) = install_text j xs
   text_of_rule (erase j xs) = conflicting_requests
   text_of_rule (lock j xs) = conflicting_requests
   text_of_rule (best_job j xs) = codes "cannot install the best candidate for the job"
   text_of_rule (best_update j p xs) = codes "cannot install the best update candidate for package " ++ named (catalog_of task) p
-
-  -- the text of the rule at a place; a place behind the last one has none
-  abbrev pub rule_text_at : Rules → ℕ → List ℕ
-  rule_text_at rules place = option_map_or (λ r. text_of_rule (rule_with rules.sets r)) (slice_get rules.list place) []

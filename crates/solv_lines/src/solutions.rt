@@ -1,11 +1,11 @@
 //! The texts of solutions.
-ghost use Rattle.std.specs.Prelude.{◌≡◌, ◌++◌, map, slice_get, filter_map, IfOk, OnOk};
+ghost use Rattle.std.specs.Prelude.{ℕ, List, ◌≡◌, ◌++◌, map, slice_get, filter_map, IfOk, OnOk};
 ghost use Rattle.solv_pool.specs.Belonging.{IsOver};
 ghost use Rattle.solv_pool.specs.Catalog.{catalog_of};
 ghost use Rattle.solv_pool.specs.RuleMeaning.{rule_with};
 ghost use Rattle.solv_lines.specs.Inner.Features.{HasFeatures, HasSets};
 ghost use Rattle.solv_lines.specs.RuleTexts.{named};
-ghost use Rattle.solv_lines.specs.SolutionTexts.{job_text, going_text, update_text, element, solution_texts};
+ghost use Rattle.solv_lines.specs.SolutionTexts.{job_text, going_text, update_text, staying_text, dup_text, element, solution_texts};
 
 use crate::features::{packs_of, replacement, sets_of};
 use crate::writing::{write_package, write_pair};
@@ -95,6 +95,41 @@ fn update_text(
     Ok(Some(going_text(alloc, task, rules, features, set, pack)?))
 }
 
+/// What becomes of an installed package that need not move.
+fn staying_text(
+    alloc: Global,
+    task: &Task,
+    set: &[PackNo],
+    pack: PackNo,
+) -> Result<Bytes, AllocError>
+    requires { IsOver task.now.pool task.now.universe }
+    ensures { IfOk result (λ text. text ≡ staying_text task.now set.now pack) }
+{
+    if set.contains(&pack) {
+        package_text(alloc, task, b"keep ", pack)
+    } else {
+        package_text(alloc, task, b"erase ", pack)
+    }
+}
+
+/// What is said where the rule on a distribution upgrade is dropped, beside the others that are.
+fn dup_text(
+    alloc: Global,
+    task: &Task,
+    gone: &Gone,
+    set: &[PackNo],
+    pack: PackNo,
+) -> Result<Option<Bytes>, AllocError>
+    requires over { IsOver task.now.pool task.now.universe }
+    requires gone { HasFeatures gone.now.packs gone.now.rules.items }
+    ensures { (sets : List (List ℕ)) → IfOk result (λ text. text ≡ dup_text task.now (map (rule_with sets) gone.now.rules.items) set.now pack) }
+{
+    if !gone.packs.contains(&pack.0) {
+        return Ok(Some(staying_text(alloc, task, set, pack)?));
+    }
+    Ok(None)
+}
+
 /// What is said of a dropped rule, beside the others that are dropped.
 fn element(
     alloc: Global,
@@ -113,13 +148,19 @@ fn element(
     match *rule {
         Rule::Infarch(pack) => Ok(Some(package_text(alloc, task, b"allow ", pack)?)),
         Rule::Update(pack, _) => update_text(alloc, task, rules, features, gone, set, pack),
+        Rule::Dup(pack, _) => dup_text(alloc, task, gone, set, pack),
         Rule::Feature(pack, _) => Ok(Some(package_text(alloc, task, b"erase ", pack)?)),
         Rule::Install(job, _) | Rule::Erase(job, _) | Rule::Lock(job, _) => {
             Ok(Some(job_text(alloc, task, b"deljob ", job)?))
         }
         Rule::BestJob(job, _) => Ok(Some(job_text(alloc, task, b"dropbest ", job)?)),
         Rule::BestUpdate(_, pack, _) => Ok(Some(package_text(alloc, task, b"keepold ", pack)?)),
-        _ => Ok(None),
+        Rule::NotInstallable(_)
+        | Rule::Req(_, _)
+        | Rule::Con(_, _, _)
+        | Rule::RichCon(_, _)
+        | Rule::Obs(_, _, _)
+        | Rule::Same(_, _) => Ok(None),
     }
 }
 

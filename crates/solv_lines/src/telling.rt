@@ -5,7 +5,8 @@ ghost use Rattle.solv_pool.specs.Belonging.{IsOver};
 ghost use Rattle.solv_pool.specs.Catalog.{catalog_of, dependency};
 ghost use Rattle.solv_pool.specs.RuleMeaning.{not_installable, same, infarch, set_at, rule_with};
 ghost use Rattle.solv_prov.specs.Index.{IsIndexOf};
-ghost use Rattle.solv_lines.specs.RuleTexts.{named, asked, has_provider, requirement_text, dependency_of_job, install_text, text_of_rule, rule_text_at};
+ghost use Rattle.solv_lines.specs.RuleTexts.{named, asked, has_provider, requirement_text, dependency_of_job, install_text, text_of_rule};
+ghost use Rattle.solv_lines.specs.Inner.RuleTexts.{rule_text_at};
 
 use crate::writing::{append_package, write_package, write_relation};
 use solv_base::DepId;
@@ -199,6 +200,7 @@ fn write_rule(
         Rule::Same(pack, other) => write_same(task, pack, other, into),
         Rule::Infarch(pack) => write_inferior(task, pack, into),
         Rule::Update(pack, _) => write_installed(task, pack, into),
+        Rule::Dup(pack, _) => write_installed(task, pack, into),
         Rule::Feature(pack, _) => write_installed(task, pack, into),
         Rule::Install(job, set) => write_install(task, sets, job, set, into),
         Rule::Erase(_, _) | Rule::Lock(_, _) => into.extend_from_slice(b"conflicting requests"),

@@ -4,13 +4,13 @@ use Rattle.std.specs.Prelude.{filter, flat_map, ◌==◌, nat_le}
 use Rattle.std.specs.List.{list_all, enumerate_from}
 use Rattle.solv_pool.specs.Words.{when}
 use Rattle.solv_pool.specs.Catalog.{packages, members}
-use Rattle.solv_pool.specs.RuleMeaning.{HardRule, rule_with, install, best_job, best_update, update, feature}
+use Rattle.solv_pool.specs.RuleMeaning.{HardRule, rule_with, install, best_job, best_update, update, dup, feature}
 use Rattle.solv_pool.specs.declared.hard_rules.Rule.{Rule}
 use Rattle.solv_pool.specs.declared.hard_rules.Rule.TheVariants as rule
 use Rattle.solv_pool.specs.declared.jobs.Job.{Job}
 use Rattle.solv_trail.specs.declared.questions.Question.TheVariants as question
 use Rattle.solv_questions.specs.Questions.{Request, is_update_of, is_feature_of}
-use Rattle.solv_plan.specs.PlanOf.{demand_of, best_job_demand, job_demand, best_update_demand, demands_of_job, numbers_of, keep_of, keeps_of}
+use Rattle.solv_plan.specs.Inner.PlanOf.{demand_of, best_job_demand, job_demand, best_update_demand, demands_of_job, numbers_of, keep_of, keeps_of}
 use Rattle.solv_plan.specs.declared.plans.Demand.{Demand}
 use Rattle.solv_planning.specs.declared.demands.JobDemands.{JobDemands}
 use Rattle.solv_planning.specs.declared.keeps.PackRules.{PackRules}
@@ -88,6 +88,9 @@ module _ (r : Request) where
   pub update_elsewhere : (i k : ℕ) (xs : List ℕ) (n : ℕ) (row : PackRules) → (k == n) ≡ false → add_to_pack r n (i, update k xs) row ≡ row
   update_elsewhere i k xs n row apart = none_on_pack i n (update k xs) row refl apart refl
 
+  pub dup_elsewhere : (i k : ℕ) (xs : List ℕ) (n : ℕ) (row : PackRules) → (k == n) ≡ false → add_to_pack r n (i, dup k xs) row ≡ row
+  dup_elsewhere i k xs n row apart = none_on_pack i n (dup k xs) row refl apart refl
+
   pub feature_elsewhere : (i k : ℕ) (xs : List ℕ) (n : ℕ) (row : PackRules) → (k == n) ≡ false → add_to_pack r n (i, feature k xs) row ≡ row
   feature_elsewhere i k xs n row apart = none_on_pack i n (feature k xs) row refl refl apart
 
@@ -99,6 +102,9 @@ module _ (r : Request) where
       ap (λ b. rules_on row.pack (row.best ++ []) (row.updates ++ when b (i ∷ [])) (row.features ++ [])) (eq-eqb k k refl)
       ∙ ap (λ t. rules_on row.pack t (row.updates ++ i ∷ []) (row.features ++ [])) (append-nil row.best)
       ∙ ap (λ t. rules_on row.pack row.best (row.updates ++ i ∷ []) t) (append-nil row.features)
+
+  pub dup_here : (i k : ℕ) (xs : List ℕ) (row : PackRules) → add_to_pack r k (i, dup k xs) row ≡ rules_on row.pack row.best (row.updates ++ i ∷ []) row.features
+  dup_here i k xs row = update_here i k xs row
 
   pub feature_here : (i k : ℕ) (xs : List ℕ) (row : PackRules) → add_to_pack r k (i, feature k xs) row ≡ rules_on row.pack row.best row.updates (row.features ++ i ∷ [])
   feature_here i k xs row =
@@ -180,11 +186,12 @@ none_of_jobs r i sets (rule.BestJob j s) best own rows = absurd (best j s refl)
 none_of_jobs r i sets x best own rows = sym (entered_apart _ _ 0 rows (λ m row from upto. none_of_job r i m (rule_with sets x) row refl refl))
 
 -- nor does one that is on no package add to the row of one
-pub none_on_packs : (r : Request) (i : ℕ) (sets : List (List ℕ)) (x : Rule) → ((p s : ℕ) → x ≡ rule.Update p s → ⊥) → ((p s : ℕ) → x ≡ rule.Feature p s → ⊥) → ((j p s : ℕ) → x ≡ rule.BestUpdate j p s → ⊥) → (rows : List PackRules) → rows ≡ entered (add_to_pack r) 0 (i, rule_with sets x) rows
-none_on_packs r i sets (rule.Update p s) updates features best rows = absurd (updates p s refl)
-none_on_packs r i sets (rule.Feature p s) updates features best rows = absurd (features p s refl)
-none_on_packs r i sets (rule.BestUpdate j p s) updates features best rows = absurd (best j p s refl)
-none_on_packs r i sets x updates features best rows = sym (entered_apart _ _ 0 rows (λ m row from upto. none_on_pack r i m (rule_with sets x) row refl refl refl))
+pub none_on_packs : (r : Request) (i : ℕ) (sets : List (List ℕ)) (x : Rule) → ((p s : ℕ) → x ≡ rule.Update p s → ⊥) → ((p s : ℕ) → x ≡ rule.Dup p s → ⊥) → ((p s : ℕ) → x ≡ rule.Feature p s → ⊥) → ((j p s : ℕ) → x ≡ rule.BestUpdate j p s → ⊥) → (rows : List PackRules) → rows ≡ entered (add_to_pack r) 0 (i, rule_with sets x) rows
+none_on_packs r i sets (rule.Update p s) updates dups features best rows = absurd (updates p s refl)
+none_on_packs r i sets (rule.Dup p s) updates dups features best rows = absurd (dups p s refl)
+none_on_packs r i sets (rule.Feature p s) updates dups features best rows = absurd (features p s refl)
+none_on_packs r i sets (rule.BestUpdate j p s) updates dups features best rows = absurd (best j p s refl)
+none_on_packs r i sets x updates dups features best rows = sym (entered_apart _ _ 0 rows (λ m row from upto. none_on_pack r i m (rule_with sets x) row refl refl refl))
 
 -- every row is that of the system or of a package
 pub rows_within : (r : Request) (xs : List (ℕ × HardRule)) → list_all (λ row. nat_le row.pack (length r.catalog.universe.packages)) (pack_rows r xs) ≡ true

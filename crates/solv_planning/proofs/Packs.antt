@@ -1,25 +1,31 @@
 -- Numbers of packages.
-use Rattle.std.proofs.Common.{◌≡◌, ◌<◌, ◌+◌, ℕ, Bool, true, false, ◌||◌, List, [], ◌∷◌, length, Some, refl, sym, ap, ◌∙◌, arith}
-use Rattle.std.specs.Prelude.{filter, nat_lt, nat_le, ◌==◌, if◌then◌else◌, slice_get}
+use Rattle.std.proofs.Common.{◌≡◌, ◌<◌, ◌+◌, ℕ, Bool, true, false, ◌||◌, List, [], ◌∷◌, length, Some, refl, sym, ap, ◌∙◌, subst, arith}
+use Rattle.std.specs.Prelude.{nat_lt, nat_le, ◌==◌, if◌then◌else◌, slice_get}
 use Rattle.std.specs.List.{list_all}
 use Rattle.std.proofs.lemmas.Bool.Decides.{nat_tests}
-use Rattle.solv_pool.specs.Catalog.{Catalog, packages, dependency}
+use Rattle.solv_pool.specs.Catalog.{Catalog, dependency}
 use Rattle.solv_pool.specs.Holding.{package_meets}
 use Rattle.solv_pool.specs.TaskBelonging.{is_pack}
 use Rattle.solv_pool.specs.Words.{is_among}
+use Rattle.solv_pool.specs.HardRules.{successors}
+use Rattle.solv_pool.specs.declared.tasks.Flags.{Flags}
+use Rattle.solv_pool.specs.declared.job_marks.Marks.{Marks}
+use Rattle.solv_pool.proofs.Origins.{successors_chosen}
 use Rattle.solv_policy.specs.Policy.{by_policy}
 use Rattle.solv_policy.specs.declared.policy.Asked.TheVariants.{Other}
 use Rattle.solv_prov.specs.Index.{Index, providers_of, IsIndexOf}
 use Rattle.solv_rules.proofs.Meeting.{members_within}
 use Rattle.solv_questions.specs.Questions.{Request}
-use Rattle.solv_plan.specs.PlanOf.{row_of}
+use Rattle.solv_plan.specs.Inner.PlanOf.{row_of}
 use Rattle.solv_plan.proofs.Tables.{row_there}
-use Rattle.solv_jobs.proofs.Choices.{range_packs}
+use Rattle.solv_policy.proofs.Places.{packs_of}
 use Rattle.solv_list.proofs.Booleans.{first_of_both, second_of_both}
 
--- packages that pass a test are packages
-pub packs_of : (catalog : Catalog) (f : ℕ → Bool) → list_all (is_pack (length catalog.universe.packages)) (filter f (packages catalog)) ≡ true
-packs_of catalog f = range_packs f 1 (length catalog.universe.packages) (length catalog.universe.packages) (omega arith) (omega arith)
+-- the successors of one are packages
+pub successors_packs : (catalog : Catalog) (flags : Flags) (marks : Marks) (p : ℕ) → list_all (is_pack (length catalog.universe.packages)) (successors catalog flags marks p) ≡ true
+successors_packs catalog flags marks p =
+    let own = successors_chosen catalog flags marks p in
+    subst (λ xs. list_all (is_pack (length catalog.universe.packages)) xs ≡ true) own.is (packs_of catalog own.test)
 
 -- members among which the system is not are packages
 pub no_system : (most : ℕ) (xs : List ℕ) → is_among xs 0 ≡ false → list_all (λ p. nat_le p most) xs ≡ true → list_all (is_pack most) xs ≡ true

@@ -1,6 +1,6 @@
 -- The requirements and conflicts that have a rule are those that count, and what rules ask for are packages.
 use Rattle.std.proofs.Common.{◌≡◌, ℕ, Bool, true, false, not, ◌&&◌, List, [], ◌∷◌, ◌++◌, map, length, Option, Some, None, refl, sym, ap, ◌∙◌}
-use Rattle.std.specs.Prelude.{filter, flat_map}
+use Rattle.std.specs.Prelude.{filter, flat_map, if◌then◌else◌}
 use Rattle.std.specs.List.{list_all}
 use Rattle.std.specs.Option.{option_map_or}
 use Rattle.std.proofs.lemmas.Grind.{flat_map-append}
@@ -9,22 +9,23 @@ use Rattle.solv_pool.specs.Catalog.{packages, package_at}
 use Rattle.solv_pool.specs.Best.{best, is_beaten}
 use Rattle.solv_pool.specs.Installable.{is_installable}
 use Rattle.solv_pool.specs.Selections.{selects, selection}
-use Rattle.solv_pool.specs.JobMarks.{is_install, is_update}
+use Rattle.solv_pool.specs.JobKinds.{is_install, is_update}
+use Rattle.solv_pool.specs.JobMarks.{marked}
 use Rattle.solv_pool.specs.TaskBelonging.{is_pack}
-use Rattle.solv_pool.specs.RuleMeaning.{HardRule, not_installable, req, con, rich_con, obs, same, infarch, update, feature, install, best_job, best_update}
-use Rattle.solv_pool.specs.HardRules.{not_installable_rules, counted_requirements, requirement_rules, conflicting, conflict_rules, package_wise_conflicts, counted_rich_conflicts, rich_conflict_rules, obsoleted, obsoletion_rules, later_namesakes, same_name_rules, rules_asked_by, rules_of_package, package_rules, inferior_packages, infarch_rules, update_candidates, feature_candidates, kept_packages, has_update_rule, update_rules, feature_rules, numbered_jobs, rule_of_job, job_rules, best_job_rule, best_job_rules, selected_installed, best_update_rule, best_update_rules}
+use Rattle.solv_pool.specs.RuleMeaning.{HardRule, not_installable, req, con, rich_con, obs, same, infarch, update, dup, feature, install, best_job, best_update}
+use Rattle.solv_pool.specs.HardRules.{not_installable_rules, counted_requirements, requirement_rules, conflicting, conflict_rules, package_wise_conflicts, counted_rich_conflicts, rich_conflict_rules, obsoleted, obsoletion_rules, later_namesakes, same_name_rules, rules_asked_by, rules_of_package, package_rules, inferior_packages, infarch_rules, update_candidates, feature_candidates, successors, successor_rule, kept_packages, has_update_rule, update_rules, feature_rules, numbered_jobs, rule_of_job, job_rules, best_job_rule, best_job_rules, selected_installed, best_update_rule, best_update_rules}
 use Rattle.solv_pool.specs.declared.packages.Package.{Package}
 use Rattle.solv_pool.specs.declared.packages.Need.{Need}
 use Rattle.solv_pool.specs.declared.jobs.Action.{Action}
 use Rattle.solv_pool.specs.declared.jobs.Action.TheVariants as action
 use Rattle.solv_questions.specs.Questions.{Request, rules_of}
-use Rattle.solv_questions.proofs.Members.{all_by}
+use Rattle.solv_pool.proofs.Members.{all_by}
 use Rattle.solv_questions.proofs.Origins.{IsFrom, is_from}
-use Rattle.solv_plan.specs.PlanOf.{want_of, conflict_of, required_by}
+use Rattle.solv_plan.specs.Inner.PlanOf.{want_of, conflict_of, required_by}
 use Rattle.solv_plan.proofs.Tables.{flat_flat, flat_alike, append_none}
 use Rattle.solv_planning.specs.Inner.Readiness.{asks_for_packages}
 use Rattle.solv_planning.specs.Inner.Rows.{wants_of}
-use Rattle.solv_planning.proofs.Packs.{packs_of}
+use Rattle.solv_policy.proofs.Places.{packs_of}
 
 module _ (r : Request) where
   -- lists of rules by which nothing is asked for
@@ -86,6 +87,13 @@ module _ (r : Request) where
       step None = refl
       step (Some a) = asked_wants p a
 
+  successor_wants : (p : ℕ) → wants_of r.catalog (successor_rule r.catalog r.flags r.marks p) ≡ []
+  successor_wants p = either (marked r.marks.dup p) (successors r.catalog r.flags r.marks p)
+    where
+      either : (b : Bool) (xs : List ℕ) → wants_of r.catalog (if b then dup p xs else update p xs) ≡ []
+      either true xs = refl
+      either false xs = refl
+
   job_wants : (j : ℕ) (a : Action) (xs : List ℕ) → flat_map (wants_of r.catalog) (rule_of_job j a xs) ≡ []
   job_wants j action.Install xs = refl
   job_wants j _ xs = refl
@@ -109,7 +117,7 @@ module _ (r : Request) where
       (λ job. no_wants_when (is_install job.1.action && job.1.forcebest) (best_job_rule job.0 (best r.catalog (selection r.catalog job.1.choice))) (best_wants job.0 (best r.catalog (selection r.catalog job.1.choice)))) (numbered_jobs r.jobs))
       ∙ none_behind (one ++ two ++ three ++ four) five (no_wants_each (λ job. rule_of_job job.0 job.1.action (selection r.catalog job.1.choice)) (λ job. job_wants job.0 job.1.action (selection r.catalog job.1.choice)) (numbered_jobs r.jobs))
       ∙ none_behind (one ++ two ++ three) four (no_wants (λ p. feature p (feature_candidates r.catalog r.flags r.marks p)) (λ p. refl) (kept_packages r.catalog r.flags r.marks))
-      ∙ none_behind (one ++ two) three (no_wants (λ p. update p (update_candidates r.catalog r.flags r.marks p)) (λ p. refl) (filter (has_update_rule r.catalog r.jobs r.marks) (kept_packages r.catalog r.flags r.marks)))
+      ∙ none_behind (one ++ two) three (no_wants (successor_rule r.catalog r.flags r.marks) successor_wants (filter (has_update_rule r.catalog r.jobs r.marks) (kept_packages r.catalog r.flags r.marks)))
       ∙ none_behind one two (no_wants_when (not r.flags.no_infarch_check) (map infarch (inferior_packages r.catalog r.flags)) (no_wants infarch (λ p. refl) (inferior_packages r.catalog r.flags)))
       ∙ flat_flat (wants_of r.catalog) (rules_of_package r.catalog r.marks) (packages r.catalog)
       ∙ flat_alike (λ p. flat_map (wants_of r.catalog) (rules_of_package r.catalog r.marks p)) (required_by r) package_wants (packages r.catalog)

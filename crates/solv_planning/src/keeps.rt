@@ -4,14 +4,14 @@ ghost use Rattle.std.specs.BTreeSet.{contains};
 ghost use Rattle.std.specs.List.{list_all};
 ghost use Rattle.std.specs.Ordering.{nat_cmp};
 ghost use Rattle.solv_pool.specs.Catalog.{catalog_of, members};
-ghost use Rattle.solv_pool.specs.HardRules.{update_candidates};
-ghost use Rattle.solv_pool.specs.JobMarks.{marked};
-ghost use Rattle.solv_pool.specs.RuleMeaning.{rule_with, update, feature, best_update};
+ghost use Rattle.solv_pool.specs.HardRules.{successors};
+ghost use Rattle.solv_pool.specs.JobMarks.{is_to_move};
+ghost use Rattle.solv_pool.specs.RuleMeaning.{rule_with, update, dup, feature, best_update};
 ghost use Rattle.solv_pool.specs.TaskBelonging.{is_pack};
 ghost use Rattle.solv_pool.specs.Words.{when, is_among};
 ghost use Rattle.solv_rules.specs.Books.{read_rules};
 ghost use Rattle.solv_questions.specs.Questions.{Request, request_of, without_those, close_candidates, far_candidates};
-ghost use Rattle.solv_plan.specs.PlanOf.{numbered, keeps_of};
+ghost use Rattle.solv_plan.specs.Inner.PlanOf.{numbered, keeps_of};
 ghost use Rattle.solv_jobs.specs.Marking.{HasMarks};
 ghost use Rattle.solv_policy.specs.Inner.Candidates.{IsPlace};
 ghost use Rattle.solv_planning.specs.Inner.Filling.{filled, entered};
@@ -21,17 +21,19 @@ ghost use Rattle.solv_planning.specs.Inner.Rows.{no_rules, add_to_pack, keep_wit
 use crate::appending::append;
 use crate::demands::{demand, set_at};
 use crate::ordering::in_order;
+use solv_jobs::is_to_move;
 use solv_list::Items;
 use solv_plan::{Demand, Keep};
 use solv_policy::Asked;
 use solv_pool::{JobNo, Marks, PackNo, Rule, Rules, Task};
 use solv_prov::Providers;
 use solv_trail::Question;
-use solv_updates::{feature_candidates, update_candidates};
+use solv_updates::{feature_candidates, successors};
 use std::alloc::{AllocError, Global};
 use std::collections::BTreeSet;
 
-/// The rules on a package: what they ask for as its best updates, and the numbers of those on what may take its place.
+/// The rules on a package: what they ask for as its best updates, and the numbers of those that hold it to its successors, and of those
+/// on what may take its place were every change allowed.
 #[derive(Drop)]
 pub(crate) struct PackRules {
     pub(crate) pack: PackNo,
@@ -47,7 +49,7 @@ fn push_best(row: &mut PackRules, demand: Demand) -> Result<(), AllocError>
     row.best.push(demand)
 }
 
-/// Appends the number of a rule on updates.
+/// Appends the number of a rule that holds it to its successors.
 fn push_update(row: &mut PackRules, rule: usize) -> Result<(), AllocError>
     ensures { OnOk result (row.new ≡ record { pack = row.old.pack; best = row.old.best; updates = row.old.updates ++ rule ∷ []; features = row.old.features }) }
 {
@@ -85,9 +87,10 @@ fn enter_best(
     push_best(&mut table[pack.0 as usize], asked)
 }
 
-/// Enters the number of a rule on updates into the table of packages.
+/// Enters the number of a rule that holds a package to its successors into the table of packages.
 fn enter_update(number: usize, pack: PackNo, table: &mut [PackRules]) -> Result<(), AllocError>
-    ensures { (r : Request) (xs : List ℕ) → OnOk result (table.new ≡ entered (add_to_pack r) 0 (number, update pack xs) table.old) }
+    ensures update { (r : Request) (xs : List ℕ) → OnOk result (table.new ≡ entered (add_to_pack r) 0 (number, update pack xs) table.old) }
+    ensures dup { (r : Request) (xs : List ℕ) → OnOk result (table.new ≡ entered (add_to_pack r) 0 (number, dup pack xs) table.old) }
 {
     if pack.0 as usize >= table.len() {
         return Ok(());
@@ -121,7 +124,7 @@ fn enter(
     ensures { OnOk result (table.new ≡ entered (add_to_pack (request_of task.now marks.now)) 0 (number, rule_with sets.now rule.now) table.old) }
 {
     match *rule {
-        Rule::Update(pack, _) => enter_update(number, pack, table),
+        Rule::Update(pack, _) | Rule::Dup(pack, _) => enter_update(number, pack, table),
         Rule::Feature(pack, _) => enter_feature(number, pack, table),
         Rule::BestUpdate(job, pack, set) => {
             let packs = set_at(sets, set);
@@ -233,27 +236,27 @@ fn without_those(
     Ok(made)
 }
 
-/// The rest of what may take a package's place were every change allowed, in the order in which they are tried.
+/// The rest of a package and what may take its place were every change allowed, in the order in which they are tried.
 fn far_candidates(
     alloc: Global,
     task: &Task,
     prov: &Providers,
     marks: &Marks,
     pack: PackNo,
-    updates: &[PackNo],
+    close: &[PackNo],
 ) -> Result<Items<PackNo>, AllocError>
     requires ready { IsReady task.now prov.now marks.now }
     requires pack { IsPlace task.now pack }
-    requires exact { updates.now ≡ update_candidates (catalog_of task.now) task.now.flags marks.now pack }
+    requires exact { close.now ≡ successors (catalog_of task.now) task.now.flags marks.now pack }
     ensures { IfOk result (λ made. made ≡ far_candidates (catalog_of task.now) task.now.flags marks.now pack) }
 {
     let features = feature_candidates(alloc, task, prov, marks, pack)?;
-    let rest = without_those(alloc, updates, &features)?;
+    let rest = without_those(alloc, close, &features)?;
     in_order(alloc, task, prov, marks, Asked::Kept(pack), &rest)
 }
 
-/// What may take a package's place, in the order in which they are tried: itself and its updates, and the rest of what might
-/// were every change allowed.
+/// What may stand in a package's place, in the order in which they are tried: its successors, and the rest of itself and what
+/// might were every change allowed.
 #[derive(Drop)]
 struct Successors {
     close: Items<PackNo>,
@@ -272,9 +275,9 @@ fn find_successors(
     requires pack { IsPlace task.now pack }
     ensures { IfOk result (λ made. made ≡ record { close = close_candidates (catalog_of task.now) task.now.flags marks.now pack; far = far_candidates (catalog_of task.now) task.now.flags marks.now pack }) }
 {
-    let updates = update_candidates(alloc, task, prov, marks, pack)?;
-    let close = in_order(alloc, task, prov, marks, Asked::Kept(pack), &updates)?;
-    let far = far_candidates(alloc, task, prov, marks, pack, &updates)?;
+    let held = successors(alloc, task, prov, marks, pack)?;
+    let close = in_order(alloc, task, prov, marks, Asked::Kept(pack), &held)?;
+    let far = far_candidates(alloc, task, prov, marks, pack, &held)?;
     Ok(Successors { close, far })
 }
 
@@ -296,6 +299,7 @@ fn keep(
         pack,
         best: row.best,
         is_asked: !marks.erased.held()[pack.0 as usize],
+        dup: marks.dup.held()[pack.0 as usize],
         updates: row.updates,
         features: row.features,
         close: found.close,
@@ -303,16 +307,7 @@ fn keep(
     })
 }
 
-/// Whether a package is marked for update.
-fn is_update(task: &Task, marks: &Marks, pack: PackNo) -> bool
-    requires marks { HasMarks (length task.now.universe.packages) marks.now }
-    requires within { pack ≤ length task.now.universe.packages }
-    ensures { result ≡ marked marks.now.update pack }
-{
-    marks.update.held()[pack.0 as usize]
-}
-
-/// The installed packages that are marked for update, and the other installed ones.
+/// The installed packages that are marked to move, and the other installed ones.
 #[derive(Drop)]
 struct Installed {
     marked: Items<Keep>,
@@ -336,9 +331,9 @@ fn put_keep(
     if !task.universe.installed(row.pack) {
         return Ok(());
     }
-    let updates = is_update(task, marks, row.pack);
+    let moves = is_to_move(task, marks, row.pack);
     let asked = keep(alloc, task, prov, marks, row)?;
-    if updates {
+    if moves {
         made.marked.push(asked)
     } else {
         made.others.push(asked)
@@ -386,7 +381,7 @@ fn keeps_of(
     Ok(marked)
 }
 
-/// What is asked of the installed packages that are marked for update, and then of the other installed ones.
+/// What is asked of the installed packages that are marked to move, and then of the other installed ones.
 pub(crate) fn keeps(
     alloc: Global,
     task: &Task,

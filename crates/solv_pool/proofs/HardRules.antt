@@ -1,30 +1,26 @@
 -- The rules of a task name its packages; so the system alone meets the fixed ones, and no rule speaks of anything else.
-use Rattle.std.proofs.Common.{◌≡◌, ℕ, zero, suc, Bool, true, false, not, ◌&&◌, ◌||◌, List, [], ◌∷◌, ◌++◌, length, map, Some, refl, ap, ◌∙◌, arith}
+use Rattle.std.proofs.Common.{◌≡◌, ℕ, zero, suc, Bool, true, false, not, ◌&&◌, ◌||◌, List, [], ◌∷◌, ◌++◌, length, map, Some, refl, ap, subst, ◌∙◌, arith}
 use Rattle.std.specs.Prelude.{filter, ◌==◌, Contains}
 use Rattle.std.specs.List.{list_all}
 use Rattle.std.specs.Bool.{beq}
 use Rattle.solv_base.specs.Dependency.{Dep, one, namespace, and, or, with, without, if_then, if_else, unless, unless_else, missing}
-use Rattle.solv_pool.specs.declared.packages.Package.{Package}
 use Rattle.solv_pool.specs.declared.jobs.Job.{Job}
-use Rattle.solv_pool.specs.declared.jobs.Action.{Action}
-use Rattle.solv_pool.specs.declared.jobs.Action.TheVariants.{Install, Erase, Lock}
 use Rattle.solv_pool.specs.declared.job_marks.Marks.{Marks}
 use Rattle.solv_pool.specs.declared.tasks.Flags.{Flags}
 use Rattle.solv_pool.specs.declared.tasks.Task.{Task}
 use Rattle.solv_pool.specs.Words.{is_among, when}
 use Rattle.solv_pool.specs.Catalog.{Catalog, catalog_of, packages, members, package_at, dependency, is_installed}
 use Rattle.solv_pool.specs.Holding.{package_meets, member_meets, holds, leaving_out}
-use Rattle.solv_pool.specs.Installable.{is_installable}
-use Rattle.solv_pool.specs.JobMarks.{marks_of, is_install, is_update}
-use Rattle.solv_pool.specs.Selections.{selection}
-use Rattle.solv_pool.specs.RuleMeaning.{HardRule, not_installable, req, con, rich_con, obs, same, infarch, update, feature, Shape, out, requirement, conflict, not_both, some_of, none_of, as_installed, shape_of, meets_shape, is_fixed, meets_rule}
-use Rattle.solv_pool.specs.Best.{best}
-use Rattle.solv_pool.specs.HardRules.{not_installable_rules, counted_requirements, requirement_rules, package_wise_conflicts, is_conflicting, conflicting, conflict_rules, counted_rich_conflicts, rich_conflict_rules, obsoleted, obsoletion_rules, later_namesakes, same_name_rules, rules_asked_by, rules_of_package, package_rules, inferior_packages, infarch_rules, is_kept, kept_packages, has_update_rule, update_rules, feature_rules, update_candidates, feature_candidates, numbered_jobs, rule_of_job, job_rules, best_job_rule, best_job_rules, selected_installed, best_update_rule, best_update_rules, hard_rules_by, hard_rules}
+use Rattle.solv_pool.specs.JobMarks.{marks_of}
+use Rattle.solv_pool.specs.RuleMeaning.{HardRule, not_installable, req, con, rich_con, obs, same, infarch, update, dup, feature, install, erase, lock, best_job, best_update, Shape, out, requirement, conflict, not_both, some_of, none_of, as_installed, shape_of, meets_shape, is_fixed, meets_rule}
+use Rattle.solv_pool.specs.HardRules.{is_kept, kept_packages, hard_rules}
 use Rattle.solv_pool.specs.Laws.{shape_names, names_besides, names_packages, system_alone, AgreeOn}
 use Rattle.solv_pool.proofs.Tests.{ap2}
-use Rattle.solv_pool.proofs.Lists.{list_all_made, join_six, list_all_flat, list_all_when, list_all_option, among_itself, passes_in, list_any_agree, list_all_agree, zero_not_among}
-use Rattle.solv_list.proofs.Booleans.{and_true, first_of_both, second_of_both}
-use Rattle.solv_list.proofs.Lists.{list_all_filter, list_all_flat as flat_each, list_all_join, list_all_map}
+use Rattle.solv_pool.proofs.Members.{Has, has_among, of_filtered}
+use Rattle.solv_pool.proofs.Origins.{IsFrom, IsChosen, has_chosen, all_from}
+use Rattle.solv_pool.proofs.Lists.{among_itself, passes_in, list_any_agree, list_all_agree, zero_not_among}
+use Rattle.solv_list.proofs.Booleans.{first_of_both, second_of_both}
+use Rattle.solv_list.proofs.Lists.{list_all_filter}
 use Rattle.solv_list.proofs.Numbers.{successor_not_zero}
 use Rattle.std.proofs.lemmas.Bool.{and_from, or_right}
 
@@ -47,104 +43,42 @@ module _ (catalog : Catalog) where
   filtered : (test : ℕ → Bool) → list_all is_package (filter test (packages catalog)) ≡ true
   filtered test = list_all_filter is_package test (packages catalog) all_packages
 
-  abbrev named : HardRule → Bool
-  named r = names_packages catalog r
+  two_named : (p q : ℕ) → Has (packages catalog) p → Has (packages catalog) q → (is_package q && (is_package p && is_member q)) ≡ true
+  two_named p q h k =
+      let there = has_among (packages catalog) q k in
+      and_from (is_package q) (is_package p && is_member q) there (and_from (is_package p) (is_member q) (has_among (packages catalog) p h) (package-member q there))
 
-  two_named : (p q : ℕ) → is_package p ≡ true → is_package q ≡ true → (is_package q && (is_package p && is_member q)) ≡ true
-  two_named p q h k = and_from (is_package q) (is_package p && is_member q) k (and_from (is_package p) (is_member q) h (package-member q k))
+  module _ (flags : Flags) (marks : Marks) (jobs : List Job) where
+    -- the list that a rule asks for has packages alone
+    list_named : (xs : List ℕ) → IsChosen catalog xs → list_all is_package xs ≡ true
+    list_named xs own = subst (λ ys. list_all is_package ys ≡ true) own.is (filtered own.test)
 
-  module _ (marks : Marks) where
-    requirements-named : (p : ℕ) (a : Package) → is_package p ≡ true → list_all named (requirement_rules catalog marks p a) ≡ true
-    requirements-named p a h = list_all_map named (λ need. req p need.dep) (λ _. h) (counted_requirements catalog marks p a)
+    kept_named : (p : ℕ) (xs : List ℕ) → Has (kept_packages catalog flags marks) p → IsChosen catalog xs → (is_package p && list_all is_package xs) ≡ true
+    kept_named p xs h own =
+        and_from (is_package p) (list_all is_package xs) (has_among (packages catalog) p (of_filtered (is_kept catalog flags marks) (packages catalog) p h).0) (list_named xs own)
 
-    conflicts-named : (p : ℕ) (a : Package) → is_package p ≡ true → list_all named (conflict_rules catalog marks p a) ≡ true
-    conflicts-named p a h =
-        flat_each named (λ d. map (con p d) (conflicting catalog marks p d)) (λ d.
-        list_all_made is_member named (con p d) (λ q k. and_from (is_package p) (is_member q) h k) (conflicting catalog marks p d) (list_all_filter is_member (is_conflicting catalog marks p d) (members catalog) all_members))
-        (package_wise_conflicts catalog a)
-
-    rich_conflicts-named : (p : ℕ) (a : Package) → is_package p ≡ true → list_all named (rich_conflict_rules catalog marks p a) ≡ true
-    rich_conflicts-named p a h = list_all_map named (rich_con p) (λ _. h) (counted_rich_conflicts catalog marks p a)
-
-    obsoletions-named : (p : ℕ) (a : Package) → is_package p ≡ true → list_all named (obsoletion_rules catalog marks p a) ≡ true
-    obsoletions-named p a h =
-        flat_each named (λ d. map (obs p d) (obsoleted catalog marks p d)) (λ d.
-        list_all_made is_package named (obs p d) (λ q k. two_named p q h k) (obsoleted catalog marks p d) (filtered _))
-        a.obsoletes
-
-    same_name-named : (p : ℕ) → is_package p ≡ true → list_all named (same_name_rules catalog marks p) ≡ true
-    same_name-named p h = list_all_made is_package named (same p) (λ q k. two_named p q h k) (later_namesakes catalog marks p) (filtered _)
-
-    asked-named : (p : ℕ) (a : Package) → is_package p ≡ true → list_all named (rules_asked_by catalog marks p a) ≡ true
-    asked-named p a h =
-        join_six named (not_installable_rules catalog p) (requirement_rules catalog marks p a) (conflict_rules catalog marks p a) (rich_conflict_rules catalog marks p a) (obsoletion_rules catalog marks p a) (same_name_rules catalog marks p)
-        (list_all_when named (not (is_installable catalog p)) (not_installable p ∷ []) (and_true _ ∙ h))
-        (requirements-named p a h) (conflicts-named p a h) (rich_conflicts-named p a h) (obsoletions-named p a h) (same_name-named p h)
-
-    package_rules-named : list_all named (package_rules catalog marks) ≡ true
-    package_rules-named = list_all_flat is_package named (rules_of_package catalog marks)
-        (λ p h. list_all_option named (rules_asked_by catalog marks p) (package_at catalog p) (λ a. asked-named p a h)) (packages catalog) all_packages
-
-    module _ (flags : Flags) (jobs : List Job) where
-      infarch-named : list_all named (infarch_rules catalog flags) ≡ true
-      infarch-named = list_all_when named (not flags.no_infarch_check) (map infarch (inferior_packages catalog flags))
-          (list_all_made is_package named infarch (λ p k. k) (inferior_packages catalog flags) (filtered _))
-
-      kept-named : list_all is_package (kept_packages catalog flags marks) ≡ true
-      kept-named = filtered (is_kept catalog flags marks)
-
-      update-named : list_all named (update_rules catalog flags marks jobs) ≡ true
-      update-named =
-          list_all_made is_package named (λ p. update p (update_candidates catalog flags marks p)) (λ p k. and_from (is_package p) (list_all is_package (update_candidates catalog flags marks p)) k (filtered _))
-          (filter (has_update_rule catalog jobs marks) (kept_packages catalog flags marks))
-          (list_all_filter is_package (has_update_rule catalog jobs marks) (kept_packages catalog flags marks) kept-named)
-
-      feature-named : list_all named (feature_rules catalog flags marks) ≡ true
-      feature-named =
-          list_all_made is_package named (λ p. feature p (feature_candidates catalog flags marks p)) (λ p k. and_from (is_package p) (list_all is_package (feature_candidates catalog flags marks p)) k (filtered _))
-          (kept_packages catalog flags marks) kept-named
-
-      of_job-named : (j : ℕ) (action : Action) (xs : List ℕ) → list_all is_package xs ≡ true → list_all named (rule_of_job j action xs) ≡ true
-      of_job-named j Install xs h = and_true _ ∙ h
-      of_job-named j Erase xs h = and_true _ ∙ h
-      of_job-named j Lock xs h = and_true _ ∙ h
-      of_job-named j _ xs h = refl
-
-      job-named : list_all named (job_rules catalog jobs) ≡ true
-      job-named = flat_each named (λ job. rule_of_job job.0 job.1.action (selection catalog job.1.choice)) (λ job. of_job-named job.0 job.1.action (selection catalog job.1.choice) (filtered _)) (numbered_jobs jobs)
-
-      of_best-named : (j : ℕ) (xs : List ℕ) → list_all is_package xs ≡ true → list_all named (best_job_rule j xs) ≡ true
-      of_best-named j [] h = refl
-      of_best-named j (x ∷ xs) h = and_true _ ∙ h
-
-      best_job-named : list_all named (best_job_rules catalog jobs) ≡ true
-      best_job-named =
-          flat_each named (λ job. when (is_install job.1.action && job.1.forcebest) (best_job_rule job.0 (best catalog (selection catalog job.1.choice)))) (λ job.
-          list_all_when named (is_install job.1.action && job.1.forcebest) (best_job_rule job.0 (best catalog (selection catalog job.1.choice)))
-          (of_best-named job.0 (best catalog (selection catalog job.1.choice)) (filtered _)))
-          (numbered_jobs jobs)
-
-      best_update-named : list_all named (best_update_rules catalog flags marks jobs) ≡ true
-      best_update-named =
-          flat_each named (λ job. when (is_update job.1.action && job.1.forcebest) (map (best_update_rule catalog flags marks job.0) (selected_installed catalog job.1.choice))) (λ job.
-          list_all_when named (is_update job.1.action && job.1.forcebest) (map (best_update_rule catalog flags marks job.0) (selected_installed catalog job.1.choice))
-          (list_all_made is_package named (best_update_rule catalog flags marks job.0)
-          (λ p k. and_from (is_package p) (list_all is_package (best catalog (update_candidates catalog flags marks p))) k (filtered _))
-          (selected_installed catalog job.1.choice) (filtered _)))
-          (numbered_jobs jobs)
-
-      hard_rules-named : list_all named (hard_rules_by catalog flags jobs marks) ≡ true
-      hard_rules-named =
-          list_all_join named
-          (package_rules catalog marks ++ infarch_rules catalog flags ++ update_rules catalog flags marks jobs ++ feature_rules catalog flags marks ++ job_rules catalog jobs ++ best_job_rules catalog jobs)
-          (best_update_rules catalog flags marks jobs)
-          (join_six named (package_rules catalog marks) (infarch_rules catalog flags) (update_rules catalog flags marks jobs) (feature_rules catalog flags marks) (job_rules catalog jobs) (best_job_rules catalog jobs)
-          package_rules-named infarch-named update-named feature-named job-named best_job-named)
-          best_update-named
+    -- each rule names packages
+    pub rule_named : (x : HardRule) → IsFrom catalog flags marks jobs x → names_packages catalog x ≡ true
+    rule_named (not_installable p) own = has_among (packages catalog) p own
+    rule_named (req p d) own = has_among (packages catalog) p own.there
+    rule_named (con p d q) own = and_from (is_package p) (is_member q) (has_among (packages catalog) p own.0) (has_among (members catalog) q own.1)
+    rule_named (rich_con p d) own = has_among (packages catalog) p own.there
+    rule_named (obs p d q) own = two_named p q own.0 own.1
+    rule_named (same p q) own = two_named p q own.0 own.1
+    rule_named (infarch p) own = has_among (packages catalog) p own
+    rule_named (update p xs) own = kept_named p xs own.0 (has_chosen catalog flags marks jobs (update p xs) own)
+    rule_named (dup p xs) own = kept_named p xs own.0 (has_chosen catalog flags marks jobs (dup p xs) own)
+    rule_named (feature p xs) own = kept_named p xs own.0 (has_chosen catalog flags marks jobs (feature p xs) own)
+    rule_named (best_update j p xs) own =
+        and_from (is_package p) (list_all is_package xs) (has_among (packages catalog) p own.there) (list_named xs (has_chosen catalog flags marks jobs (best_update j p xs) own))
+    rule_named (install j xs) own = list_named xs (has_chosen catalog flags marks jobs (install j xs) own)
+    rule_named (erase j xs) own = list_named xs (has_chosen catalog flags marks jobs (erase j xs) own)
+    rule_named (lock j xs) own = list_named xs (has_chosen catalog flags marks jobs (lock j xs) own)
+    rule_named (best_job j xs) own = list_named xs (has_chosen catalog flags marks jobs (best_job j xs) own)
 
 -- each hard rule of a task names its packages
 pub hard_rule-named : (task : Task) (r : HardRule) → Contains (hard_rules task) r → names_packages (catalog_of task) r ≡ true
-hard_rule-named task r at = passes_in (names_packages (catalog_of task)) (hard_rules task) r (hard_rules-named (catalog_of task) (marks_of task) task.flags task.jobs) at
+hard_rule-named task r at = passes_in (names_packages (catalog_of task)) (hard_rules task) r (all_from (catalog_of task) task.flags (marks_of task) task.jobs (names_packages (catalog_of task)) (rule_named (catalog_of task) task.flags (marks_of task) task.jobs)) at
 
 -- a package is not the system
 not_alone : (catalog : Catalog) (p : ℕ) → is_package catalog p ≡ true → system_alone p ≡ false

@@ -1,5 +1,5 @@
 -- The hard rules of a task, in their order.
-use Rattle.std.specs.Prelude.{ℕ, length, Bool, true, false, not, ◌&&◌, ◌||◌, List, [], ◌∷◌, ◌++◌, map, filter, flat_map, ◌==◌, nat_lt}
+use Rattle.std.specs.Prelude.{ℕ, length, Bool, true, false, not, ◌&&◌, ◌||◌, List, [], ◌∷◌, ◌++◌, map, filter, flat_map, ◌==◌, nat_lt, if◌then◌else◌}
 use Rattle.std.specs.Option.{option_map_or}
 use Rattle.std.specs.List.{list_any, list_all, enumerate_from}
 use Rattle.solv_base.specs.Dependency.{Capability, plain, versioned, package_wise}
@@ -9,11 +9,12 @@ use Rattle.solv_pool.specs.Providing.{covers}
 use Rattle.solv_pool.specs.Holding.{package_meets}
 use Rattle.solv_pool.specs.Installable.{is_installable, is_noarch, arch_rank}
 use Rattle.solv_pool.specs.Selections.{selects, selection}
-use Rattle.solv_pool.specs.JobMarks.{marked, marks_of, is_install, is_update}
+use Rattle.solv_pool.specs.JobKinds.{is_install, is_update}
+use Rattle.solv_pool.specs.JobMarks.{marked, marks_of}
 use Rattle.solv_pool.specs.Counting.{requirement_counts, pair_counts, rich_conflict_counts}
-use Rattle.solv_pool.specs.RuleMeaning.{HardRule, not_installable, req, con, rich_con, obs, same, infarch, update, feature, install, erase, lock, best_job, best_update}
+use Rattle.solv_pool.specs.RuleMeaning.{HardRule, not_installable, req, con, rich_con, obs, same, infarch, update, dup, feature, install, erase, lock, best_job, best_update}
 use Rattle.solv_pool.specs.Best.{best}
-use Rattle.solv_pool.specs.Updates.{is_feature, is_legal, itself_and, coexist}
+use Rattle.solv_pool.specs.Updates.{is_feature, is_legal, itself_and, coexist, dup_set}
 use Rattle.solv_pool.specs.declared.packages.Package.{Package}
 use Rattle.solv_pool.specs.declared.packages.Need.{Need}
 use Rattle.solv_pool.specs.declared.tasks.Task.{Task}
@@ -134,6 +135,14 @@ module _ (catalog : Catalog) (flags : Flags) (marks : Marks) where
   abbrev pub feature_candidates : ℕ → List ℕ
   feature_candidates p = itself_and catalog (is_feature catalog marks p) p
 
+  -- what p is held to: what a distribution upgrade puts in its place, where it is marked for one, else itself and what may take its place
+  abbrev pub successors : ℕ → List ℕ
+  successors p = if marked marks.dup p then dup_set catalog marks p else update_candidates p
+
+  -- the rule that it is
+  abbrev pub successor_rule : ℕ → HardRule
+  successor_rule p = if marked marks.dup p then dup p (successors p) else update p (successors p)
+
   -- p is installed, and neither erased nor allowed to go
   abbrev pub is_kept : ℕ → Bool
   is_kept p = is_installed catalog p && not (marked marks.erased p || (marked marks.allow_uninstall p || flags.allow_uninstall))
@@ -171,9 +180,9 @@ module _ (catalog : Catalog) (jobs : List Job) (marks : Marks) where
   has_update_rule p = marked marks.multiversion p || not (is_asked_exactly p)
 
 module _ (catalog : Catalog) (flags : Flags) (marks : Marks) where
-  -- for each package that is kept and has such a rule, with what may take its place
+  -- for each package that is kept and has such a rule, with what it is held to
   abbrev pub update_rules : List Job → List HardRule
-  update_rules jobs = map (λ p. update p (update_candidates catalog flags marks p)) (filter (has_update_rule catalog jobs marks) (kept_packages catalog flags marks))
+  update_rules jobs = map (successor_rule catalog flags marks) (filter (has_update_rule catalog jobs marks) (kept_packages catalog flags marks))
 
   -- for each package that is kept, with what may take its place were every change allowed
   abbrev pub feature_rules : List HardRule

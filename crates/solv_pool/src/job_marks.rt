@@ -5,13 +5,15 @@ use solv_list::Items;
 pub struct Marks {
     /// Installed, and an update job selects it.
     pub update: Items<bool>,
+    /// Installed, and a distupgrade job selects it.
+    pub dup: Items<bool>,
     /// Installed, and a verify job selects it.
     pub verify: Items<bool>,
     /// A multiversion job selects it.
     pub multiversion: Items<bool>,
     /// Installed, and an allowuninstall job selects it. The flag `allow_uninstall` is no part of it.
     pub allow_uninstall: Items<bool>,
-    /// An erase job selects it.
+    /// An erase job selects it; once what nobody needs is cleaned, that too.
     pub erased: Items<bool>,
     /// 1 for a favoured package, -1 for a disfavoured one, 0 for all others.
     pub favour: Items<i8>,
@@ -21,6 +23,7 @@ impl Drop for Marks {
     fn drop(self) {
         let Marks {
             update: _,
+            dup: _,
             verify: _,
             multiversion: _,
             allow_uninstall: _,

@@ -12,6 +12,8 @@ pub enum Action {
     Erase,
     /// Its installed packages are marked for update.
     Update,
+    /// Its installed packages are marked for a distribution upgrade.
+    Distupgrade,
     /// On the selection, the resulting set is as installed.
     Lock,
     /// Its installed packages are verified: what is broken among them counts.
@@ -24,6 +26,8 @@ pub enum Action {
     Favor,
     /// Its packages come last among alternatives.
     Disfavor,
+    /// Its packages are what the user asked for.
+    UserInstalled,
     /// Nothing.
     Noop,
 }
@@ -52,6 +56,8 @@ pub struct Job {
     pub choice: Choice,
     /// Is the best candidate asked for?
     pub forcebest: bool,
+    /// Does what nobody needs any more go with the selection?
+    pub cleandeps: bool,
     /// The words of the job's line after `job`, joined by one space.
     pub text: Bytes,
 }

@@ -21,6 +21,3 @@ pub use faults::{ProofCause, ProofFault};
 pub use kinds::{NextLine, Proof};
 pub use reading::read_proof;
 pub use writing::write_proof;
-
-#[cfg(test)]
-mod tests;

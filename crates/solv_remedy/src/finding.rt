@@ -10,11 +10,11 @@ ghost use Rattle.solv_derive.specs.Range.{steps_over};
 ghost use Rattle.solv_core.specs.Inner.Holding.{IsHeldBy};
 ghost use Rattle.solv_core.specs.Cores.{CoreOf};
 ghost use Rattle.solv_questions.specs.Questions.{Request};
-ghost use Rattle.solv_decide.specs.Deciding.{Asker};
+ghost use Rattle.solv_decide.specs.Inner.Deciding.{Asker};
 ghost use Rattle.solv_remedy.specs.Inner.Dropping.{IsFoundOn};
 ghost use Rattle.solv_rules.specs.Books.{Written, read_rules};
-ghost use Rattle.solv_remedy.specs.Remedies.{IsMadeFor, IsGoodList, IsRemedies, droppable_rules, most_runs};
-ghost use Rattle.solv_remedy.specs.Inner.Remedies.{is_spent_remedies};
+ghost use Rattle.solv_remedy.specs.Remedies.{IsGoodList, droppable_rules, most_runs};
+ghost use Rattle.solv_remedy.specs.Inner.Remedies.{IsMadeFor, IsRemedies, is_spent_remedies};
 ghost use Rattle.solv_remedy.specs.Inner.Trying.{is_off_in, IsLogOf, IsSetUp};
 ghost use Rattle.solv_remedy.specs.Inner.Runs.{HasRuns, is_spent};
 ghost use Rattle.solv_remedy.specs.Inner.Conflicts.{droppable_count, listed_of, AreApart, IsRuleList, AreAll, IsSettled, AreSettled};
@@ -37,35 +37,13 @@ use solv_pool::Rule;
 use solv_rules::Book;
 use std::alloc::{AllocError, Global};
 
-/// Whether a rule may not be dropped.
-fn is_fixed(rule: &Rule) -> bool
-    ensures { (sets : List (List ℕ)) → result ≡ is_fixed_rule (rule_with sets rule.now) }
-{
-    match *rule {
-        Rule::NotInstallable(_) => true,
-        Rule::Req(_, _) => true,
-        Rule::Con(_, _, _) => true,
-        Rule::RichCon(_, _) => true,
-        Rule::Obs(_, _, _) => true,
-        Rule::Same(_, _) => true,
-        Rule::Infarch(_) => false,
-        Rule::Update(_, _) => false,
-        Rule::Feature(_, _) => false,
-        Rule::Install(_, _) => false,
-        Rule::Erase(_, _) => false,
-        Rule::Lock(_, _) => false,
-        Rule::BestJob(_, _) => false,
-        Rule::BestUpdate(_, _, _) => false,
-    }
-}
-
 /// For each rule whether it may not be dropped.
 fn fixed_rules(alloc: Global, rules: &[Rule]) -> Result<Vec<bool>, AllocError>
     ensures { IfOk result (λ fixed. (sets : List (List ℕ)) → fixed.items ≡ map is_fixed_rule (map (rule_with sets) rules.now)) }
 {
     let mut fixed = Vec::new(alloc);
     for rule in rules {
-        fixed.push(is_fixed(rule))?;
+        fixed.push(rule.is_fixed())?;
     }
     Ok(fixed)
 }

@@ -42,9 +42,9 @@ module _ (task : Task) where
   abbrev pub problems_lines : Kinds → List Problem → List (List ℕ)
   problems_lines kinds problems = when kinds.problems (flat_map (λ x. problem_lines x.0 x.1) (enumerate_from 1 problems))
 
-  -- the result lines of an answer, of the kinds that are asked for: those of its changes, their order and the reasons of what comes; or those of its problems
+  -- the result lines of an answer, of the kinds that are asked for: those of its changes, their order, the reasons of what comes, and who needs its packages; or those of its problems
   abbrev pub answer_lines : Kinds → Answer → List (List ℕ)
-  answer_lines kinds (Transaction trail set made ordered) = solved_lines (catalog_of task) kinds made ordered trail.events set
+  answer_lines kinds (Transaction trail set made ordered) = solved_lines (catalog_of task) task.jobs kinds made ordered trail.events set
   answer_lines kinds (Problems problems) = problems_lines kinds problems
   answer_lines kinds (Spent ledger) = []
 

@@ -1,11 +1,11 @@
 //! What is printed for an answer.
-ghost use Rattle.std.specs.Prelude.{◌≡◌, ◌++◌, ◌∷◌, [], ◌||◌, map, true, is_none, IfOk, OnOk};
+ghost use Rattle.std.specs.Prelude.{◌≡◌, ◌++◌, ◌∷◌, [], ◌||◌, map, true, length, is_none, IfOk, OnOk};
 ghost use Rattle.solv_io.specs.Lines.{ended_lines};
 ghost use Rattle.solv_pool.specs.HardRules.{hard_rules};
 ghost use Rattle.solv_pool.specs.Words.{when};
 ghost use Rattle.solv_pool.specs.TaskBelonging.{IsClosed};
 ghost use Rattle.solv_answers.specs.Answers.{IsPrepared};
-ghost use Rattle.solv_run.specs.Inner.Outcomes.{way_of, found_of, founds_of};
+ghost use Rattle.solv_run.specs.Inner.Outcomes.{way_of, found_of, founds_of, has_listed};
 ghost use Rattle.solv_run.specs.Texts.{problems_lines, answer_lines, told_lines, differing_lines, differences, is_spent, is_as_wanted, printed};
 ghost use Rattle.solv_lines.specs.LineSets.{line_set};
 
@@ -89,6 +89,7 @@ fn answer_lines(
 ) -> Result<LineSet, AllocError>
     requires closed { IsClosed script.now.task }
     requires prepared { IsPrepared script.now.task prepared.now }
+    requires listed { has_listed (length script.now.task.universe.packages) answer.now ≡ true }
     ensures { IfOk result (λ lines. lines ≡ line_set (answer_lines script.now.task script.now.kinds answer.now)) }
 {
     let (task, rules) = (&script.task, prepared.book.rules());
@@ -223,6 +224,7 @@ pub(crate) fn printed(
 ) -> Result<Said, AllocError>
     requires closed { IsClosed script.now.task }
     requires prepared { IsPrepared script.now.task prepared.now }
+    requires listed { has_listed (length script.now.task.universe.packages) answer.now ≡ true }
     ensures text { IfOk result (λ made. made.text.items ≡ printed shows script.now answer.now) }
     ensures as_wanted { IfOk result (λ made. made.as_wanted ≡ is_as_wanted script.now answer.now) }
 {

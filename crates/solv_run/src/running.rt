@@ -1,5 +1,5 @@
 //! What is due for a script that was read.
-ghost use Rattle.std.specs.Prelude.{◌≡◌, ◌≤◌, true, false, Some, IfOk};
+ghost use Rattle.std.specs.Prelude.{◌≡◌, ◌≤◌, true, false, length, Some, IfOk};
 ghost use Rattle.solv_pool.specs.Catalog.{catalog_of};
 ghost use Rattle.solv_pool.specs.HardRules.{hard_rules};
 ghost use Rattle.solv_pool.specs.TaskBelonging.{IsClosed};
@@ -8,6 +8,7 @@ ghost use Rattle.solv_rules.specs.Books.{first_fault};
 ghost use Rattle.solv_answers.specs.Answers.{IsPrepared};
 ghost use Rattle.solv_run.specs.Cases.{IsDueFor, IsGoodAnswer};
 ghost use Rattle.solv_run.specs.Dues.{answer_due, answer_status};
+ghost use Rattle.solv_run.specs.Inner.Outcomes.{has_listed};
 ghost use Rattle.solv_run.specs.Texts.{is_as_wanted};
 
 use crate::checks::are_true;
@@ -49,6 +50,7 @@ fn answer_due(
 ) -> Result<Due, AllocError>
     requires closed { IsClosed script.now.task }
     requires prepared { IsPrepared script.now.task prepared.now }
+    requires listed { has_listed (length script.now.task.universe.packages) answer.now ≡ true }
     ensures { IfOk result (λ due. due ≡ answer_due command.now script.now answer.now) }
 {
     let printed = printed(alloc, command.shows, script, prepared, answer)?;

@@ -6,8 +6,8 @@ use Rattle.std.proofs.lemmas.Bool.{ltb-true, ltb-false, lt-ltb}
 use Rattle.std.proofs.lemmas.Grind.{common_steps}
 use Rattle.std.proofs.lemmas.List.{append-nil}
 use Rattle.solv_io.specs.Counters.{Rose}
-use Rattle.solv_script.specs.FileRuns.{FilesRun, AskedBesides, AreFetched, IsFront, bytes_in, Piece, HasFetched}
-use Rattle.solv_script.specs.Inner.FileRuns.{IsRead, HasEnded, script_piece}
+use Rattle.solv_script.specs.FileRuns.{FilesRun, AskedBesides, AreFetched, IsFront, bytes_in}
+use Rattle.solv_script.specs.Inner.FileRuns.{Piece, HasFetched, IsRead, HasEnded, script_piece}
 use Rattle.solv_script.specs.Grammar.{Bad, most_file, script_due, script_read}
 use Rattle.solv_script.specs.ScriptsOf.{IsScriptOf}
 use Rattle.solv_script.specs.States.{State}

@@ -4,9 +4,7 @@ ghost use Rattle.solv_script.specs.GrownTasks.{GrownTextIsRead};
 ghost use Rattle.solv_script.specs.LateLines.{NotBuiltIsLateLine};
 ghost use Rattle.solv_script.specs.ScriptsOf.{ScriptsAreDetermined};
 
-/// The first bad line of a script is `NotBuilt` only where it is a line of the script itself that has a form which comes late:
-/// a `nextjob` line, a job with the action `distupgrade` or `userinstalled` or with the flag `cleandeps`, or a `result` line with
-/// the kind `userinstalled` or `unneeded`.
+/// The first bad line of a script is `NotBuilt` only where it is a `nextjob` line of the script itself.
 pub fn not_built_is_a_late_line()
     ensures { NotBuiltIsLateLine }
 {}

@@ -18,12 +18,13 @@ use Rattle.solv_graph.specs.Inner.Orders.{turn_at, part_of, late_of, is_placed, 
 use Rattle.solv_graph.specs.declared.orders.Turn.{Turn}
 use Rattle.solv_graph.specs.declared.orders.Turn.TheVariants.{Never, Early, Late}
 use Rattle.solv_trans.specs.Moving.{comes, goes, is_kept, is_part}
-use Rattle.solv_trans.specs.Edges.{is_met_already, brings, serves}
+use Rattle.solv_trans.specs.Edges.{is_met_already, brings}
 use Rattle.solv_trans.specs.Inner.Joining.{AreTurns, is_early_in, settles}
 use Rattle.solv_trans.proofs.Lists.{in_filter, filter_in, in_range}
 use Rattle.solv_list.proofs.Booleans.{false_of_not, or_cases, or_false, same_truth}
 use Rattle.solv_list.proofs.Lists.{all_at}
 use Rattle.solv_pool.proofs.Among.{any_from, any_gives, here}
+use Rattle.solv_pool.specs.Needs.{serves}
 use Rattle.solv_prov.proofs.Obsoleting.{among_range}
 
 module _ (catalog : Catalog) (set : ℕ → Bool) where
@@ -141,7 +142,7 @@ module _ (catalog : Catalog) (set : ℕ → Bool) where
         ap (list_any (λ part. package_meets catalog part a && not (is_met_already catalog set p part))) alone
         ∙ or_false (package_meets catalog (dependency catalog id) a && not (is_met_already catalog set p (dependency catalog id)))
 
-    pub serves_is : (a : ℕ) → serves catalog set a (dependency catalog id) ≡ package_meets catalog (dependency catalog id) a
+    pub serves_is : (a : ℕ) → serves catalog a (dependency catalog id) ≡ package_meets catalog (dependency catalog id) a
     serves_is a = ap (list_any (λ part. package_meets catalog part a)) alone ∙ or_false (package_meets catalog (dependency catalog id) a)
 
     abbrev providers : List ℕ

@@ -19,7 +19,7 @@ use Rattle.solv_graph.specs.Inner.Orders.{late_of}
 use Rattle.solv_graph.specs.declared.orders.Turn.{Turn}
 use Rattle.solv_graph.specs.declared.orders.Turn.TheVariants.{Never, Early, Late}
 use Rattle.solv_trans.specs.Moving.{comes, goes}
-use Rattle.solv_trans.specs.Edges.{is_met_already, brings, serves, requires_some, coming_edge, going_edge, edge_by}
+use Rattle.solv_trans.specs.Edges.{is_met_already, brings, requires_some, coming_edge, going_edge, edge_by}
 use Rattle.solv_trans.specs.Inner.Readiness.{IsReady}
 use Rattle.solv_trans.specs.Inner.Joining.{Joins, turn_of, AreTurns, is_early_in, from_one, to_one, settles, unsettled, to_coming, from_going, owned_by}
 use Rattle.solv_trans.proofs.Lists.{in_filter, filter_in, all_members}
@@ -29,6 +29,7 @@ use Rattle.solv_trans.proofs.Asking.{brings_is, serves_is, settled_is, comes_pac
 use Rattle.solv_list.proofs.Booleans.{and_false, false_of_not, or_cases, or_false, same_truth}
 use Rattle.solv_list.proofs.Lists.{all_at, all_left, all_right}
 use Rattle.solv_pool.proofs.Among.{any_from, any_gives}
+use Rattle.solv_pool.specs.Needs.{serves}
 
 unsettled_in : (b : Bool) (qs : List ℕ) (q : ℕ) → is_among (if b then [] else qs) q ≡ true → (b ≡ false) × (is_among qs q ≡ true)
 unsettled_in true qs q h = absurd (false≢true h)
@@ -135,19 +136,19 @@ module _ (catalog : Catalog) (set : ℕ → Bool) where
             let four = and_parts (eqb p a) (eqb r.0 b) three.1 in
             let same : r.0 ≡ b = eqb-true r.0 b four.1 in
             or_left _ false
-            (and_from (these need) (eqb p a && (not (eqb p b) && (goes catalog set b && serves catalog set b (dependency catalog need.dep)))) one.0
-            (and_from (eqb p a) (not (eqb p b) && (goes catalog set b && serves catalog set b (dependency catalog need.dep))) four.0
-            (and_from (not (eqb p b)) (goes catalog set b && serves catalog set b (dependency catalog need.dep)) (ap (λ x. not (eqb p x)) (sym same) ∙ two.0)
-            (and_from (goes catalog set b) (serves catalog set b (dependency catalog need.dep)) (ap (goes catalog set) (sym same) ∙ sym (late_is catalog set turns are r.0) ∙ three.0)
+            (and_from (these need) (eqb p a && (not (eqb p b) && (goes catalog set b && serves catalog b (dependency catalog need.dep)))) one.0
+            (and_from (eqb p a) (not (eqb p b) && (goes catalog set b && serves catalog b (dependency catalog need.dep))) four.0
+            (and_from (not (eqb p b)) (goes catalog set b && serves catalog b (dependency catalog need.dep)) (ap (λ x. not (eqb p x)) (sym same) ∙ two.0)
+            (and_from (goes catalog set b) (serves catalog b (dependency catalog need.dep)) (ap (goes catalog set) (sym same) ∙ sym (late_is catalog set turns are r.0) ∙ three.0)
             (serves_is catalog set need.dep single b ∙ ap (package_meets catalog (dependency catalog need.dep)) (sym same) ∙ m.1)))))
 
         from : list_any (λ n. from_going catalog set p these n a b) (need ∷ []) ≡ true → list_any (λ q. to_one turns p need these q a b) (filter (package_meets catalog (dependency catalog need.dep)) (members catalog)) ≡ true
         from h =
             let k : from_going catalog set p these need a b ≡ true = sym (or_false (from_going catalog set p these need a b)) ∙ h in
-            let one = and_parts (these need) (eqb p a && (not (eqb p b) && (goes catalog set b && serves catalog set b (dependency catalog need.dep)))) k in
-            let two = and_parts (eqb p a) (not (eqb p b) && (goes catalog set b && serves catalog set b (dependency catalog need.dep))) one.1 in
-            let three = and_parts (not (eqb p b)) (goes catalog set b && serves catalog set b (dependency catalog need.dep)) two.1 in
-            let four = and_parts (goes catalog set b) (serves catalog set b (dependency catalog need.dep)) three.1 in
+            let one = and_parts (these need) (eqb p a && (not (eqb p b) && (goes catalog set b && serves catalog b (dependency catalog need.dep)))) k in
+            let two = and_parts (eqb p a) (not (eqb p b) && (goes catalog set b && serves catalog b (dependency catalog need.dep))) one.1 in
+            let three = and_parts (not (eqb p b)) (goes catalog set b && serves catalog b (dependency catalog need.dep)) two.1 in
+            let four = and_parts (goes catalog set b) (serves catalog b (dependency catalog need.dep)) three.1 in
             any_from (λ q. to_one turns p need these q a b) (filter (package_meets catalog (dependency catalog need.dep)) (members catalog)) b
             (filter_in (package_meets catalog (dependency catalog need.dep)) (members catalog) b (in_members catalog set b (goes_pack catalog set b four.0)) (sym (serves_is catalog set need.dep single b) ∙ four.1))
             (and_from (these need) (not (eqb p b) && (late_of turns b && (eqb p a && eqb b b))) one.0
@@ -169,8 +170,8 @@ module _ (catalog : Catalog) (set : ℕ → Bool) where
 
     pub going_operand : (a : ℕ) → parts (dependency catalog need.dep) ≡ parts (dependency catalog a) → Joins (from_going catalog set x) (at a ∷ []) old new → Joins (from_going catalog set x) (need ∷ []) old new
     going_operand a same = joins_by (from_going catalog set x) (at a ∷ []) (need ∷ []) old new
-        (λ p q. one_side true (eqb x p && (not (eqb x q) && (goes catalog set q && serves catalog set q (dependency catalog a)))) (eqb x p && (not (eqb x q) && (goes catalog set q && serves catalog set q (dependency catalog need.dep)))) (ap (λ ds. eqb x p && (not (eqb x q) && (goes catalog set q && list_any (λ part. package_meets catalog part q) ds))) (sym same)))
-        (λ p q. one_side need.pre (eqb x p && (not (eqb x q) && (goes catalog set q && serves catalog set q (dependency catalog a)))) (eqb x p && (not (eqb x q) && (goes catalog set q && serves catalog set q (dependency catalog need.dep)))) (ap (λ ds. eqb x p && (not (eqb x q) && (goes catalog set q && list_any (λ part. package_meets catalog part q) ds))) (sym same)))
+        (λ p q. one_side true (eqb x p && (not (eqb x q) && (goes catalog set q && serves catalog q (dependency catalog a)))) (eqb x p && (not (eqb x q) && (goes catalog set q && serves catalog q (dependency catalog need.dep)))) (ap (λ ds. eqb x p && (not (eqb x q) && (goes catalog set q && list_any (λ part. package_meets catalog part q) ds))) (sym same)))
+        (λ p q. one_side need.pre (eqb x p && (not (eqb x q) && (goes catalog set q && serves catalog q (dependency catalog a)))) (eqb x p && (not (eqb x q) && (goes catalog set q && serves catalog q (dependency catalog need.dep)))) (ap (λ ds. eqb x p && (not (eqb x q) && (goes catalog set q && list_any (λ part. package_meets catalog part q) ds))) (sym same)))
 
     spread : (t c k f g h : Bool) → h ≡ (f || g) → ((t && (c && (k && f))) || ((t && (c && (k && g))) || false)) ≡ ((t && (c && (k && h))) || false)
     spread true true true f g h e = ap (λ b. f || b) (or_false g) ∙ sym e ∙ sym (or_false h)
@@ -197,11 +198,11 @@ module _ (catalog : Catalog) (set : ℕ → Bool) where
     pub going_both : (a b : ℕ) → parts (dependency catalog need.dep) ≡ parts (dependency catalog a) ++ parts (dependency catalog b)
         → Joins (from_going catalog set x) (at a ∷ []) old mid → Joins (from_going catalog set x) (at b ∷ []) mid new → Joins (from_going catalog set x) (need ∷ []) old new
     going_both a b same f g = joins_by (from_going catalog set x) (at a ∷ at b ∷ []) (need ∷ []) old new
-        (λ p q. wide true (eqb x p) (not (eqb x q)) (goes catalog set q) (serves catalog set q (dependency catalog a)) (serves catalog set q (dependency catalog b)) (serves catalog set q (dependency catalog need.dep)) (whole q))
-        (λ p q. wide need.pre (eqb x p) (not (eqb x q)) (goes catalog set q) (serves catalog set q (dependency catalog a)) (serves catalog set q (dependency catalog b)) (serves catalog set q (dependency catalog need.dep)) (whole q))
+        (λ p q. wide true (eqb x p) (not (eqb x q)) (goes catalog set q) (serves catalog q (dependency catalog a)) (serves catalog q (dependency catalog b)) (serves catalog q (dependency catalog need.dep)) (whole q))
+        (λ p q. wide need.pre (eqb x p) (not (eqb x q)) (goes catalog set q) (serves catalog q (dependency catalog a)) (serves catalog q (dependency catalog b)) (serves catalog q (dependency catalog need.dep)) (whole q))
         (joins_more (from_going catalog set x) (at a ∷ []) (at b ∷ []) old mid new f g)
       where
-        whole : (q : ℕ) → serves catalog set q (dependency catalog need.dep) ≡ (serves catalog set q (dependency catalog a) || serves catalog set q (dependency catalog b))
+        whole : (q : ℕ) → serves catalog q (dependency catalog need.dep) ≡ (serves catalog q (dependency catalog a) || serves catalog q (dependency catalog b))
         whole q = ap (list_any (λ part. package_meets catalog part q)) same ∙ list_any-append (λ part. package_meets catalog part q) (parts (dependency catalog a)) (parts (dependency catalog b))
 
   -- the edges of all requirements of a package
@@ -213,17 +214,17 @@ module _ (catalog : Catalog) (set : ℕ → Bool) where
     coming_owned c =
         pull_two these (λ n. brings catalog set a p (dependency catalog n.dep)) (eqb p b) (comes catalog set a) held.requires_
         ∙ ap (λ t. eqb p b && (comes catalog set a && t)) (requires_are (brings catalog set a p))
-        ∙ coming_only (eqb p b) (comes catalog set a) (requires_some catalog set these (brings catalog set a p) p) (eqb p a) (not (eqb p b)) (goes catalog set b) (requires_some catalog set these (serves catalog set b) p) (comes catalog set p) (goes catalog set p) c (not_both catalog set p c)
+        ∙ coming_only (eqb p b) (comes catalog set a) (requires_some catalog set these (brings catalog set a p) p) (eqb p a) (not (eqb p b)) (goes catalog set b) (requires_some catalog set these (serves catalog b) p) (comes catalog set p) (goes catalog set p) c (not_both catalog set p c)
 
     pub going_owned : goes catalog set p ≡ true → list_any (λ n. from_going catalog set p these n a b) held.requires_ ≡ list_any (λ x. owned_by catalog set these x a b) (p ∷ [])
     going_owned g =
-        pull_three these (λ n. serves catalog set b (dependency catalog n.dep)) (eqb p a) (not (eqb p b)) (goes catalog set b) held.requires_
-        ∙ ap (λ t. eqb p a && (not (eqb p b) && (goes catalog set b && t))) (requires_are (serves catalog set b))
-        ∙ going_only (eqb p b) (comes catalog set a) (requires_some catalog set these (brings catalog set a p) p) (eqb p a) (not (eqb p b)) (goes catalog set b) (requires_some catalog set these (serves catalog set b) p) (comes catalog set p) (goes catalog set p)
+        pull_three these (λ n. serves catalog b (dependency catalog n.dep)) (eqb p a) (not (eqb p b)) (goes catalog set b) held.requires_
+        ∙ ap (λ t. eqb p a && (not (eqb p b) && (goes catalog set b && t))) (requires_are (serves catalog b))
+        ∙ going_only (eqb p b) (comes catalog set a) (requires_some catalog set these (brings catalog set a p) p) (eqb p a) (not (eqb p b)) (goes catalog set b) (requires_some catalog set these (serves catalog b) p) (comes catalog set p) (goes catalog set p)
         (false_from_ne_true (comes catalog set p) (λ c. false≢true (sym (not_both catalog set p c) ∙ g))) g
 
   pub nothing_owned : (p : ℕ) → comes catalog set p ≡ false → goes catalog set p ≡ false → (these : Need → Bool) (a b : ℕ) → list_any {X = ℕ} (λ x. owned_by catalog set these x a b) [] ≡ list_any (λ x. owned_by catalog set these x a b) (p ∷ [])
-  nothing_owned p c g these a b = neither (eqb p b) (comes catalog set a) (requires_some catalog set these (brings catalog set a p) p) (eqb p a) (not (eqb p b)) (goes catalog set b) (requires_some catalog set these (serves catalog set b) p) (comes catalog set p) (goes catalog set p) c g
+  nothing_owned p c g these a b = neither (eqb p b) (comes catalog set a) (requires_some catalog set these (brings catalog set a p) p) (eqb p a) (not (eqb p b)) (goes catalog set b) (requires_some catalog set these (serves catalog b) p) (comes catalog set p) (goes catalog set p) c g
 
   -- no package brings what it meets itself
   no_self_part : (p : ℕ) (ds : List (Dep ℕ)) → list_any (λ part. package_meets catalog part p && not (is_met_already catalog set p part)) ds ≡ false
@@ -249,7 +250,7 @@ module _ (catalog : Catalog) (set : ℕ → Bool) where
       to : list_any (λ x. owned_by catalog set these x a b) (packages catalog) ≡ true → edge_by catalog set these a b ≡ true
       to h =
           let r = any_gives (λ x. owned_by catalog set these x a b) (packages catalog) h in
-          elim (or_cases (eqb r.0 b && (comes catalog set a && (comes catalog set r.0 && requires_some catalog set these (brings catalog set a r.0) r.0))) (eqb r.0 a && (not (eqb r.0 b) && (goes catalog set b && (goes catalog set r.0 && requires_some catalog set these (serves catalog set b) r.0)))) r.2) [
+          elim (or_cases (eqb r.0 b && (comes catalog set a && (comes catalog set r.0 && requires_some catalog set these (brings catalog set a r.0) r.0))) (eqb r.0 a && (not (eqb r.0 b) && (goes catalog set b && (goes catalog set r.0 && requires_some catalog set these (serves catalog b) r.0)))) r.2) [
             | inl k ↦
                 let one = and_parts (eqb r.0 b) (comes catalog set a && (comes catalog set r.0 && requires_some catalog set these (brings catalog set a r.0) r.0)) k in
                 let same : r.0 ≡ b = eqb-true r.0 b one.0 in
@@ -258,15 +259,15 @@ module _ (catalog : Catalog) (set : ℕ → Bool) where
                 let other : eqb a b ≡ false = ne_eqb a b (λ e. false≢true (sym (no_self b these (package_at catalog b)) ∙ ap (λ x. requires_some catalog set these (brings catalog set x b) b) (sym e) ∙ three.1)) in
                 and_from (not (eqb a b)) (coming_edge catalog set these a b || going_edge catalog set these a b) (ap not other) (or_left (coming_edge catalog set these a b) (going_edge catalog set these a b) edge)
             | inr k ↦
-                let one = and_parts (eqb r.0 a) (not (eqb r.0 b) && (goes catalog set b && (goes catalog set r.0 && requires_some catalog set these (serves catalog set b) r.0))) k in
+                let one = and_parts (eqb r.0 a) (not (eqb r.0 b) && (goes catalog set b && (goes catalog set r.0 && requires_some catalog set these (serves catalog b) r.0))) k in
                 let same : r.0 ≡ a = eqb-true r.0 a one.0 in
-                let two = and_parts (not (eqb a b)) (goes catalog set b && (goes catalog set a && requires_some catalog set these (serves catalog set b) a))
-                (ap (λ x. not (eqb x b) && (goes catalog set b && (goes catalog set x && requires_some catalog set these (serves catalog set b) x))) (sym same) ∙ one.1) in
-                let three = and_parts (goes catalog set b) (goes catalog set a && requires_some catalog set these (serves catalog set b) a) two.1 in
-                let four = and_parts (goes catalog set a) (requires_some catalog set these (serves catalog set b) a) three.1 in
+                let two = and_parts (not (eqb a b)) (goes catalog set b && (goes catalog set a && requires_some catalog set these (serves catalog b) a))
+                (ap (λ x. not (eqb x b) && (goes catalog set b && (goes catalog set x && requires_some catalog set these (serves catalog b) x))) (sym same) ∙ one.1) in
+                let three = and_parts (goes catalog set b) (goes catalog set a && requires_some catalog set these (serves catalog b) a) two.1 in
+                let four = and_parts (goes catalog set a) (requires_some catalog set these (serves catalog b) a) three.1 in
                 and_from (not (eqb a b)) (coming_edge catalog set these a b || going_edge catalog set these a b) two.0
                 (or_right (coming_edge catalog set these a b) (going_edge catalog set these a b)
-                (and_from (goes catalog set a) (goes catalog set b && requires_some catalog set these (serves catalog set b) a) four.0 (and_from (goes catalog set b) (requires_some catalog set these (serves catalog set b) a) three.0 four.1)))
+                (and_from (goes catalog set a) (goes catalog set b && requires_some catalog set these (serves catalog b) a) four.0 (and_from (goes catalog set b) (requires_some catalog set these (serves catalog b) a) three.0 four.1)))
           ]
 
       from : edge_by catalog set these a b ≡ true → list_any (λ x. owned_by catalog set these x a b) (packages catalog) ≡ true
@@ -279,13 +280,13 @@ module _ (catalog : Catalog) (set : ℕ → Bool) where
                 any_from (λ x. owned_by catalog set these x a b) (packages catalog) b (comes_pack catalog set b three.0)
                 (or_left _ _ (and_from (eqb b b) (comes catalog set a && (comes catalog set b && requires_some catalog set these (brings catalog set a b) b)) (eq-eqb b b refl) k))
             | inr k ↦
-                let two = and_parts (goes catalog set a) (goes catalog set b && requires_some catalog set these (serves catalog set b) a) k in
-                let three = and_parts (goes catalog set b) (requires_some catalog set these (serves catalog set b) a) two.1 in
+                let two = and_parts (goes catalog set a) (goes catalog set b && requires_some catalog set these (serves catalog b) a) k in
+                let three = and_parts (goes catalog set b) (requires_some catalog set these (serves catalog b) a) two.1 in
                 any_from (λ x. owned_by catalog set these x a b) (packages catalog) a (goes_pack catalog set a two.0)
                 (or_right (eqb a b && (comes catalog set a && (comes catalog set a && requires_some catalog set these (brings catalog set a a) a))) _
-                (and_from (eqb a a) (not (eqb a b) && (goes catalog set b && (goes catalog set a && requires_some catalog set these (serves catalog set b) a))) (eq-eqb a a refl)
-                (and_from (not (eqb a b)) (goes catalog set b && (goes catalog set a && requires_some catalog set these (serves catalog set b) a)) one.0
-                (and_from (goes catalog set b) (goes catalog set a && requires_some catalog set these (serves catalog set b) a) three.0 (and_from (goes catalog set a) (requires_some catalog set these (serves catalog set b) a) two.0 three.1)))))
+                (and_from (eqb a a) (not (eqb a b) && (goes catalog set b && (goes catalog set a && requires_some catalog set these (serves catalog b) a))) (eq-eqb a a refl)
+                (and_from (not (eqb a b)) (goes catalog set b && (goes catalog set a && requires_some catalog set these (serves catalog b) a)) one.0
+                (and_from (goes catalog set b) (goes catalog set a && requires_some catalog set these (serves catalog b) a) three.0 (and_from (goes catalog set a) (requires_some catalog set these (serves catalog b) a) two.0 three.1)))))
           ]
 
 -- what holds of an element by its place

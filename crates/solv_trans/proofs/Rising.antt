@@ -23,10 +23,3 @@ members_are catalog set are =
     let count = length catalog.universe.packages in
     sym (rising_is 0 (suc count) (suc count) set (omega arith) (rises_from 0 set are.rises (all_from_zero set))
     (weaker (λ x. nat_le x count) (λ x. nat_lt x (suc count)) set (λ x h. grind (arith, nat_tests, h)) are.within))
-
-pub holds_system : (set : List ℕ) → slice_get set 0 ≡ Some 0 → is_among set 0 ≡ true
-holds_system [] h = cc
-holds_system (x ∷ xs) h = let here : x ≡ 0 = ap (λ o. unwrap_or o x) h in rw here (first (is_among xs 0))
-  where
-    first : (b : Bool) → ((0 == 0) || b) ≡ true
-    first b = refl

@@ -13,7 +13,7 @@ use Rattle.solv_graph.specs.Inner.Graphs.{edge_to}
 use Rattle.solv_graph.specs.Inner.Orders.{part_of, late_of}
 use Rattle.solv_graph.specs.declared.orders.Turn.{Turn}
 use Rattle.solv_trans.specs.Moving.{comes, goes, is_part}
-use Rattle.solv_trans.specs.Edges.{brings, serves, requires_some, coming_edge, going_edge, edge, pre_edge}
+use Rattle.solv_trans.specs.Edges.{brings, requires_some, coming_edge, going_edge, edge, pre_edge}
 use Rattle.solv_trans.specs.Orders.{IsOrdered}
 use Rattle.solv_trans.specs.Inner.Joining.{is_marked, AreTurns, AreEdges}
 use Rattle.solv_trans.specs.declared.ordering.Ordered.{Ordered}
@@ -21,6 +21,7 @@ use Rattle.solv_trans.specs.declared.edges.Edges.{Edges}
 use Rattle.solv_trans.proofs.Asking.{part_is, late_is}
 use Rattle.solv_list.proofs.Booleans.{or_cases}
 use Rattle.solv_pool.proofs.Among.{among_passes}
+use Rattle.solv_pool.specs.Needs.{serves}
 
 -- some requirement asks where some of fewer do
 any_fewer : (these asks : Need → Bool) (ns : List Need) → list_any (λ n. these n && asks n) ns ≡ true → list_any asks ns ≡ true
@@ -50,13 +51,13 @@ module _ (catalog : Catalog) (set : ℕ → Bool) where
             (passes_fewer (λ x. list_any (λ n. n.pre && brings catalog set a b (dependency catalog n.dep)) x.requires_) (λ x. list_any (λ n. brings catalog set a b (dependency catalog n.dep)) x.requires_)
             (λ x. any_fewer (λ n. n.pre) (λ n. brings catalog set a b (dependency catalog n.dep)) x.requires_) (package_at catalog b) three.1)))
         | inr k ↦
-            let two = and_parts (goes catalog set a) (goes catalog set b && requires_some catalog set (λ need. need.pre) (serves catalog set b) a) k in
-            let three = and_parts (goes catalog set b) (requires_some catalog set (λ need. need.pre) (serves catalog set b) a) two.1 in
+            let two = and_parts (goes catalog set a) (goes catalog set b && requires_some catalog set (λ need. need.pre) (serves catalog b) a) k in
+            let three = and_parts (goes catalog set b) (requires_some catalog set (λ need. need.pre) (serves catalog b) a) two.1 in
             or_right (coming_edge catalog set (λ need. true) a b) (going_edge catalog set (λ need. true) a b)
-            (and_from (goes catalog set a) (goes catalog set b && requires_some catalog set (λ need. true) (serves catalog set b) a) two.0
-            (and_from (goes catalog set b) (requires_some catalog set (λ need. true) (serves catalog set b) a) three.0
-            (passes_fewer (λ x. list_any (λ n. n.pre && serves catalog set b (dependency catalog n.dep)) x.requires_) (λ x. list_any (λ n. serves catalog set b (dependency catalog n.dep)) x.requires_)
-            (λ x. any_fewer (λ n. n.pre) (λ n. serves catalog set b (dependency catalog n.dep)) x.requires_) (package_at catalog a) three.1)))
+            (and_from (goes catalog set a) (goes catalog set b && requires_some catalog set (λ need. true) (serves catalog b) a) two.0
+            (and_from (goes catalog set b) (requires_some catalog set (λ need. true) (serves catalog b) a) three.0
+            (passes_fewer (λ x. list_any (λ n. n.pre && serves catalog b (dependency catalog n.dep)) x.requires_) (λ x. list_any (λ n. serves catalog b (dependency catalog n.dep)) x.requires_)
+            (λ x. any_fewer (λ n. n.pre) (λ n. serves catalog b (dependency catalog n.dep)) x.requires_) (package_at catalog a) three.1)))
       ])
 
   -- edges join parts
@@ -69,8 +70,8 @@ module _ (catalog : Catalog) (set : ℕ → Bool) where
             let three = and_parts (comes catalog set b) (requires_some catalog set (λ need. true) (brings catalog set a b) b) two.1 in
             (or_left (comes catalog set a) (goes catalog set a) two.0, or_left (comes catalog set b) (goes catalog set b) three.0)
         | inr k ↦
-            let two = and_parts (goes catalog set a) (goes catalog set b && requires_some catalog set (λ need. true) (serves catalog set b) a) k in
-            let three = and_parts (goes catalog set b) (requires_some catalog set (λ need. true) (serves catalog set b) a) two.1 in
+            let two = and_parts (goes catalog set a) (goes catalog set b && requires_some catalog set (λ need. true) (serves catalog b) a) k in
+            let three = and_parts (goes catalog set b) (requires_some catalog set (λ need. true) (serves catalog b) a) two.1 in
             (or_right (comes catalog set a) (goes catalog set a) two.0, or_right (comes catalog set b) (goes catalog set b) three.0)
       ]
 

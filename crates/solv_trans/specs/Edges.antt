@@ -6,6 +6,7 @@ use Rattle.solv_pool.specs.Words.{passes}
 use Rattle.solv_pool.specs.Catalog.{Catalog, packages, package_at, dependency}
 use Rattle.solv_pool.specs.Holding.{package_meets}
 use Rattle.solv_pool.specs.Parts.{parts}
+use Rattle.solv_pool.specs.Needs.{serves}
 use Rattle.solv_pool.specs.declared.packages.Need.{Need}
 use Rattle.solv_trans.specs.Moving.{comes, goes, is_kept}
 
@@ -18,10 +19,6 @@ module _ (catalog : Catalog) (set : ℕ → Bool) where
   abbrev pub brings : ℕ → ℕ → Dep ℕ → Bool
   brings q p d = list_any (λ part. package_meets catalog part q && not (is_met_already p part)) (parts d)
 
-  -- q meets a part of the dependency
-  abbrev pub serves : ℕ → Dep ℕ → Bool
-  serves q d = list_any (λ part. package_meets catalog part q) (parts d)
-
   -- one of these requirements of p asks for it
   abbrev pub requires_some : (Need → Bool) → (Dep ℕ → Bool) → ℕ → Bool
   requires_some these asks p = passes (package_at catalog p) (λ a. list_any (λ need. these need && asks (dependency catalog need.dep)) a.requires_)
@@ -32,7 +29,7 @@ module _ (catalog : Catalog) (set : ℕ → Bool) where
 
   -- both go, and q serves what p requires
   abbrev pub going_edge : (Need → Bool) → ℕ → ℕ → Bool
-  going_edge these p q = goes catalog set p && (goes catalog set q && requires_some these (serves q) p)
+  going_edge these p q = goes catalog set p && (goes catalog set q && requires_some these (serves catalog q) p)
 
   -- the first comes before the second, by one of these requirements
   abbrev pub edge_by : (Need → Bool) → ℕ → ℕ → Bool

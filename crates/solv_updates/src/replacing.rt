@@ -1,21 +1,24 @@
 //! What may take the place of an installed package.
-ghost use Rattle.std.specs.Prelude.{◌≡◌, ◌&&◌, ◌||◌, ◌==◌, not, true, filter, length, IfOk, OnOk};
-ghost use Rattle.std.specs.List.{list_all};
+ghost use Rattle.std.specs.Prelude.{ℕ, List, ◌≡◌, ◌&&◌, ◌||◌, ◌==◌, not, true, filter, length, IfOk, OnOk};
+ghost use Rattle.std.specs.List.{list_any, list_all};
 ghost use Rattle.solv_pool.specs.Belonging.{IsOver};
 ghost use Rattle.solv_pool.specs.Catalog.{catalog_of, packages, is_installed, same_name};
-ghost use Rattle.solv_pool.specs.HardRules.{update_candidates, feature_candidates};
+ghost use Rattle.solv_pool.specs.Best.{top_priority};
+ghost use Rattle.solv_pool.specs.HardRules.{update_candidates, feature_candidates, successors};
 ghost use Rattle.solv_pool.specs.Installable.{is_installable};
 ghost use Rattle.solv_pool.specs.Providing.{obsoletes};
 ghost use Rattle.solv_pool.specs.TaskBelonging.{is_pack};
-ghost use Rattle.solv_pool.specs.Updates.{coexist, is_feature, is_legal, flags_allow, feature_set, legal_set};
+ghost use Rattle.solv_pool.specs.Updates.{coexist, is_feature, is_legal, flags_allow, feature_set, is_equal_to, is_on_top, may_stay, dup_set};
+ghost use Rattle.solv_pool.specs.Inner.Updates.{legal_set};
 ghost use Rattle.solv_prov.specs.Index.{IsIndexOf};
 ghost use Rattle.solv_jobs.specs.Marking.{HasMarks};
 ghost use Rattle.solv_policy.specs.Inner.Candidates.{IsPlace};
 ghost use Rattle.solv_updates.specs.Inner.Replacing.{is_near, is_wanted, is_candidate};
 
-use crate::comparing::{coexist, flags_allow, package};
+use crate::comparing::{coexist, flags_allow, is_equal_to, package};
 use crate::ready::Ready;
 use solv_jobs::put_in_order;
+use solv_policy::{priority_of, top_priority};
 use solv_pool::{Marks, PackNo, Task};
 use solv_prov::Providers;
 use std::alloc::{AllocError, Global};
@@ -188,4 +191,98 @@ pub fn update_candidates(
         every_change: false,
     };
     candidates(alloc, &ready, &wanted, pack)
+}
+
+/// Whether a package has the greatest priority of a list.
+fn is_on_top(task: &Task, top: Option<i32>, pack: PackNo) -> bool
+    requires over { IsOver task.now.pool task.now.universe }
+    requires pack { IsPlace task.now pack }
+    ensures { (list : List ℕ) → top ≡ top_priority (catalog_of task.now) list → result ≡ is_on_top (catalog_of task.now) list pack }
+{
+    match top {
+        Some(top) => priority_of(task, pack) == top,
+        None => false,
+    }
+}
+
+/// Whether a package is the equal of another, and has the greatest priority of a list.
+fn is_equal_on_top(task: &Task, top: Option<i32>, pack: PackNo, other: PackNo) -> bool
+    requires over { IsOver task.now.pool task.now.universe }
+    requires pack { IsPlace task.now pack }
+    requires other { IsPlace task.now other }
+    ensures { (list : List ℕ) → top ≡ top_priority (catalog_of task.now) list → result ≡ (is_on_top (catalog_of task.now) list other && is_equal_to (catalog_of task.now) pack other) }
+{
+    is_on_top(task, top, other) && is_equal_to(task, pack, other)
+}
+
+/// Whether the equal of a package is among these and has the greatest priority of them.
+fn has_equal_on_top(task: &Task, pack: PackNo, packs: &[PackNo]) -> bool
+    requires over { IsOver task.now.pool task.now.universe }
+    requires pack { IsPlace task.now pack }
+    requires within { list_all (is_pack (length task.now.universe.packages)) packs.now ≡ true }
+    ensures { result ≡ list_any (λ q. is_on_top (catalog_of task.now) packs.now q && is_equal_to (catalog_of task.now) pack q) packs.now }
+{
+    let top = top_priority(task, packs);
+    for other in packs {
+        if is_equal_on_top(task, top, pack, *other) {
+            return true;
+        }
+    }
+    false
+}
+
+/// Whether a package may stay in a distribution upgrade, where these may take its place.
+fn may_stay(task: &Task, pack: PackNo, packs: &[PackNo]) -> bool
+    requires over { IsOver task.now.pool task.now.universe }
+    requires pack { IsPlace task.now pack }
+    requires within { list_all (is_pack (length task.now.universe.packages)) packs.now ≡ true }
+    ensures { result ≡ ((length packs.now == 0) || list_any (λ q. is_on_top (catalog_of task.now) packs.now q && is_equal_to (catalog_of task.now) pack q) packs.now) }
+{
+    packs.is_empty() || has_equal_on_top(task, pack, packs)
+}
+
+/// What a distribution upgrade puts in the place of a package, ascending: whatever may take it were every change allowed,
+/// and the package itself where that is nothing, or its equal has the greatest priority of all that may.
+pub fn dup(
+    alloc: Global,
+    task: &Task,
+    prov: &Providers,
+    marks: &Marks,
+    pack: PackNo,
+) -> Result<Vec<PackNo>, AllocError>
+    requires index { IsIndexOf prov.now (catalog_of task.now) }
+    requires over { IsOver task.now.pool task.now.universe }
+    requires marks { HasMarks (length task.now.universe.packages) marks.now }
+    requires pack { IsPlace task.now pack }
+    ensures { IfOk result (λ made. made.items ≡ dup_set (catalog_of task.now) marks.now pack) }
+{
+    let features = feature(alloc, task, prov, marks, pack)?;
+    if !may_stay(task, pack, &features) {
+        return Ok(features);
+    }
+    let made = feature_candidates(alloc, task, prov, marks, pack)?;
+    Ok(made)
+}
+
+/// What a package is held to, ascending: what a distribution upgrade puts in its place, where it is marked for one, else itself
+/// and those that may take its place.
+pub fn successors(
+    alloc: Global,
+    task: &Task,
+    prov: &Providers,
+    marks: &Marks,
+    pack: PackNo,
+) -> Result<Vec<PackNo>, AllocError>
+    requires index { IsIndexOf prov.now (catalog_of task.now) }
+    requires over { IsOver task.now.pool task.now.universe }
+    requires marks { HasMarks (length task.now.universe.packages) marks.now }
+    requires pack { IsPlace task.now pack }
+    ensures { IfOk result (λ made. made.items ≡ successors (catalog_of task.now) task.now.flags marks.now pack) }
+{
+    let moves = marks.dup.held()[pack.0 as usize];
+    if moves {
+        dup(alloc, task, prov, marks, pack)
+    } else {
+        update_candidates(alloc, task, prov, marks, pack)
+    }
 }

@@ -4,8 +4,7 @@ use Rattle.std.proofs.Common.{subst}
 use Rattle.solv_trail.specs.Inner.Asked.{KeepsLaw}
 use Rattle.solv_trail.specs.Asked.{enabled_clauses}
 use Rattle.solv_plan.specs.Inner.Plans.{plan_asks}
-use Rattle.solv_decide.specs.Deciding.{Asker}
-use Rattle.solv_decide.specs.Inner.Deciding.{IsLawful}
+use Rattle.solv_decide.specs.Inner.Deciding.{Asker, IsLawful}
 
 pub lawful : (asker : Asker) (count : ℕ) (clauses : List (List ℤ)) (owners : List ℕ) (enabled : List Bool) → IsLawful asker clauses owners → asker.packages ≡ count
     → KeepsLaw count (enabled_clauses enabled clauses owners) (λ known. plan_asks asker.plan known enabled)

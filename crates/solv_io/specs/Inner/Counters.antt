@@ -1,7 +1,7 @@
 -- How calls of the outside end, and what counts them.
 use Rattle.std.specs.Prelude.{ℕ, ◌≡◌, ◌+◌, ◌==◌, min, Bool, true, false, List, ⊤}
 use Rattle.std.specs.List.{list_any}
-use Rattle.solv_io.specs.Counters.{last, Rose}
+use Rattle.solv_io.specs.Counters.{last, Ending, Answered, Failing, NoMemory}
 
 -- a counter after one more
 abbrev pub counted : ℕ → ℕ
@@ -10,18 +10,6 @@ counted n = min (n + 1) last
 -- the next call is one of those, by their numbers from 1, that are to fail
 abbrev pub next_fails : List ℕ → ℕ → Bool
 next_fails fails calls = list_any (λ number. number == counted calls) fails
-
--- how a call of the outside ends: with its answer, with a failure, or without memory
-pub data Ending : Type 0 where
-  Answered : Ending
-  Failing : Ending
-  NoMemory : Ending
-
--- the count of faults rises in a call that fails, and stays in every other
-abbrev pub CountsFaults : Ending → ℕ → ℕ → Type 0
-CountsFaults Answered old new = new ≡ old
-CountsFaults Failing old new = Rose old new
-CountsFaults NoMemory old new = new ≡ old
 
 -- the count of calls: a call that ends without memory has no number
 abbrev pub calls_after : Ending → ℕ → ℕ

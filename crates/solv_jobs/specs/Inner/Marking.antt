@@ -3,7 +3,8 @@ use Rattle.std.specs.Prelude.{ℕ, ℤ, pos, negsuc, Bool, true, false, not, ◌
 use Rattle.std.specs.Option.{option_map_or}
 use Rattle.solv_pool.specs.Catalog.{Catalog, is_installed}
 use Rattle.solv_pool.specs.Selections.{selection}
-use Rattle.solv_pool.specs.JobMarks.{is_update, is_verify, is_multiversion, is_allow_uninstall, is_erase, job_selects, job_selects_installed}
+use Rattle.solv_pool.specs.JobKinds.{is_install, is_user_installed, is_cleaning, is_update, is_distupgrade, is_verify, is_multiversion, is_allow_uninstall, is_erase, job_selects, job_selects_installed}
+use Rattle.solv_pool.specs.Cleaning.{is_given_up}
 use Rattle.solv_pool.specs.declared.jobs.Job.{Job}
 use Rattle.solv_pool.specs.declared.jobs.Action.{Action}
 use Rattle.solv_pool.specs.declared.jobs.Action.TheVariants.{Favor, Disfavor}
@@ -16,20 +17,28 @@ with_values x [] table = table
 with_values x (p ∷ ps) table = with_values x ps (slice_set table p x)
 
 -- the jobs that make a mark
-abbrev pub makes : Mark → Action → Bool
-makes mark.Update = is_update
-makes mark.Verify = is_verify
-makes mark.Multiversion = is_multiversion
-makes mark.AllowUninstall = is_allow_uninstall
-makes mark.Erased = is_erase
+abbrev pub makes : Mark → Job → Bool
+makes mark.Update job = is_update job.action
+makes mark.Dup job = is_distupgrade job.action
+makes mark.Verify job = is_verify job.action
+makes mark.Multiversion job = is_multiversion job.action
+makes mark.AllowUninstall job = is_allow_uninstall job.action
+makes mark.Erased job = is_erase job.action
+makes mark.Asked job = is_install job.action
+makes mark.UserInstalled job = is_user_installed job.action
+makes mark.GivenUp job = is_cleaning job
 
 -- the mark is one of installed packages alone
 abbrev pub is_of_installed : Mark → Bool
 is_of_installed mark.Update = true
+is_of_installed mark.Dup = true
 is_of_installed mark.Verify = true
 is_of_installed mark.Multiversion = false
 is_of_installed mark.AllowUninstall = true
 is_of_installed mark.Erased = false
+is_of_installed mark.Asked = false
+is_of_installed mark.UserInstalled = true
+is_of_installed mark.GivenUp = true
 
 module _ (catalog : Catalog) (m : Mark) where
   -- p may bear the mark
@@ -38,7 +47,7 @@ module _ (catalog : Catalog) (m : Mark) where
 
   -- the table of a mark after one job, and after these jobs in order
   abbrev pub with_job : Job → List Bool → List Bool
-  with_job job table = if makes m job.action then with_values true (filter may_bear (selection catalog job.choice)) table else table
+  with_job job table = if makes m job then with_values true (filter may_bear (selection catalog job.choice)) table else table
 
   abbrev pub with_jobs : List Job → List Bool → List Bool
   with_jobs [] table = table
@@ -48,10 +57,14 @@ module _ (catalog : Catalog) (jobs : List Job) where
   -- who bears a mark
   abbrev pub bears : Mark → ℕ → Bool
   bears mark.Update = job_selects_installed catalog jobs is_update
+  bears mark.Dup = job_selects_installed catalog jobs is_distupgrade
   bears mark.Verify = job_selects_installed catalog jobs is_verify
   bears mark.Multiversion = job_selects catalog jobs is_multiversion
   bears mark.AllowUninstall = job_selects_installed catalog jobs is_allow_uninstall
   bears mark.Erased = job_selects catalog jobs is_erase
+  bears mark.Asked = job_selects catalog jobs is_install
+  bears mark.UserInstalled = job_selects_installed catalog jobs is_user_installed
+  bears mark.GivenUp = is_given_up catalog jobs
 
 -- the favour that a job gives
 abbrev pub favour_given : Action → Option ℤ

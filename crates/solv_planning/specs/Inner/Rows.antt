@@ -2,10 +2,10 @@
 use Rattle.std.specs.Prelude.{ℕ, Bool, not, ◌&&◌, List, [], ◌∷◌, ◌++◌}
 use Rattle.solv_pool.specs.Words.{when}
 use Rattle.solv_pool.specs.Catalog.{Catalog, is_installed}
-use Rattle.solv_pool.specs.JobMarks.{marked}
+use Rattle.solv_pool.specs.JobMarks.{marked, is_to_move}
 use Rattle.solv_pool.specs.RuleMeaning.{HardRule, req, rich_con}
 use Rattle.solv_questions.specs.Questions.{Request, is_update_of, is_feature_of, close_candidates, far_candidates}
-use Rattle.solv_plan.specs.PlanOf.{want_of, conflict_of, best_job_demand, job_demand, best_update_demand}
+use Rattle.solv_plan.specs.Inner.PlanOf.{want_of, conflict_of, best_job_demand, job_demand, best_update_demand}
 use Rattle.solv_plan.specs.declared.plans.Keep.{Keep}
 use Rattle.solv_plan.specs.declared.plans.Want.{Want}
 use Rattle.solv_planning.specs.declared.demands.JobDemands.{JobDemands}
@@ -46,6 +46,7 @@ keep_with r row = record {
   pack = row.pack;
   best = row.best;
   is_asked = not (marked r.marks.erased row.pack);
+  dup = marked r.marks.dup row.pack;
   updates = row.updates;
   features = row.features;
   close = close_candidates r.catalog r.flags r.marks row.pack;
@@ -53,10 +54,10 @@ keep_with r row = record {
 }
 
 module _ (r : Request) where
-  -- p is installed and marked for update
+  -- p is installed and marked to move
   abbrev pub is_marked : ℕ → Bool
-  is_marked p = is_installed r.catalog p && marked r.marks.update p
+  is_marked p = is_installed r.catalog p && is_to_move r.marks p
 
-  -- p is installed and not marked for update
+  -- p is installed and not marked to move
   abbrev pub is_other : ℕ → Bool
-  is_other p = is_installed r.catalog p && not (marked r.marks.update p)
+  is_other p = is_installed r.catalog p && not (is_to_move r.marks p)

@@ -4,12 +4,13 @@ use Rattle.std.specs.List.{list_any}
 use Rattle.solv_pool.specs.Catalog.{Catalog, package_at, dependency}
 use Rattle.solv_pool.specs.Words.{passes}
 use Rattle.solv_pool.specs.declared.packages.Need.{Need}
+use Rattle.solv_pool.specs.Needs.{serves}
 use Rattle.solv_graph.specs.Inner.Graphs.{edge_to}
 use Rattle.solv_graph.specs.Inner.Orders.{turn_at, part_of, late_of}
 use Rattle.solv_graph.specs.declared.orders.Turn.{Turn}
 use Rattle.solv_graph.specs.declared.orders.Turn.TheVariants.{Never, Early, Late}
 use Rattle.solv_trans.specs.Moving.{comes, goes, is_kept}
-use Rattle.solv_trans.specs.Edges.{brings, serves, requires_some, edge, pre_edge}
+use Rattle.solv_trans.specs.Edges.{brings, requires_some, edge, pre_edge}
 use Rattle.solv_trans.specs.declared.edges.Edges.{Edges}
 
 -- which numbers a table marks
@@ -61,12 +62,12 @@ abbrev pub to_coming : Catalog → (ℕ → Bool) → ℕ → (Need → Bool) �
 to_coming catalog set p these need a b = these need && (p == b && (comes catalog set a && brings catalog set a p (dependency catalog need.dep)))
 
 abbrev pub from_going : Catalog → (ℕ → Bool) → ℕ → (Need → Bool) → Need → ℕ → ℕ → Bool
-from_going catalog set p these need a b = these need && (p == a && (not (p == b) && (goes catalog set b && serves catalog set b (dependency catalog need.dep))))
+from_going catalog set p these need a b = these need && (p == a && (not (p == b) && (goes catalog set b && serves catalog b (dependency catalog need.dep))))
 
 abbrev pub owned_by : Catalog → (ℕ → Bool) → (Need → Bool) → ℕ → ℕ → ℕ → Bool
 owned_by catalog set these p a b =
     (p == b && (comes catalog set a && (comes catalog set p && requires_some catalog set these (brings catalog set a p) p)))
-    || (p == a && (not (p == b) && (goes catalog set b && (goes catalog set p && requires_some catalog set these (serves catalog set b) p))))
+    || (p == a && (not (p == b) && (goes catalog set b && (goes catalog set p && requires_some catalog set these (serves catalog b) p))))
 
 -- both graphs tell the edges of a set
 pub record AreEdges (catalog : Catalog) (set : ℕ → Bool) (edges : Edges) : Type 0 where

@@ -6,7 +6,16 @@ use Rattle.solv_derive.specs.Range.{steps_over}
 use Rattle.solv_derive.specs.declared.logs.Hint.{Hint}
 use Rattle.solv_derive.specs.declared.logs.Hint.TheVariants as hint
 use Rattle.solv_derive.specs.declared.logs.Step.{Step}
-use Rattle.solv_trimming.specs.Trimming.{hints_at, is_trimmed, IsRestedOn}
+use Rattle.solv_trimming.specs.Trimming.{hints_at, is_trimmed}
+
+-- a later step in use rests on the step of this number
+pub record IsRestedOn (steps : List Step) (used : ℕ → Bool) (n : ℕ) : Type 0 where
+  pub by : ℕ
+  pub step : Step
+  pub later : n < by
+  pub there : slice_get steps by ≡ Some step
+  pub on : used by ≡ true
+  pub hinted : hints_at n step.hints ≡ true
 
 -- of the elements of a list, whose first has this number, those that are in use
 abbrev pub in_use_from : {A : Type 0} → (ℕ → Bool) → ℕ → List A → List A

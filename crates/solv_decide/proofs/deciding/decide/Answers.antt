@@ -9,7 +9,7 @@ use Rattle.solv_core.specs.Ledgers.{IsGoodLedger}
 use Rattle.solv_core.specs.Inner.Ledgers.{run_of}
 use Rattle.solv_rules.specs.Books.{read_rules}
 use Rattle.solv_questions.specs.Questions.{Request, request_of, asks}
-use Rattle.solv_decide.specs.Deciding.{Asker, IsAskedFor, IsDecided}
+use Rattle.solv_decide.specs.Inner.Deciding.{Asker, IsAskedFor, IsDecided}
 use Rattle.solv_decide.proofs.Whole.{asked_for, owners_fit, clauses_over, length_read}
 use Rattle.solv_decide.proofs.deciding.decide.Goals as goal
 

@@ -5,13 +5,13 @@ use Rattle.solv_pool.specs.Catalog.{catalog_of}
 use Rattle.solv_pool.specs.TaskBelonging.{is_pack}
 use Rattle.solv_pool.specs.Updates.{is_feature}
 use Rattle.solv_pool.specs.Words.{is_among}
-use Rattle.solv_planning.proofs.Packs.{packs_of}
+use Rattle.solv_policy.proofs.Places.{packs_of}
 use Rattle.solv_planning.proofs.keeps.far_candidates.Goals as goal
 use Rattle.solv_list.proofs.Lists.{list_all_filter}
 
 pub in_order-requires-clause-within : goal.in_order-requires-clause-within
 in_order-requires-clause-within c =
     ap (λ t. list_all (is_pack (length c.args.task.now.universe.packages)) t) (c.deref-2.ensures.value ∙ c.in_ok-rest.ensures)
-    ∙ list_all_filter (is_pack (length c.args.task.now.universe.packages)) (λ q. not (is_among c.args.updates.now q)) c.deref.result.now
+    ∙ list_all_filter (is_pack (length c.args.task.now.universe.packages)) (λ q. not (is_among c.args.close.now q)) c.deref.result.now
     (ap (λ t. list_all (is_pack (length c.args.task.now.universe.packages)) t) (c.deref.ensures.value ∙ c.in_ok-features.ensures)
     ∙ packs_of (catalog_of c.args.task.now) (λ q. (q == c.args.pack) || is_feature (catalog_of c.args.task.now) c.args.marks.now c.args.pack q))

@@ -9,7 +9,8 @@ use Rattle.solv_trans.specs.Effects.{is_brought, after}
 use Rattle.solv_trans.specs.Inner.Joining.{is_marked}
 use Rattle.solv_trans.proofs.Same.{made_is}
 use Rattle.solv_trans.proofs.Restored.{after_is}
-use Rattle.solv_trans.proofs.Rising.{members_are, holds_system}
+use Rattle.solv_trans.proofs.Rising.{members_are}
+use Rattle.solv_pool.proofs.Among.{holds_system}
 use Rattle.solv_trans.proofs.transactions.transaction.Goals as goal
 
 pub returns-clause-exact : goal.returns-clause-exact

@@ -1,0 +1,12 @@
+pub mod Lists
+pub mod Found
+pub mod Added
+pub mod Served
+pub mod Passed
+pub mod Joined
+pub mod Walked
+pub mod Below
+pub mod Told
+pub mod Gone
+pub mod Named
+pub mod Asked

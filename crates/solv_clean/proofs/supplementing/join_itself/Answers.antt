@@ -1,0 +1,7 @@
+use Rattle.solv_pool.specs.Catalog.{catalog_of}
+use Rattle.solv_clean.proofs.supplementing.join_itself.Goals as goal
+
+pub returns : goal.returns
+returns c =
+    let exact = c.of.ensures.exact (catalog_of c.args.task.now) c.requires.index in
+    rw (exact, c.vertex_of-to.ensures) at c.in_ok-join_all_from.ensures

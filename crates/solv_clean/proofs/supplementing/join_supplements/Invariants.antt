@@ -1,0 +1,9 @@
+use Rattle.std.proofs.Common.{◌≡◌, ℕ, true, take}
+use Rattle.solv_pool.specs.Words.{is_among}
+use Rattle.solv_pool.specs.Catalog.{catalog_of}
+use Rattle.solv_clean.specs.Inner.Holding.{AreKnown}
+use Rattle.solv_clean.specs.Inner.Joining.{Grows, AreJoined, LeadByOne}
+use Rattle.solv_clean.proofs.supplementing.join_supplements.Given as goal
+
+abbrev pub invariant-loop-dep : goal.invariant-loop-dep
+invariant-loop-dep l = (AreKnown (catalog_of l.task) l.in_set l.known) × (Grows l.initial.graph l.graph) × (AreJoined (catalog_of l.task) l.in_set l.passed l.graph) × ((id : ℕ) → is_among (take l.dep-index l.deps) id ≡ true → LeadByOne (catalog_of l.task) l.in_set l.graph l.pack id)

@@ -1,0 +1,141 @@
+//! Whether a dependency holds in a set.
+ghost use Rattle.std.specs.Prelude.{ℕ, Bool, ◌≡◌, ◌<◌, ◌+◌, ◌⊎◌, Some, None, length, slice_index_or};
+ghost use Rattle.std.specs.List.{list_any};
+ghost use Rattle.solv_pool.specs.Catalog.{catalog_of, dependency};
+ghost use Rattle.solv_pool.specs.Holding.{holds, member_meets};
+ghost use Rattle.solv_prov.specs.Index.{IsIndexOf};
+ghost use Rattle.solv_clean.specs.Inner.Tables.{is_marked};
+ghost use Rattle.solv_clean.specs.Inner.Holding.{AreKnown};
+
+use solv_base::{DepId, DepNode};
+use solv_pool::{PackNo, Task};
+use solv_prov::Providers;
+
+/// Whether a package is in the set. One without an entry is not.
+pub(crate) fn is_in(in_set: &[bool], pack: PackNo) -> bool
+    ensures { result ≡ is_marked in_set.now pack }
+{
+    let place = pack.0 as usize;
+    place < in_set.len() && in_set[place]
+}
+
+/// Whether one of these packages is in the set.
+fn has_one(in_set: &[bool], packs: &[PackNo]) -> bool
+    ensures { result ≡ list_any (is_marked in_set.now) packs.now }
+{
+    for pack in packs {
+        if is_in(in_set, *pack) {
+            return true;
+        }
+    }
+    false
+}
+
+/// Whether a member of the set meets a relation alone.
+fn is_met(task: &Task, prov: &Providers, in_set: &[bool], dep: DepId) -> bool
+    requires index { IsIndexOf prov.now (catalog_of task.now) }
+    requires held { dep < length task.now.pool.nodes }
+    ensures { result ≡ member_meets (catalog_of task.now) (dependency (catalog_of task.now) dep) (is_marked in_set.now) }
+{
+    let _pool = &task.pool;
+    has_one(in_set, prov.of(dep))
+}
+
+/// What is known of a relation. Of one without an entry nothing is.
+fn known_of(known: &[Option<bool>], dep: DepId) -> Option<bool>
+    ensures { result ≡ slice_index_or known.now dep None }
+{
+    match known.get(dep.0 as usize) {
+        Some(held) => *held,
+        None => None,
+    }
+}
+
+/// Notes whether a relation holds. One that has no entry is left out.
+fn note_known(known: &mut [Option<bool>], dep: DepId, held: bool)
+    ensures { (id : ℕ) (b : Bool) → slice_index_or known.new id None ≡ Some b → (slice_index_or known.old id None ≡ Some b) ⊎ ((id ≡ dep) × (b ≡ held)) }
+{
+    let place = dep.0 as usize;
+    if place < known.len() {
+        known[place] = Some(held);
+    }
+}
+
+/// Whether a dependency holds in the set, of which nothing is known.
+#[cycle(holding)]
+fn holds_anew(
+    task: &Task,
+    prov: &Providers,
+    in_set: &[bool],
+    dep: DepId,
+    known: &mut [Option<bool>],
+) -> bool
+    requires index { IsIndexOf prov.now (catalog_of task.now) }
+    requires held { dep < length task.now.pool.nodes }
+    requires known { AreKnown (catalog_of task.now) in_set.now known.old }
+    ensures holds { result ≡ holds (catalog_of task.now) (dependency (catalog_of task.now) dep) (is_marked in_set.now) }
+    ensures known { AreKnown (catalog_of task.now) in_set.now known.new }
+{
+    match task.pool.dep(dep) {
+        DepNode::And(a, b) => {
+            let first = holds(task, prov, in_set, a, known);
+            let second = holds(task, prov, in_set, b, known);
+            first && second
+        }
+        DepNode::Or(a, b) => {
+            let first = holds(task, prov, in_set, a, known);
+            let second = holds(task, prov, in_set, b, known);
+            first || second
+        }
+        DepNode::If(a, b) => {
+            let first = holds(task, prov, in_set, a, known);
+            let given = holds(task, prov, in_set, b, known);
+            first || !given
+        }
+        DepNode::Unless(a, b) => {
+            let first = holds(task, prov, in_set, a, known);
+            let given = holds(task, prov, in_set, b, known);
+            first && !given
+        }
+        DepNode::IfElse(a, b, c) => {
+            let first = holds(task, prov, in_set, a, known);
+            let given = holds(task, prov, in_set, b, known);
+            let last = holds(task, prov, in_set, c, known);
+            if given { first } else { last }
+        }
+        DepNode::UnlessElse(a, b, c) => {
+            let first = holds(task, prov, in_set, a, known);
+            let given = holds(task, prov, in_set, b, known);
+            let last = holds(task, prov, in_set, c, known);
+            if given { last } else { first }
+        }
+        DepNode::Simple(_) => is_met(task, prov, in_set, dep),
+        DepNode::Versioned(_, _, _) => is_met(task, prov, in_set, dep),
+        DepNode::Namespace(_) => is_met(task, prov, in_set, dep),
+        DepNode::With(_, _) => is_met(task, prov, in_set, dep),
+        DepNode::Without(_, _) => is_met(task, prov, in_set, dep),
+    }
+}
+
+/// Whether a dependency holds in the set. What is found out of a relation is noted, so each is gone through once.
+#[cycle(holding)]
+pub(crate) fn holds(
+    task: &Task,
+    prov: &Providers,
+    in_set: &[bool],
+    dep: DepId,
+    known: &mut [Option<bool>],
+) -> bool
+    requires index { IsIndexOf prov.now (catalog_of task.now) }
+    requires held { dep < length task.now.pool.nodes }
+    requires known { AreKnown (catalog_of task.now) in_set.now known.old }
+    ensures holds { result ≡ holds (catalog_of task.now) (dependency (catalog_of task.now) dep) (is_marked in_set.now) }
+    ensures known { AreKnown (catalog_of task.now) in_set.now known.new }
+{
+    if let Some(held) = known_of(known, dep) {
+        return held;
+    }
+    let held = holds_anew(task, prov, in_set, dep, known);
+    note_known(known, dep, held);
+    held
+}

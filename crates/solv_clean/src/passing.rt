@@ -1,0 +1,24 @@
+//! Relations that were gone through.
+ghost use Rattle.std.specs.Prelude.{ℕ, ◌≡◌, ◌<◌, ◌||◌, ◌==◌, length};
+ghost use Rattle.solv_clean.specs.Inner.Tables.{is_marked};
+
+use solv_base::DepId;
+
+/// Whether a relation was gone through. One without an entry was not.
+pub(crate) fn was_passed(passed: &[bool], dep: DepId) -> bool
+    ensures { result ≡ is_marked passed.now dep }
+{
+    let place = dep.0 as usize;
+    place < passed.len() && passed[place]
+}
+
+/// Notes that a relation was gone through. One that has no entry is left out.
+pub(crate) fn note_passed(passed: &mut [bool], dep: DepId)
+    ensures size { length passed.new ≡ length passed.old }
+    ensures noted { (id : ℕ) → id < length passed.old → is_marked passed.new id ≡ (is_marked passed.old id || (dep == id)) }
+{
+    let place = dep.0 as usize;
+    if place < passed.len() {
+        passed[place] = true;
+    }
+}

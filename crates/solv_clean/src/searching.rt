@@ -1,0 +1,163 @@
+//! Where walks lead.
+ghost use Rattle.std.specs.Prelude.{ℕ, ◌≡◌, ◌≤◌, ◌<◌, ◌+◌, true, false, length, IfOk, OnOk};
+ghost use Rattle.solv_pool.specs.Catalog.{catalog_of};
+ghost use Rattle.solv_pool.specs.Cleaning.{needed_from};
+ghost use Rattle.solv_pool.specs.Words.{is_among};
+ghost use Rattle.solv_clean.specs.Inner.Tables.{is_marked, IsWithRelations};
+ghost use Rattle.solv_clean.specs.Inner.Finding.{ArePassed, serving, next_to};
+ghost use Rattle.solv_clean.specs.Inner.Joining.{AreSupplements};
+ghost use Rattle.solv_clean.specs.Inner.Searching.{HasBegun, edge_in, IsFound};
+ghost use Rattle.solv_clean.specs.Inner.Readiness.{IsReady};
+
+use crate::finding::{mark_all, mark_needed};
+use crate::supplementing::supplements_in;
+use crate::tables::table_with_relations;
+use solv_graph::{Graph, reached_is_where_walks_lead};
+use solv_pool::{PackNo, Task};
+use solv_prov::Providers;
+use std::alloc::{AllocError, Global};
+
+/// Marks these members of the set, and lists them.
+fn begin(
+    may: &[bool],
+    starts: &[PackNo],
+    marks: &mut [bool],
+    found: &mut Vec<u32>,
+) -> Result<(), AllocError>
+    requires size { length marks.old ≡ length may.now }
+    requires none { (q : ℕ) → is_marked marks.old q ≡ false }
+    requires inside { (q : ℕ) → is_among starts.now q ≡ true → is_marked may.now q ≡ true }
+    ensures { OnOk result (HasBegun may.now starts.now marks.new found.new.items) }
+{
+    found.clear();
+    mark_all(may, starts, marks, found)?;
+    Ok(())
+}
+
+/// Looks at each vertex that was found, and finds what is next to it.
+fn go_on(
+    task: &Task,
+    prov: &Providers,
+    in_set: &[bool],
+    may: &[bool],
+    supplements: &Graph,
+    starts: &[PackNo],
+    passed: &mut [bool],
+    marks: &mut [bool],
+    found: &mut Vec<u32>,
+) -> Result<(), AllocError>
+    requires ready { IsReady task.now prov.now }
+    requires each { length in_set.now ≡ length task.now.universe.packages + 1 }
+    requires may { IsWithRelations in_set.now (length task.now.pool.nodes) may.now }
+    requires passed { ArePassed (serving (catalog_of task.now)) in_set.now passed.old marks.old }
+    requires begun { HasBegun may.now starts.now marks.old found.old.items }
+    ensures { OnOk result (IsFound (edge_in may.now (next_to (catalog_of task.now) in_set.now supplements.now)) starts.now marks.new) }
+{
+    let _starts = starts;
+    for place in 0..may.len() {
+        if place >= found.len() {
+            return Ok(());
+        }
+        let vertex = found[place];
+        mark_needed(
+            task,
+            prov,
+            in_set,
+            may,
+            supplements,
+            vertex,
+            passed,
+            marks,
+            found,
+        )?;
+    }
+    Ok(())
+}
+
+/// Marks the members of a set to which walks lead from these, and what relations the walks lead over.
+fn search(
+    alloc: Global,
+    task: &Task,
+    prov: &Providers,
+    in_set: &[bool],
+    may: &[bool],
+    supplements: &Graph,
+    starts: &[PackNo],
+    marks: &mut [bool],
+) -> Result<(), AllocError>
+    requires ready { IsReady task.now prov.now }
+    requires each { length in_set.now ≡ length task.now.universe.packages + 1 }
+    requires may { IsWithRelations in_set.now (length task.now.pool.nodes) may.now }
+    requires supplements { AreSupplements (catalog_of task.now) in_set.now supplements.now }
+    requires inside { (q : ℕ) → is_among starts.now q ≡ true → is_marked in_set.now q ≡ true }
+    requires size { length marks.old ≡ length may.now }
+    requires none { (q : ℕ) → is_marked marks.old q ≡ false }
+    ensures { OnOk result ((q : ℕ) → q < length in_set.now → is_marked marks.new q ≡ is_among (needed_from (catalog_of task.now) (is_marked in_set.now) starts.now) q) }
+{
+    reached_is_where_walks_lead();
+    let mut found = Vec::new(alloc);
+    let mut passed = vec![in alloc; false; task.pool.relation_count()]?;
+    begin(may, starts, marks, &mut found)?;
+    go_on(
+        task,
+        prov,
+        in_set,
+        may,
+        supplements,
+        starts,
+        &mut passed,
+        marks,
+        &mut found,
+    )?;
+    Ok(())
+}
+
+/// Which vertices a search finds that begins at these.
+fn found_from(
+    alloc: Global,
+    task: &Task,
+    prov: &Providers,
+    in_set: &[bool],
+    may: &[bool],
+    starts: &[PackNo],
+) -> Result<Vec<bool>, AllocError>
+    requires ready { IsReady task.now prov.now }
+    requires each { length in_set.now ≡ length task.now.universe.packages + 1 }
+    requires may { IsWithRelations in_set.now (length task.now.pool.nodes) may.now }
+    requires inside { (q : ℕ) → is_among starts.now q ≡ true → is_marked in_set.now q ≡ true }
+    ensures { IfOk result (λ marks. (q : ℕ) → q < length in_set.now → is_marked marks.items q ≡ is_among (needed_from (catalog_of task.now) (is_marked in_set.now) starts.now) q) }
+{
+    let supplements = supplements_in(alloc, task, prov, in_set)?;
+    let mut marks = vec![in alloc; false; may.len()]?;
+    search(
+        alloc,
+        task,
+        prov,
+        in_set,
+        may,
+        &supplements,
+        starts,
+        &mut marks,
+    )?;
+    Ok(marks)
+}
+
+/// Which members of a set walks lead to from these.
+pub(crate) fn needed_from(
+    alloc: Global,
+    task: &Task,
+    prov: &Providers,
+    in_set: &[bool],
+    starts: &[PackNo],
+) -> Result<Vec<bool>, AllocError>
+    requires ready { IsReady task.now prov.now }
+    requires each { length in_set.now ≡ length task.now.universe.packages + 1 }
+    requires inside { (q : ℕ) → is_among starts.now q ≡ true → is_marked in_set.now q ≡ true }
+    ensures { IfOk result (λ marks. (q : ℕ) → is_marked marks.items q ≡ is_among (needed_from (catalog_of task.now) (is_marked in_set.now) starts.now) q) }
+{
+    reached_is_where_walks_lead();
+    let may = table_with_relations(alloc, in_set, task.pool.relation_count())?;
+    let mut marks = found_from(alloc, task, prov, in_set, &may, starts)?;
+    marks.truncate(in_set.len());
+    Ok(marks)
+}

@@ -1,0 +1,8 @@
+use Rattle.std.proofs.Common.{◌≡◌, map, drop}
+use Rattle.solv_pool.specs.Catalog.{catalog_of}
+use Rattle.solv_lines.specs.LineSets.{with_lines}
+use Rattle.solv_lines.specs.ResultLines.{pack_line}
+use Rattle.solv_lines.proofs.needing.put_packs.Given as goal
+
+abbrev pub invariant-loop-pack : goal.invariant-loop-pack
+invariant-loop-pack l = with_lines l.lines.keys (map (pack_line (catalog_of l.task) l.word) (drop l.pack-index l.packs)) ≡ with_lines l.initial.lines.keys (map (pack_line (catalog_of l.task) l.word) l.packs)

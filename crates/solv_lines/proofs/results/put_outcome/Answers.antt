@@ -1,0 +1,11 @@
+use Rattle.std.proofs.Common.{◌≡◌, sym, subst}
+use Rattle.std.specs.Prelude.{OnOk}
+use Rattle.solv_lines.specs.LineSets.{with_lines}
+use Rattle.solv_lines.specs.Inner.ResultLines.{outcome_lines}
+use Rattle.solv_lines.specs.declared.outcomes.Outcome.{Outcome}
+use Rattle.solv_lines.proofs.results.put_outcome.Goals as goal
+
+pub returns-in-Solved : goal.returns-in-Solved
+returns-in-Solved c =
+    let P : Outcome → Type 0 = λ o. OnOk c.put_solved.result (c.put_solved.new.lines.keys ≡ with_lines c.args.lines.now.keys (outcome_lines c.args.task.now c.args.rules.now c.args.kinds o)) in
+    subst P (sym c.in-Solved.is) c.put_solved.ensures
