@@ -1,26 +1,13 @@
 //! Whole scripts over files in memory: the first bad line, and what is asked for.
+ghost use Rattle.std.specs.Prelude.{IfOk};
+ghost use Rattle.solv_pool.specs.TaskBelonging.{IsClosed};
+
+use crate::stage::{files_of, held};
 use solv_io::{AllFiles, MemFiles, lines};
-use solv_list::{Bytes, Items, Text};
-use solv_pool::PackNo;
+use solv_pool::{PackNo, Task};
 use solv_script::{Script, ScriptFault, read_script};
 use std::alloc::{AllocError, Global};
 use std::test::Fail;
-
-/// Files in memory, each with its name and its text.
-fn mem_files(alloc: Global, texts: &[(&str, &[u8])]) -> Result<MemFiles, AllocError> {
-    let mut held = Items::wrap(Vec::new(alloc));
-    for (name, text) in texts {
-        let name = Text::wrap(String::from_str(alloc, name)?);
-        held.push((name, Bytes::wrap(text.to_vec(alloc)?)))?;
-    }
-    Ok(MemFiles {
-        held,
-        asked: Items::wrap(Vec::new(alloc)),
-        fails: Items::wrap(Vec::new(alloc)),
-        calls: 0,
-        faults: 0,
-    })
-}
 
 /// `FILE:LINE: CAUSE`, `cannot read NAME`, or `read`.
 fn said(alloc: Global, read: Result<Script, ScriptFault>) -> Result<String, AllocError> {
@@ -43,194 +30,109 @@ fn said_of(alloc: Global, script: &[u8], files: &mut MemFiles) -> Result<String,
     said(alloc, read_script(alloc, "d/case.t", script, files))
 }
 
-#[test]
-fn first_bad_lines_are_refused(rt: HostRuntime) -> Result<(), Fail> {
-    let cases = [
-        (
-            "repo system 0 empty\nrepo available 0 testtags <inline>\n#>=Pkg: A 1 1 noarch\n#>+Req:\n#>B\nsystem x86_64 rpm system\n",
-            "d/case.t:5: UnclosedBlock",
-        ),
-        (
-            "repo system 0 empty\nrepo available 0 testtags <inline>\n#>=Pkg: A 1 1 noarch\nsystem x86_64 rpm system\n\n# a comment\njob instal name A\n",
-            "d/case.t:7: UnknownJob",
-        ),
-        ("repo a x foo b c\n", "d/case.t:1: BadWords"),
-        ("repo a x foo\n", "d/case.t:1: BadNumber"),
-        ("repo a 0.5 empty\n", "d/case.t:1: BadNumber"),
-        ("repo a 0 empty\nrepo a 0 foo\n", "d/case.t:2: BadRepoType"),
-        (
-            "repo a 0 empty\nrepo a 0 testtags b.gz\n",
-            "d/case.t:2: DuplicateRepo",
-        ),
-        ("repo a 0 testtags b.lzma", "d/case.t:1: Compressed"),
-        ("system x86_64\n", "d/case.t:1: BadWords"),
-        (
-            "system x86_64 rpm\nsystem foo deb b\n",
-            "d/case.t:2: DuplicateSystem",
-        ),
-        ("system foo deb b\n", "d/case.t:1: BadArch"),
-        ("system i686 deb b\n", "d/case.t:1: BadDisttype"),
-        ("system i686 rpm b\n", "d/case.t:1: UnknownRepo"),
-        ("solverflags a\n", "d/case.t:1: UnknownFlag"),
-        ("namespace a\n", "d/case.t:1: BadWords"),
-        ("namespace a b\n", "d/case.t:1: BadNamespace"),
-        ("namespace namespace:a(b) c\n", "d/case.t:1: UnknownPackage"),
-        ("disable name a\n", "d/case.t:1: BadWords"),
-        ("disable pkg @SYSTEM\n", "d/case.t:1: UnknownPackage"),
-        ("evrcmp 1 2\n", "d/case.t:1: BadWords"),
-        ("evrcmp 1 ! 2\n", "d/case.t:1: BadOperator"),
-        ("result foo\n", "d/case.t:1: BadWords"),
-        ("nextjob\n", "d/case.t:1: NotBuilt"),
-        ("\r\n#\r\nfoo\r\n", "d/case.t:3: UnknownLine"),
-    ];
-    for (script, want) in cases {
-        let mut files = mem_files(rt.alloc(), &[])?;
-        let got = said_of(rt.alloc(), script.as_bytes(), &mut files)?;
-        assert_eq!(rt; got.as_str(), want, "{script}");
-        assert_eq!(rt; files.calls, 0, "{script}");
-    }
-    Ok(())
-}
-
-#[test]
-fn bad_jobs_are_refused(rt: HostRuntime) -> Result<(), Fail> {
-    let cases = [
-        ("job\n", "d/case.t:4: BadWords"),
-        ("job instal name A [foo]\n", "d/case.t:4: UnknownJob"),
-        ("job distupgrade name A\n", "d/case.t:4: NotBuilt"),
-        ("job erase foo [foo]\n", "d/case.t:4: UnknownJobFlag"),
-        ("job erase foo [forcebest]\n", "d/case.t:4: FlagNotHere"),
-        (
-            "job install foo [forcebest]\n",
-            "d/case.t:4: UnknownSelection",
-        ),
-        ("job install [forcebest]\n", "d/case.t:4: UnknownSelection"),
-        ("job install pkg\n", "d/case.t:4: BadWords"),
-        ("job install pkg A\n", "d/case.t:4: UnknownPackage"),
-        ("job install pkg @SYSTEM\n", "d/case.t:4: SystemInJob"),
-        (
-            "job install oneof @SYSTEM A\n",
-            "d/case.t:4: UnknownPackage",
-        ),
-        (
-            "job install oneof A-1-1.noarch@a @SYSTEM\n",
-            "d/case.t:4: SystemInJob",
-        ),
-        ("job install name A B\n", "d/case.t:4: BadOperator"),
-        ("job install name A >=\n", "d/case.t:4: MissingOperand"),
-        ("job install name A & B | C\n", "d/case.t:4: MixedOperators"),
-        ("job install name (A\n", "d/case.t:4: UnclosedParenthesis"),
-        (
-            "job install provides A & B\n",
-            "d/case.t:4: OperatorNotHere",
-        ),
-        ("job noop name\n", "d/case.t:4: BadWords"),
-        ("job noop\n#>=Pkg:\nfoo", "d/case.t:6: UnknownLine"),
-    ];
-    let before = "repo a 0 testtags <inline>\n#>=Pkg: A 1 1 noarch\n#>=Pkg: B 1 1 noarch\n";
-    for (job, want) in cases {
-        let script = format!(in rt.alloc(); "{before}{job}")?;
-        let mut files = mem_files(rt.alloc(), &[])?;
-        let got = said_of(rt.alloc(), script.as_bytes(), &mut files)?;
-        assert_eq!(rt; got.as_str(), want, "{job}");
-    }
-    Ok(())
-}
-
-#[test]
-fn files_are_fetched_at_their_line(rt: HostRuntime) -> Result<(), Fail> {
-    let cases = [
-        ("repo a 0 testtags a.repo", "read", 1),
-        (
-            "repo a 0 testtags ../d/a.repo",
-            "cannot read d/../d/a.repo",
-            1,
-        ),
-        (
-            "repo a 0 testtags a.repo\nrepo b 0 testtags a.repo",
-            "read",
-            2,
-        ),
-        ("repo a 0 testtags no.repo\nfoo", "cannot read d/no.repo", 1),
-        ("repo a 0 testtags a.repo.gz", "d/case.t:1: Compressed", 0),
-        (
-            "foo\nrepo a 0 testtags no.repo",
-            "d/case.t:1: UnknownLine",
-            0,
-        ),
-        (
-            "repo a 0 testtags /b.repo\nfoo",
-            "/b.repo:2: MissingOperand",
-            1,
-        ),
-        (
-            "repo a 0 testtags a.repo\nfoo",
-            "d/case.t:2: UnknownLine",
-            1,
-        ),
-        ("repo a 0 testtags c.repo", "d/c.repo:1: UnclosedBlock", 1),
-        (
-            "repo a 0 testtags a.repo\nrepo a 0 testtags a.repo",
-            "d/case.t:2: DuplicateRepo",
-            1,
-        ),
-    ];
-    for (script, want, calls) in cases {
-        let mut files = mem_files(
-            rt.alloc(),
-            &[
-                ("d/a.repo", b"=Pkg: A 1 1 noarch\n".as_slice()),
-                ("/b.repo", b"=Pkg: B 1 1 noarch\r\n=Req:\r\n"),
-                ("d/c.repo", b"+Pkg:"),
-            ],
-        )?;
-        let got = said_of(rt.alloc(), script.as_bytes(), &mut files)?;
-        assert_eq!(rt; got.as_str(), want, "{script}");
-        assert_eq!(rt; files.calls, calls, "{script}");
-    }
-    let mut files = mem_files(rt.alloc(), &[])?;
-    let bad_name = b"repo a 0 testtags \xff";
-    let got = said_of(rt.alloc(), bad_name.as_slice(), &mut files)?;
-    assert_eq!(rt; got.as_str(), "d/case.t:1: BadFileName");
-    Ok(())
-}
-
-#[test]
-fn files_that_are_not_held_cannot_be_read(rt: HostRuntime) -> Result<(), Fail> {
-    let mut files = mem_files(rt.alloc(), &[])?;
-    let line = b"repo available 0 testtags a.repo";
-    let got = said_of(rt.alloc(), line.as_slice(), &mut files)?;
-    assert_eq!(rt; got.as_str(), "cannot read d/a.repo");
-    assert_eq!(rt; (files.calls, files.faults), (1, 1));
-    let mut files = mem_files(rt.alloc(), &[])?;
-    let line = b"repo available 0 testtags a.repo.gz";
-    let got = said_of(rt.alloc(), line.as_slice(), &mut files)?;
-    assert_eq!(rt; got.as_str(), "d/case.t:1: Compressed");
-    assert_eq!(rt; (files.calls, files.asked.len()), (0, 0));
-    Ok(())
-}
+/// The files that scripts name.
+const FILES: &[(&str, &[u8])] = &[
+    ("d/a.repo", b"=Pkg: A 1 1 noarch\n"),
+    ("/b.repo", b"=Pkg: B 1 1 noarch\r\n=Req:\r\n"),
+    ("d/c.repo", b"+Pkg:"),
+    ("/d.repo", b"=Pkg: A 1 1 noarch"),
+];
 
 /// A script with three files among other lines, and a bad last line.
 const THREE_FILES: &str =
-    "repo a 0 testtags a.repo\nrepo b 0 testtags <inline>\n#>=Pkg: B 1 1 noarch\nrepo c 0 testtags /c.repo\nevrcmp 1 < 2\nrepo d 0 testtags a.repo\nfoo\n";
+    "repo a 0 testtags a.repo\nrepo b 0 testtags <inline>\n#>=Pkg: B 1 1 noarch\nrepo c 0 testtags /d.repo\nevrcmp 1 < 2\nrepo d 0 testtags a.repo\nfoo\n";
+
+/// Whether this is said of a script in the folder `d`, where the fetch of one number fails, and whether so many files were asked for. That it is
+/// said of what could not be read counts as a fault.
+fn is_said(
+    alloc: Global,
+    script: &[u8],
+    fails: u64,
+    want: &str,
+    calls: u64,
+) -> Result<bool, AllocError> {
+    let mut files = files_of(alloc, FILES, &[fails])?;
+    let got = said_of(alloc, script, &mut files)?;
+    let faults = want.starts_with("cannot read") as u64;
+    Ok(
+        got.as_str() == want
+            && files.calls == calls
+            && files.asked.len() as u64 == calls
+            && files.faults == faults,
+    )
+}
+
+/// Scripts, each with the fetch that fails, what is said, and how many files are asked for.
+const FETCHES: &[(&str, u64, &str, u64)] = &[
+    ("repo a 0 testtags a.repo", 0, "read", 1),
+    (
+        "repo a 0 testtags ../d/a.repo",
+        0,
+        "cannot read d/../d/a.repo",
+        1,
+    ),
+    (
+        "repo a 0 testtags a.repo\nrepo b 0 testtags a.repo",
+        0,
+        "read",
+        2,
+    ),
+    (
+        "repo a 0 testtags no.repo\nfoo",
+        0,
+        "cannot read d/no.repo",
+        1,
+    ),
+    (
+        "repo a 0 testtags a.repo.gz",
+        0,
+        "d/case.t:1: Compressed",
+        0,
+    ),
+    (
+        "foo\nrepo a 0 testtags no.repo",
+        0,
+        "d/case.t:1: UnknownLine",
+        0,
+    ),
+    (
+        "repo a 0 testtags /b.repo\nfoo",
+        0,
+        "/b.repo:2: MissingOperand",
+        1,
+    ),
+    (
+        "repo a 0 testtags a.repo\nfoo",
+        0,
+        "d/case.t:2: UnknownLine",
+        1,
+    ),
+    (
+        "repo a 0 testtags c.repo",
+        0,
+        "d/c.repo:1: UnclosedBlock",
+        1,
+    ),
+    (
+        "repo a 0 testtags a.repo\nrepo a 0 testtags a.repo",
+        0,
+        "d/case.t:2: DuplicateRepo",
+        1,
+    ),
+    (THREE_FILES, 1, "cannot read d/a.repo", 1),
+    (THREE_FILES, 2, "cannot read /d.repo", 2),
+    (THREE_FILES, 3, "cannot read d/a.repo", 3),
+    (THREE_FILES, 4, "d/case.t:7: UnknownLine", 3),
+];
 
 #[test]
-fn each_fetch_that_fails_ends_the_reading(rt: HostRuntime) -> Result<(), Fail> {
-    let cases = [
-        (1, "cannot read d/a.repo", 1),
-        (2, "cannot read /c.repo", 2),
-        (3, "cannot read d/a.repo", 3),
-        (4, "d/case.t:7: UnknownLine", 3),
-    ];
-    for (call, want, calls) in cases {
-        let package = b"=Pkg: A 1 1 noarch".as_slice();
-        let mut files = mem_files(rt.alloc(), &[("d/a.repo", package), ("/c.repo", package)])?;
-        files.fails.push(call)?;
-        let got = said_of(rt.alloc(), THREE_FILES.as_bytes(), &mut files)?;
-        assert_eq!(rt; got.as_str(), want, "{call}");
-        assert_eq!(rt; (files.calls, files.asked.len() as u64), (calls, calls));
-        assert_eq!(rt; files.faults, (call == calls) as u64);
+fn files_are_fetched_at_their_line(rt: HostRuntime) -> Result<(), Fail> {
+    for (script, fails, want, calls) in FETCHES {
+        let is_so = is_said(rt.alloc(), script.as_bytes(), *fails, want, *calls)?;
+        assert!(rt; is_so, "{script}");
     }
+    let bad_name = b"repo a 0 testtags \xff".as_slice();
+    assert!(rt; is_said(rt.alloc(), bad_name, 0, "d/case.t:1: BadFileName", 0)?);
     Ok(())
 }
 
@@ -238,33 +140,62 @@ fn each_fetch_that_fails_ends_the_reading(rt: HostRuntime) -> Result<(), Fail> {
 const ALL_KINDS: &str =
     "repo a -1 testtags <inline>\n#>=Ver: 3.0\r\n#>=Pkg: A 1 - noarch\n#>+Req:\n#>b >= 1\n#>-Req:\nrepo b 2 testtags b.repo\n# comment\nrepo c 0 empty\nsystem i686 rpm a\nsolverflags !allownamechange,allowdowngrade noinfarchcheck\nnamespace namespace:x(y) @SYSTEM B-1-1.noarch@b\ndisable pkg B-1-1.noarch@b\nevrcmp 1.0~rc1 < 1.0\njob install pkg B-1-1.noarch@b [forcebest]\n \t\njob erase name A < 2\njob favor oneof A-1.noarch@a B-1-1.noarch@b\njob verify all packages\njob noop\n";
 
+/// Whether the flags are those of `ALL_KINDS`, and its jobs.
+fn has_flags_and_jobs(task: &Task) -> bool {
+    let flags = &task.flags;
+    let jobs = match task.jobs.held() {
+        [best, erased, ..] => best.forcebest
+            && erased.text.held() == b"erase name A < 2".as_slice(),
+        _ => false,
+    };
+    !flags.allow_name_change
+        && flags.allow_downgrade
+        && flags.no_infarch_check
+        && !flags.allow_uninstall
+        && jobs
+}
+
+/// Whether a task has two packages, of which the second is disabled.
+fn has_one_disabled(task: &Task) -> bool
+    requires { IsClosed task.now }
+{
+    if task.universe.count() != 2 {
+        return false;
+    }
+    let (universe, pool) = (&task.universe, &task.pool);
+    universe.installable(pool, PackNo(1)) && !universe.installable(pool, PackNo(2))
+}
+
+/// Whether a script says what `ALL_KINDS` does.
+fn is_of_all_kinds(script: &Script) -> bool
+    requires { IsClosed script.now.task }
+{
+    let task = &script.task;
+    let counts = (task.jobs.len(), task.namespaces.len(), script.checks.len());
+    counts == (5, 1, 1) && has_flags_and_jobs(task) && has_one_disabled(task)
+}
+
+/// Whether a script is read, and says what `ALL_KINDS` does.
+fn is_read(read: Result<Script, ScriptFault>) -> bool
+    requires { IfOk read (λ script. IsClosed script.task) }
+{
+    match read {
+        Ok(script) => is_of_all_kinds(&script),
+        Err(_) => false,
+    }
+}
+
+/// The file that `ALL_KINDS` names; any other is empty.
+fn one_repository(alloc: Global) -> Result<AllFiles, AllocError> {
+    let held = held(alloc, &[("b.repo", b"=Pkg: B 1 1 noarch".as_slice())])?;
+    Ok(AllFiles { held })
+}
+
 #[test]
 fn scripts_of_all_kinds_are_read(rt: HostRuntime) -> Result<(), Fail> {
-    let alloc = rt.alloc();
-    let mut files = mem_files(alloc, &[("b.repo", b"=Pkg: B 1 1 noarch\n".as_slice())])?;
-    let read = read_script(alloc, "case.t", ALL_KINDS.as_bytes(), &mut files);
-    let Ok(script) = read else {
-        return Err(Fail::from(AllocError));
-    };
-    let task = &script.task;
-    assert_eq!(rt; (task.universe.count(), task.jobs.len()), (2, 5));
-    assert_eq!(rt; (task.namespaces.len(), script.checks.len()), (1, 1));
-    let flags = task.flags;
-    assert_eq!(rt;
-        (flags.allow_name_change, flags.allow_downgrade),
-        (false, true)
-    );
-    assert_eq!(rt;
-        (flags.no_infarch_check, flags.allow_uninstall),
-        (true, false)
-    );
-    assert_eq!(rt; task.universe.installable(&task.pool, PackNo(1)), true);
-    assert_eq!(rt; task.universe.installable(&task.pool, PackNo(2)), false);
-    assert_eq!(rt; task.jobs.held()[0].forcebest, true);
-    assert_eq!(rt;
-        task.jobs.held()[1].text.held(),
-        b"erase name A < 2".as_slice()
-    );
+    let mut files = one_repository(rt.alloc())?;
+    let read = read_script(rt.alloc(), "case.t", ALL_KINDS.as_bytes(), &mut files);
+    assert!(rt; is_read(read));
     Ok(())
 }
 
@@ -279,40 +210,55 @@ fn last_lines(text: &[u8]) -> (u64, u64) {
     (last, before)
 }
 
+/// The line that was refused, or 0 where a script was read.
+fn refused_line(read: Result<Script, ScriptFault>) -> Result<u64, AllocError> {
+    match read {
+        Ok(_) => Ok(0),
+        Err(ScriptFault::Refused { line, .. }) => Ok(line),
+        Err(_) => Err(AllocError),
+    }
+}
+
+/// Whether a front of a script is read or refused at one of its last two lines.
+fn is_front(alloc: Global, front: &[u8], files: &mut AllFiles) -> Result<bool, AllocError> {
+    let (last, before) = last_lines(front);
+    let line = refused_line(read_script(alloc, "case.t", front, files))?;
+    Ok(line == 0 || line == last || line == before)
+}
+
 #[test]
 fn each_front_of_a_script_is_read_or_refused(rt: HostRuntime) -> Result<(), Fail> {
-    let alloc = rt.alloc();
-    let mut held = Items::wrap(Vec::new(alloc));
-    let bytes = Bytes::wrap(b"=Pkg: B 1 1 noarch".to_vec(alloc)?);
-    held.push((Text::wrap(String::from_str(alloc, "b.repo")?), bytes))?;
-    let mut files = AllFiles { held };
+    let mut files = one_repository(rt.alloc())?;
     for end in 0..ALL_KINDS.len() {
         let front = &ALL_KINDS.as_bytes()[..end];
-        let (last, before) = last_lines(front);
-        match read_script(alloc, "case.t", front, &mut files) {
-            Ok(_) => {}
-            Err(ScriptFault::Refused { line, .. }) => {
-                assert_eq!(rt; line == last || line == before, true, "{end}");
-            }
-            Err(_) => return Err(Fail::from(AllocError)),
-        }
+        assert!(rt; is_front(rt.alloc(), front, &mut files)?, "{end}");
     }
     Ok(())
 }
 
+/// Whether this is said of a script that names a file with these bytes.
+fn is_said_of_long(
+    alloc: Global,
+    script: &[u8],
+    long: &[u8],
+    want: &str,
+) -> Result<bool, AllocError> {
+    let mut files = files_of(alloc, &[("d/f", long)], &[])?;
+    let got = said_of(alloc, script, &mut files)?;
+    Ok(got.as_str() == want)
+}
+
+/// A script that names one file four times.
+const FOUR_FILES: &[u8] =
+    b"repo a 0 testtags f\nrepo b 0 testtags f\nrepo c 0 testtags f\nrepo d 0 testtags f\n";
+
 #[test]
 fn long_files_are_refused(rt: HostRuntime) -> Result<(), Fail> {
-    let mut long = vec![in rt.alloc(); b'x'; 67_108_864]?;
-    let four =
-        b"repo a 0 testtags f\nrepo b 0 testtags f\nrepo c 0 testtags f\nrepo d 0 testtags f\n";
-    let mut files = mem_files(rt.alloc(), &[("d/f", long.as_slice())])?;
-    let got = said_of(rt.alloc(), four.as_slice(), &mut files)?;
-    assert_eq!(rt; got.as_str(), "d/case.t:4: ScriptTooLong");
-    long.push(b'x')?;
-    let mut files = mem_files(rt.alloc(), &[("d/f", long.as_slice())])?;
-    let got = said_of(rt.alloc(), four.as_slice(), &mut files)?;
-    assert_eq!(rt; got.as_str(), "d/case.t:1: FileTooLong");
-    let got = said_of(rt.alloc(), long.as_slice(), &mut files)?;
-    assert_eq!(rt; got.as_str(), "d/case.t:1: FileTooLong");
+    let alloc = rt.alloc();
+    let long = vec![in alloc; b'x'; 67_108_865]?;
+    let most = &long[1..];
+    assert!(rt; is_said_of_long(alloc, FOUR_FILES, most, "d/case.t:4: ScriptTooLong")?);
+    assert!(rt; is_said_of_long(alloc, FOUR_FILES, &long, "d/case.t:1: FileTooLong")?);
+    assert!(rt; is_said_of_long(alloc, &long, &[], "d/case.t:1: FileTooLong")?);
     Ok(())
 }

@@ -1,5 +1,6 @@
-//! The program `solv_script_tests`: runs the scripts that its arguments name, each as `testsolv -r` does, those of the folder `expected` as `testsolv` does
-//! and those of `proved` as `testsolv --proof`, and says what status each ended with. What is printed for the scripts of `data/` is compared with the file `stdout`.
+//! The program `solv_script_tests`: runs the scripts that its arguments name, each as `testsolv` does, those of the folder `shown` as `testsolv -r`
+//! and those of `proved` as `testsolv --proof`. A line with its status and its name stands behind what each prints, which is nothing where it carries
+//! the lines that it expects and gets them. What is printed for the scripts of `data/` is compared with the file `stdout`.
 #![tactic(auto)]
 
 use solv_io::{RealFiles, RealSink};
@@ -9,13 +10,13 @@ use std::{env, io};
 
 /// The flag that a script is run with, where it is run with one.
 fn flag_of(name: &str) -> Option<&'static str> {
-    if name.starts_with("expected/") {
-        return None;
+    if name.starts_with("shown/") {
+        return Some("-r");
     }
     if name.starts_with("proved/") {
         return Some("--proof");
     }
-    Some("-r")
+    None
 }
 
 /// The words of a command line that runs a script.
@@ -29,9 +30,8 @@ fn command_line(alloc: Global, name: &str) -> Result<Vec<String>, AllocError> {
     Ok(words)
 }
 
-/// Runs a script, with both of its streams on standard output.
+/// Runs a script, with both of its streams on standard output, and tells its status.
 fn run_script(rt: &HostRuntime, name: &str) -> io::Result<()> {
-    println!(rt; "== {name}")?;
     let words = command_line(rt.alloc(), name)?;
     let mut files = RealFiles { rt, faults: 0 };
     let mut out = RealSink {
@@ -43,7 +43,7 @@ fn run_script(rt: &HostRuntime, name: &str) -> io::Result<()> {
         faults: 0,
     };
     let report = run(rt.alloc(), &words, &mut files, &mut out, &mut err)?;
-    println!(rt; "status {}", report.status.number())
+    println!(rt; "{} {name}", report.status.number())
 }
 
 fn main(rt: HostRuntime) -> io::Result<()> {

@@ -48,7 +48,7 @@ bare name evr arch repo = record {
 
 -- a job, whether it asks for the best, and its words
 abbrev pub job : Action → Choice → Bool → List ℕ → Job
-job action choice forcebest text = record { action = action; choice = choice; forcebest = forcebest; text = text }
+job action choice forcebest text = record { action = action; choice = choice; forcebest = forcebest; cleandeps = false; text = text }
 
 -- A 1-1 and B 1-1 are installed; C 1-1, A 2-1, and P 1-1 and A 1-1 for i686 are available; one job asks for a name that nothing has
 abbrev pub spoken : Task
@@ -123,6 +123,7 @@ told = record {
       ∷ rule.BestJob 4 1
       ∷ rule.Update 1 1
       ∷ rule.Feature 1 3
+      ∷ rule.Dup 2 1
       ∷ [];
   sets = [] ∷ (1 ∷ []) ∷ (6 ∷ []) ∷ (1 ∷ 3 ∷ 4 ∷ []) ∷ [];
 }
@@ -136,10 +137,14 @@ no_kinds = record { transaction = false; problems = false; order = true; reason 
 
 -- the lines of problems alone, of an order alone, or of reasons alone
 abbrev pub problems_alone : Kinds
-problems_alone = record { transaction = false; problems = true; order = false; reason = false; userinstalled = true; unneeded = true }
+problems_alone = record { transaction = false; problems = true; order = false; reason = false; userinstalled = false; unneeded = false }
 
 abbrev pub order_alone : Kinds
 order_alone = record { transaction = false; problems = false; order = true; reason = false; userinstalled = false; unneeded = false }
+
+-- the lines of who needs what alone
+abbrev pub needs_alone : Kinds
+needs_alone = record { transaction = false; problems = false; order = false; reason = false; userinstalled = true; unneeded = true }
 
 abbrev pub reason_alone : Kinds
 reason_alone = record { transaction = false; problems = false; order = false; reason = true; userinstalled = false; unneeded = false }

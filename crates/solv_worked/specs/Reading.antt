@@ -1,6 +1,7 @@
 -- Short ways to read what the definitions say of a task.
 use Rattle.std.specs.Prelude.{ℕ, ℤ, pos, neg_ℤ, Bool, true, false, List, Some, None, filter, flat_map}
 use Rattle.std.specs.List.{list_all}
+use Rattle.std.specs.declared.cmp.Ordering.{Ordering}
 use Rattle.solv_base.specs.Dependency.{Dep}
 use Rattle.solv_pool.specs.Words.{is_among}
 use Rattle.solv_pool.specs.Catalog.{catalog_of, dependency, packages}
@@ -8,10 +9,14 @@ use Rattle.solv_pool.specs.Holding.{holds}
 use Rattle.solv_pool.specs.JobMarks.{marks_of}
 use Rattle.solv_pool.specs.RuleMeaning.{HardRule, meets_rule}
 use Rattle.solv_pool.specs.Best.{best}
-use Rattle.solv_pool.specs.Updates.{feature_set, legal_set}
+use Rattle.solv_pool.specs.Updates.{feature_set, dup_set}
+use Rattle.solv_pool.specs.Inner.Updates.{legal_set}
 use Rattle.solv_pool.specs.HardRules.{package_rules, hard_rules}
 use Rattle.solv_pool.specs.Clauses.{dependency_clauses, rule_clauses}
 use Rattle.solv_pool.specs.declared.tasks.Task.{Task}
+use Rattle.solv_policy.specs.Policy.{policy_cmp, by_policy}
+use Rattle.solv_policy.specs.declared.policy.Asked.{Asked}
+use Rattle.solv_policy.specs.declared.policy.Asked.TheVariants.{Other}
 use Rattle.solv_questions.specs.Candidates.{may_break}
 
 -- the literal "package p is in"
@@ -66,6 +71,10 @@ features_in task p = feature_set (catalog_of task) (marks_of task) p
 abbrev pub legals_in : Task → ℕ → List ℕ
 legals_in task p = legal_set (catalog_of task) task.flags (marks_of task) p
 
+-- what a distribution upgrade puts there
+abbrev pub dups_in : Task → ℕ → List ℕ
+dups_in task p = dup_set (catalog_of task) (marks_of task) p
+
 -- the best of a list
 abbrev pub best_in : Task → List ℕ → List ℕ
 best_in task list = best (catalog_of task) list
@@ -73,3 +82,11 @@ best_in task list = best (catalog_of task) list
 -- the packages that may be taken against a conflict of p, in the set of these numbers, where none is known out
 abbrev pub taken_against : Task → ℕ → ℕ → List ℕ → List ℕ
 taken_against task p d set = filter (may_break (catalog_of task) (λ q. false) (Some p) (is_among set) (relation task d)) (packages (catalog_of task))
+
+-- the order of two candidates of a list
+abbrev pub policy_in : Task → Asked → List ℕ → ℕ → ℕ → Ordering
+policy_in task asked list a b = policy_cmp (catalog_of task) (marks_of task) asked list a b
+
+-- the candidates of a question, in their order
+abbrev pub ordered_in : Task → List ℕ → List ℕ
+ordered_in task list = by_policy (catalog_of task) (marks_of task) Other list

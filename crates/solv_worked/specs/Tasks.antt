@@ -1,9 +1,9 @@
 -- Tasks, each small enough to be solved by hand.
-use Rattle.std.specs.Prelude.{pos, true, false, [], ◌∷◌, Some, None, codes}
+use Rattle.std.specs.Prelude.{pos, negsuc, true, false, [], ◌∷◌, Some, None, codes}
 use Rattle.solv_base.specs.declared.relation.DepNode.TheVariants.{Simple, Versioned, Namespace, And, Or, With, Without, If, IfElse, Unless, UnlessElse}
 use Rattle.solv_pool.specs.declared.tasks.Task.{Task}
 use Rattle.solv_pool.specs.declared.jobs.Choice.TheVariants.{Pkg, Name, All}
-use Rattle.solv_pool.specs.declared.jobs.Action.TheVariants.{Install, Erase, Update, Lock, Verify, Multiversion, AllowUninstall, Favor, Disfavor}
+use Rattle.solv_pool.specs.declared.jobs.Action.TheVariants.{Install, Erase, Update, Distupgrade, Lock, Verify, Multiversion, AllowUninstall, Favor, Disfavor}
 use Rattle.solv_pool.specs.declared.universes.Arch.TheVariants.{I686}
 use Rattle.solv_worked.specs.Making.{below, equal, at_least, system, available, one_one, two_one, plain_package, need, job, first_flags, task_of, and_job, with_flags, with_repos, with_disabled, with_arch}
 
@@ -222,6 +222,53 @@ many_jobs = task_of (codes "A" ∷ codes "B" ∷ [])
     ∷ record (job Update All) { forcebest = true }
     ∷ [])
 
+-- A 2-1 and B 1-1 are installed, and there is A 1-1; `distupgrade all packages`
+abbrev pub moved_back : Task
+moved_back = task_of (codes "A" ∷ codes "B" ∷ [])
+    []
+    (plain_package system 5 two_one ∷ plain_package system 6 one_one ∷ plain_package available 5 one_one ∷ [])
+    (job Distupgrade All ∷ [])
+
+-- the same, but A 1-1 requires what nothing provides
+abbrev pub broken_back : Task
+broken_back = task_of (codes "A" ∷ codes "B" ∷ codes "missing" ∷ [])
+    (Simple 7 ∷ [])
+    (plain_package system 5 two_one ∷ plain_package system 6 one_one ∷ record (plain_package available 5 one_one) { requires_ = need 0 ∷ [] } ∷ [])
+    (job Distupgrade All ∷ [])
+
+-- the first, but there is A 2-1 too
+abbrev pub equal_there : Task
+equal_there = task_of (codes "A" ∷ codes "B" ∷ [])
+    []
+    (plain_package system 5 two_one ∷ plain_package system 6 one_one ∷ plain_package available 5 one_one ∷ plain_package available 5 two_one ∷ [])
+    (job Distupgrade All ∷ [])
+
+-- the same, but A 1-1 is in a repository of a greater priority than A 2-1
+abbrev pub equal_below : Task
+equal_below = with_repos
+    (record { name = system; priority = pos 0 } ∷ record { name = available; priority = pos 5 } ∷ record { name = 6; priority = pos 7 } ∷ [])
+    (task_of (codes "A" ∷ codes "third" ∷ []) [] (plain_package system 5 two_one ∷ plain_package 2 5 one_one ∷ plain_package available 5 two_one ∷ []) (job Distupgrade All ∷ []))
+
+-- A 1.0-1 is installed; there are A 1.00-1 of vendor V, and the same without a vendor, which is disabled
+abbrev pub equal_of_vendor : Task
+equal_of_vendor = with_disabled (false ∷ false ∷ true ∷ [])
+    (task_of (codes "A" ∷ codes "V" ∷ codes "1.0-1" ∷ codes "1.00-1" ∷ [])
+    []
+    (plain_package system 5 7 ∷ record (plain_package available 5 8) { vendor = Some 6 } ∷ plain_package available 5 8 ∷ [])
+    (job Distupgrade All ∷ []))
+
+-- the same with nothing disabled
+abbrev pub equal_without_vendor : Task
+equal_without_vendor = with_disabled (false ∷ false ∷ false ∷ []) equal_of_vendor
+
+-- the new name, with `solverflags !allownamechange`; `distupgrade all packages` besides
+abbrev pub forced_name : Task
+forced_name = and_job (job Distupgrade All) fixed_name
+
+-- the downgrade that is asked for exactly, with `distupgrade all packages` besides
+abbrev pub asked_and_moved : Task
+asked_and_moved = and_job (job Distupgrade All) asked_downgrade
+
 -- P 1-1 requires /bin/sh and namespace:language(de); sh 1-1 has the file /bin/sh
 abbrev pub file_and_namespace : Task
 file_and_namespace = task_of (codes "P" ∷ codes "/bin/sh" ∷ codes "namespace:language(de)" ∷ codes "sh" ∷ [])
@@ -234,3 +281,24 @@ file_and_namespace = task_of (codes "P" ∷ codes "/bin/sh" ∷ codes "namespace
 -- the same with `namespace namespace:language(de) @SYSTEM`
 abbrev pub german_system : Task
 german_system = record file_and_namespace { namespaces = (7, 0 ∷ []) ∷ [] }
+
+-- candidates: `early` and b 2-1, which obsoletes a, and of which 3 is installed and marked for update; four of a, of which 4 is installed and
+-- disfavoured, 5 is favoured in `low`, 6 is in `high`, and 7 is for x86_64; c, which obsoletes b; and again `early`, b 3-1, and b 2-1
+abbrev pub every_difference : Task
+every_difference = with_repos
+    (record { name = system; priority = pos 0 } ∷ record { name = available; priority = pos 0 } ∷ record { name = 13; priority = negsuc 0 } ∷ record { name = 14; priority = pos 1 } ∷ [])
+    (task_of (codes "early" ∷ codes "b" ∷ codes "a" ∷ codes "c" ∷ codes "x86_64" ∷ codes "i686" ∷ codes "i586" ∷ codes "3-1" ∷ codes "low" ∷ codes "high" ∷ [])
+    (Simple 7 ∷ Simple 6 ∷ [])
+    (record (plain_package available 5 one_one) { arch = 10 }
+    ∷ record (plain_package available 6 two_one) { arch = 10; obsoletes = 0 ∷ [] }
+    ∷ record (plain_package system 6 two_one) { arch = 10; obsoletes = 0 ∷ [] }
+    ∷ record (plain_package system 7 one_one) { arch = 11 }
+    ∷ record (plain_package 2 7 one_one) { arch = 11 }
+    ∷ record (plain_package 3 7 one_one) { arch = 11 }
+    ∷ record (plain_package available 7 one_one) { arch = 9 }
+    ∷ record (plain_package available 8 one_one) { arch = 10; obsoletes = 1 ∷ [] }
+    ∷ record (plain_package available 5 one_one) { arch = 10 }
+    ∷ record (plain_package available 6 12) { arch = 10 }
+    ∷ record (plain_package available 6 two_one) { arch = 10 }
+    ∷ [])
+    (job Update (Pkg 3) ∷ job Disfavor (Pkg 4) ∷ job Favor (Pkg 5) ∷ []))

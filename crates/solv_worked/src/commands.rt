@@ -1,11 +1,11 @@
 //! Examples on which the definitions are evaluated.
 ghost use Rattle.std.specs.Prelude.{◌≡◌, ◌∷◌, [], codes, pos, negsuc, true, false, Some, None, Ok, Err};
 ghost use Rattle.solv_base.specs.declared.comparison.Cmp.{Cmp};
-ghost use Rattle.solv_pool.specs.declared.jobs.Action.TheVariants.{Install, Erase, Update, Lock, Verify, Multiversion, AllowUninstall, Noop, Favor, Disfavor};
+ghost use Rattle.solv_pool.specs.declared.jobs.Action.TheVariants.{Install, Erase, Update, Distupgrade, Lock, Verify, Multiversion, AllowUninstall, Noop, Favor, Disfavor, UserInstalled};
 ghost use Rattle.solv_pool.specs.declared.tasks.Flags.{Flags};
 ghost use Rattle.solv_commands.specs.Commas.{between_commas};
-ghost use Rattle.solv_commands.specs.Commands.{repo, system, solverflags, namespace, disable, evrcmp, results, job, pkg, by_name, by_provides, one_of, all, nothing};
-ghost use Rattle.solv_worked.specs.Commands.{said, set_by};
+ghost use Rattle.solv_commands.specs.Commands.{repo, system, solverflags, namespace, disable, evrcmp, results, job, pkg, by_name, by_provides, one_of, all, nothing, no_job_flags};
+ghost use Rattle.solv_worked.specs.Commands.{said, set_by, best_flag, cleaning_flag};
 ghost use Rattle.solv_commands.specs.Numbers.{priority};
 ghost use Rattle.solv_commands.specs.declared.causes.Cause.TheVariants.{BadWords, BadNumber, BadRepoType, BadNamespace, BadOperator, UnknownJob, UnknownJobFlag, FlagNotHere, UnknownSelection, UnknownLine, NotBuilt};
 
@@ -54,45 +54,52 @@ pub fn result_lines()
 
 /// Jobs, with their own texts.
 pub fn job_lines()
-    ensures install { said (codes "job install  name\tA >= 1 [forcebest]") ≡ Ok (job Install (by_name (codes "A" ∷ codes ">=" ∷ codes "1" ∷ [])) true (codes "install name A >= 1 [forcebest]")) }
-    ensures erase { said (codes "job erase pkg A-1-1.noarch@s") ≡ Ok (job Erase (pkg (codes "A-1-1.noarch@s")) false (codes "erase pkg A-1-1.noarch@s")) }
-    ensures noop { said (codes "job noop") ≡ Ok (job Noop nothing false (codes "noop")) }
-    ensures noop_of_all { said (codes "job noop all packages") ≡ Ok (job Noop all false (codes "noop all packages")) }
+    ensures install { said (codes "job install  name\tA >= 1 [forcebest]") ≡ Ok (job Install (by_name (codes "A" ∷ codes ">=" ∷ codes "1" ∷ [])) best_flag (codes "install name A >= 1 [forcebest]")) }
+    ensures erase { said (codes "job erase pkg A-1-1.noarch@s") ≡ Ok (job Erase (pkg (codes "A-1-1.noarch@s")) no_job_flags (codes "erase pkg A-1-1.noarch@s")) }
+    ensures noop { said (codes "job noop") ≡ Ok (job Noop nothing no_job_flags (codes "noop")) }
+    ensures noop_of_all { said (codes "job noop all packages") ≡ Ok (job Noop all no_job_flags (codes "noop all packages")) }
     ensures one_word { said (codes "job install") ≡ Err BadWords }
     ensures no_word { said (codes "job") ≡ Err BadWords }
     ensures unknown { said (codes "job weakendeps name A [x]") ≡ Err UnknownJob }
-    ensures not_built { said (codes "job distupgrade all packages [x]") ≡ Err NotBuilt }
-    ensures not_built_either { said (codes "job userinstalled name A") ≡ Err NotBuilt }
+    ensures flag_of_distupgrade { said (codes "job distupgrade all packages [x]") ≡ Err UnknownJobFlag }
+    ensures best_of_distupgrade { said (codes "job distupgrade all packages [forcebest]") ≡ Err FlagNotHere }
+    ensures distupgrade { said (codes "job distupgrade name A") ≡ Ok (job Distupgrade (by_name (codes "A" ∷ [])) no_job_flags (codes "distupgrade name A")) }
+    ensures userinstalled { said (codes "job userinstalled name A") ≡ Ok (job UserInstalled (by_name (codes "A" ∷ [])) no_job_flags (codes "userinstalled name A")) }
 {}
 
 /// The other actions, and that `noop` may have a selection and no flag.
 pub fn other_actions()
-    ensures lock { said (codes "job lock name A") ≡ Ok (job Lock (by_name (codes "A" ∷ [])) false (codes "lock name A")) }
-    ensures verify { said (codes "job verify all packages") ≡ Ok (job Verify all false (codes "verify all packages")) }
-    ensures multiversion { said (codes "job multiversion provides a") ≡ Ok (job Multiversion (by_provides (codes "a" ∷ [])) false (codes "multiversion provides a")) }
-    ensures allowuninstall { said (codes "job allowuninstall pkg A-1.noarch@s") ≡ Ok (job AllowUninstall (pkg (codes "A-1.noarch@s")) false (codes "allowuninstall pkg A-1.noarch@s")) }
-    ensures disfavor { said (codes "job disfavor oneof A B") ≡ Ok (job Disfavor (one_of (codes "A" ∷ codes "B" ∷ [])) false (codes "disfavor oneof A B")) }
+    ensures lock { said (codes "job lock name A") ≡ Ok (job Lock (by_name (codes "A" ∷ [])) no_job_flags (codes "lock name A")) }
+    ensures verify { said (codes "job verify all packages") ≡ Ok (job Verify all no_job_flags (codes "verify all packages")) }
+    ensures multiversion { said (codes "job multiversion provides a") ≡ Ok (job Multiversion (by_provides (codes "a" ∷ [])) no_job_flags (codes "multiversion provides a")) }
+    ensures allowuninstall { said (codes "job allowuninstall pkg A-1.noarch@s") ≡ Ok (job AllowUninstall (pkg (codes "A-1.noarch@s")) no_job_flags (codes "allowuninstall pkg A-1.noarch@s")) }
+    ensures disfavor { said (codes "job disfavor oneof A B") ≡ Ok (job Disfavor (one_of (codes "A" ∷ codes "B" ∷ [])) no_job_flags (codes "disfavor oneof A B")) }
     ensures flag_of_lock { said (codes "job lock name A [forcebest]") ≡ Err FlagNotHere }
     ensures flag_of_noop { said (codes "job noop [forcebest]") ≡ Err FlagNotHere }
 {}
 
 /// The flags of jobs, and that they come before the selection.
 pub fn job_flags()
-    ensures two { said (codes "job update all packages [forcebest,forcebest]") ≡ Ok (job Update all true (codes "update all packages [forcebest,forcebest]")) }
+    ensures two { said (codes "job update all packages [forcebest,forcebest]") ≡ Ok (job Update all best_flag (codes "update all packages [forcebest,forcebest]")) }
     ensures empty { said (codes "job install all packages []") ≡ Err UnknownJobFlag }
     ensures empty_behind { said (codes "job install all packages [forcebest,]") ≡ Err UnknownJobFlag }
-    ensures not_built { said (codes "job install all packages [forcebest,cleandeps]") ≡ Err NotBuilt }
+    ensures cleaning { said (codes "job erase name A [cleandeps]") ≡ Ok (job Erase (by_name (codes "A" ∷ [])) cleaning_flag (codes "erase name A [cleandeps]")) }
+    ensures cleaning_twice { said (codes "job erase name A [cleandeps,cleandeps]") ≡ Ok (job Erase (by_name (codes "A" ∷ [])) cleaning_flag (codes "erase name A [cleandeps,cleandeps]")) }
+    ensures cleaning_elsewhere { said (codes "job install all packages [forcebest,cleandeps]") ≡ Err FlagNotHere }
+    ensures cleaning_what_is_named { said (codes "job userinstalled name A [cleandeps]") ≡ Err FlagNotHere }
+    ensures best_of_erase { said (codes "job erase name A [forcebest,cleandeps]") ≡ Err FlagNotHere }
+    ensures unknown_behind { said (codes "job install name A [cleandeps,x]") ≡ Err UnknownJobFlag }
     ensures first_counts { said (codes "job install all packages [x,cleandeps]") ≡ Err UnknownJobFlag }
     ensures elsewhere { said (codes "job erase other [forcebest]") ≡ Err FlagNotHere }
     ensures alone { said (codes "job install [forcebest]") ≡ Err UnknownSelection }
-    ensures not_last { said (codes "job install oneof [forcebest] A") ≡ Ok (job Install (one_of (codes "[forcebest]" ∷ codes "A" ∷ [])) false (codes "install oneof [forcebest] A")) }
-    ensures one_bracket { said (codes "job install name [") ≡ Ok (job Install (by_name (codes "[" ∷ [])) false (codes "install name [")) }
+    ensures not_last { said (codes "job install oneof [forcebest] A") ≡ Ok (job Install (one_of (codes "[forcebest]" ∷ codes "A" ∷ [])) no_job_flags (codes "install oneof [forcebest] A")) }
+    ensures one_bracket { said (codes "job install name [") ≡ Ok (job Install (by_name (codes "[" ∷ [])) no_job_flags (codes "install name [")) }
     ensures commas { between_commas (codes ",a,") ≡ [] ∷ codes "a" ∷ [] ∷ [] }
 {}
 
 /// Selections, and the words that they must have.
 pub fn selections()
-    ensures provides { said (codes "job favor provides a") ≡ Ok (job Favor (by_provides (codes "a" ∷ [])) false (codes "favor provides a")) }
+    ensures provides { said (codes "job favor provides a") ≡ Ok (job Favor (by_provides (codes "a" ∷ [])) no_job_flags (codes "favor provides a")) }
     ensures unknown { said (codes "job install repo a") ≡ Err UnknownSelection }
     ensures unknown_of_noop { said (codes "job noop other") ≡ Err UnknownSelection }
     ensures missing { said (codes "job install name [forcebest]") ≡ Err BadWords }

@@ -88,15 +88,13 @@ pub fn comparisons_of_scripts()
 pub fn results_of_scripts()
     ensures words { refused (codes "result order <inline>\nresult nosuch") ≡ at 2 BadWords }
     ensures twice { refused (codes "result order <inline>\nresult nosuch a.gz") ≡ at 2 DuplicateResult }
-    ensures twice_late { refused (codes "result order <inline>\nresult unneeded <inline>") ≡ at 2 DuplicateResult }
     ensures twice_without_lines { refused (codes "result order <inline>\nresult order <inline>") ≡ at 2 DuplicateResult }
     ensures unknown { refused (codes "result nosuch a.gz") ≡ at 1 UnknownKind }
     ensures unknown_among_known { refused (codes "result order,nosuch,reason <inline>") ≡ at 1 UnknownKind }
     ensures empty { refused (codes "result order,,reason <inline>") ≡ at 1 UnknownKind }
     ensures empty_behind { refused (codes "result order, <inline>") ≡ at 1 UnknownKind }
-    ensures late { refused (codes "result order,userinstalled a.gz") ≡ at 1 NotBuilt }
-    ensures late_either { refused (codes "result unneeded,nosuch <inline>") ≡ at 1 NotBuilt }
-    ensures first_counts { refused (codes "result nosuch,unneeded <inline>") ≡ at 1 UnknownKind }
+    ensures unknown_behind { refused (codes "result unneeded,nosuch <inline>") ≡ at 1 UnknownKind }
+    ensures needs { map_given (λ s. s.kinds) (given (codes "result userinstalled,unneeded <inline>")) ≡ Some (record no_kinds { userinstalled = true; unneeded = true }) }
     ensures file { refused (codes "result order a.gz") ≡ at 1 Compressed }
     ensures kinds_without { map_given (λ s. s.kinds) (given (codes "job noop")) ≡ Some default_kinds }
     ensures all_kinds { map_given (λ s. s.kinds) (given (codes "result reason,order,problems,transaction <inline>")) ≡ Some (record no_kinds { transaction = true; problems = true; order = true; reason = true }) }
@@ -121,12 +119,12 @@ pub fn jobs_of_scripts()
     ensures the_system_among { refused (with_packages (codes "job install oneof A-1-1.noarch@a @SYSTEM")) ≡ at 4 SystemInJob }
     ensures dependency { refused (codes "job install name A >=") ≡ at 1 MissingOperand }
     ensures rich { refused (codes "job install provides A & B") ≡ at 1 OperatorNotHere }
-    ensures late { refused (codes "job distupgrade all packages") ≡ at 1 NotBuilt }
     ensures one { map_given (λ s. map (λ j. j.choice) s.task.jobs) (given (with_packages (codes "job install pkg B-2.noarch@a"))) ≡ Some (written.pkg 2 ∷ []) }
     ensures several { map_given (λ s. map (λ j. j.choice) s.task.jobs) (given (with_packages (codes "job erase oneof B-2.noarch@a A-1-1.noarch@a B-2.noarch@a"))) ≡ Some (written.one_of (2 ∷ 1 ∷ 2 ∷ []) ∷ []) }
     ensures names { map_given (λ s. map (λ j. j.choice) s.task.jobs) (given (codes "job lock name A\njob update provides B [forcebest]")) ≡ Some (written.name (one (plain (codes "A"))) ∷ written.provides (one (plain (codes "B"))) ∷ []) }
     ensures all { map_given (λ s. map (λ j. j.choice) s.task.jobs) (given (codes "job verify all packages\njob noop")) ≡ Some (written.all ∷ written.nothing ∷ []) }
     ensures forcebest { map_given (λ s. map (λ j. j.forcebest) s.task.jobs) (given (codes "job install name A [forcebest]\njob install name A")) ≡ Some (true ∷ false ∷ []) }
+    ensures cleandeps { map_given (λ s. map (λ j. j.cleandeps) s.task.jobs) (given (codes "job erase name A [cleandeps]\njob erase name A")) ≡ Some (true ∷ false ∷ []) }
     ensures text { map_given (λ s. map (λ j. j.text) s.task.jobs) (given (codes "job \tinstall  name A\t>= 1 [forcebest] \r")) ≡ Some (codes "install name A >= 1 [forcebest]" ∷ []) }
     ensures entered { map_given (λ s. s.held.names) (given (codes "job install name A >= 1\njob erase provides A")) ≡ Some (codes "A" ∷ codes "1" ∷ []) }
 {}

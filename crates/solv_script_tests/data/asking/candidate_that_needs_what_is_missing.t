@@ -6,3 +6,5 @@ repo available 0 testtags <inline>
 #>=Req: missing
 system x86_64 rpm system
 job install name A
+result transaction,problems <inline>
+#>install A-1-1.noarch@available

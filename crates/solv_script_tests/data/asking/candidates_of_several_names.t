@@ -10,3 +10,5 @@ repo available 0 testtags <inline>
 #>=Prv: virtual
 system x86_64 rpm system
 job install provides virtual
+result transaction,problems <inline>
+#>install a-2-1.noarch@available

@@ -8,3 +8,6 @@ repo available 0 testtags <inline>
 system x86_64 rpm system
 disable pkg lib-2-1.noarch@available
 job install name A
+result transaction,problems <inline>
+#>install A-1-1.noarch@available
+#>install lib-1-1.noarch@available

@@ -7,3 +7,6 @@ repo available 0 testtags <inline>
 #>=Fls: /bin/sh
 system x86_64 rpm system
 job install name P
+result transaction,problems <inline>
+#>install P-1-1.noarch@available
+#>install sh-1-1.noarch@available

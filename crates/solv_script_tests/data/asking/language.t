@@ -7,3 +7,5 @@ repo available 0 testtags <inline>
 #>=Sup: namespace:language(de)
 system x86_64 rpm system
 namespace namespace:language(de) @SYSTEM
+result transaction,problems <inline>
+#>install lang-de-2-1.noarch@available

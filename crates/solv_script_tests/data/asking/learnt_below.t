@@ -19,3 +19,6 @@ repo available 0 testtags <inline>
 #>=Pkg: y 1 1 noarch
 system x86_64 rpm system
 job install name P
+result transaction,problems <inline>
+#>install P-1-1.noarch@available
+#>install lc-1-1.noarch@available

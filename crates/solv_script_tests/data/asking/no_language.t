@@ -6,3 +6,4 @@ repo available 0 testtags <inline>
 #>=Pkg: lang-de 2 1 noarch
 #>=Sup: namespace:language(de)
 system x86_64 rpm system
+result transaction,problems <inline>

@@ -25,3 +25,9 @@ repo available 0 testtags <inline>
 system x86_64 rpm system
 job update name K
 job install provides j
+result transaction,problems <inline>
+#>install J1-1-1.noarch@available
+#>install r1-1-1.noarch@available
+#>install s-2-1.noarch@available
+#>install w1-1-1.noarch@available
+#>upgrade K-1-1.noarch@system K-3-1.noarch@available

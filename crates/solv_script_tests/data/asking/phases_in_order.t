@@ -25,3 +25,10 @@ repo available 0 testtags <inline>
 system x86_64 rpm system
 job update name K
 job install provides j
+result transaction,problems <inline>
+#>install J-1-1.noarch@available
+#>install q1-1-1.noarch@available
+#>install q2-1-1.noarch@available
+#>install w1-1-1.noarch@available
+#>install w2-1-1.noarch@available
+#>upgrade K-1-1.noarch@system K-2-1.noarch@available

@@ -9,3 +9,6 @@ repo available 0 testtags <inline>
 #>=Pkg: R 1 1 noarch
 system x86_64 rpm system
 job install name P
+result transaction,problems <inline>
+#>install P-1-1.noarch@available
+#>install Q-1-1.noarch@available

@@ -8,3 +8,6 @@ repo available 0 testtags <inline>
 #>=Sup: P
 system x86_64 rpm system
 job install name P
+result transaction,problems <inline>
+#>install P-1-1.noarch@available
+#>install s-2-1.noarch@available

@@ -6,3 +6,5 @@ repo available 0 testtags <inline>
 #>=Req: only
 system x86_64 rpm system
 job install name only
+result transaction,problems <inline>
+#>install only-1-1.noarch@available

@@ -6,3 +6,5 @@ repo available 0 testtags <inline>
 system x86_64 rpm system
 solverflags noinfarchcheck
 job install name B [forcebest]
+result transaction,problems <inline>
+#>install B-1-1.x86_64@available

@@ -5,3 +5,5 @@ repo other 1 testtags <inline>
 #>=Pkg: A 3 1 noarch
 system x86_64 rpm system
 job update name A [forcebest]
+result transaction,problems <inline>
+#>upgrade A-1-1.noarch@system A-3-1.noarch@other

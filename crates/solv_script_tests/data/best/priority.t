@@ -5,3 +5,5 @@ repo other 1 testtags <inline>
 #>=Pkg: A 3 1 noarch
 system x86_64 rpm
 job install name A [forcebest]
+result transaction,problems <inline>
+#>install A-2-1.noarch@main

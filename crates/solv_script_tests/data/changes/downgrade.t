@@ -5,3 +5,5 @@ repo available 0 testtags <inline>
 #>=Pkg: A 1 1 noarch
 system x86_64 rpm system
 job install name A = 1
+result transaction,problems <inline>
+#>downgrade A-2-1.noarch@system A-1-1.noarch@available

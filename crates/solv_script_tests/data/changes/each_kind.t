@@ -30,3 +30,14 @@ job install pkg D-1-1.x86_64@available
 job install name M
 job install name N
 job erase name F
+result transaction,problems <inline>
+#>change D-1-1.noarch@system D-1-1.x86_64@available
+#>downgrade B-2-1.noarch@system B-1-1.noarch@available
+#>erase F-1-1.noarch@system
+#>install A-02-1.noarch@available
+#>install A-1.5-1.noarch@available
+#>install M-1-1.noarch@available
+#>install N-1-1.noarch@available
+#>obsolete E-1-1.noarch@system M-1-1.noarch@available
+#>reinstall C-1-1.noarch@system C-1-1.noarch@available
+#>upgrade A-1-1.noarch@system A-2-1.noarch@available

@@ -6,3 +6,6 @@ repo available 0 testtags <inline>
 #>=Obs: old
 system x86_64 rpm system
 job update all packages
+result transaction,problems <inline>
+#>install new-1-1.noarch@available
+#>obsolete old-1-1.noarch@system new-1-1.noarch@available

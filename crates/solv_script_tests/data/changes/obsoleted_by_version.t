@@ -10,3 +10,6 @@ repo available 0 testtags <inline>
 #>=Obs: new
 system x86_64 rpm system
 job install name new
+result transaction,problems <inline>
+#>install new-1-1.noarch@available
+#>obsolete lib-2-1.noarch@system new-1-1.noarch@available

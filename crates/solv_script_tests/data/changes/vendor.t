@@ -7,3 +7,5 @@ repo available 0 testtags <inline>
 #>=Vnd: two
 system x86_64 rpm system
 job install pkg A-1-1.noarch@available
+result transaction,problems <inline>
+#>change A-1-1.noarch@system A-1-1.noarch@available

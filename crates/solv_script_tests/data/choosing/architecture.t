@@ -14,3 +14,6 @@ repo available 0 testtags <inline>
 system x86_64 rpm system
 job install provides v
 job install provides w
+result transaction,problems <inline>
+#>install b-1-1.noarch@available
+#>install e-1-1.i686@available

@@ -12,3 +12,6 @@ repo available 0 testtags <inline>
 system x86_64 rpm system
 job install provides v
 job install name C
+result transaction,problems <inline>
+#>install B-1-1.noarch@available
+#>install C-2-1.noarch@available

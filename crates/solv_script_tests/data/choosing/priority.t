@@ -7,3 +7,5 @@ repo second 2 testtags <inline>
 #>=Pkg: A 2 1 noarch
 system x86_64 rpm system
 job update name A
+result transaction,problems <inline>
+#>upgrade A-1-1.noarch@system A-2-1.noarch@second

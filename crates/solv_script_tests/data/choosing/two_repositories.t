@@ -5,3 +5,5 @@ repo second 0 testtags <inline>
 #>=Pkg: A 1 1 noarch
 system x86_64 rpm
 job install name A
+result transaction,problems <inline>
+#>install A-1-1.noarch@first

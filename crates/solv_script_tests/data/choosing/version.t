@@ -5,3 +5,5 @@ repo available 0 testtags <inline>
 #>=Pkg: A 10 1 noarch
 system x86_64 rpm system
 job install name A
+result transaction,problems <inline>
+#>install A-10-1.noarch@available

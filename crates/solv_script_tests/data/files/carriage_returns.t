@@ -7,3 +7,6 @@ repo available 0 testtags <inline>
  	
 system x86_64 rpm system
 job install name A
+result transaction,problems <inline>
+#>install A-1-1.noarch@available
+#>install B-1-1.noarch@available

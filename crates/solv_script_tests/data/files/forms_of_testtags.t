@@ -32,3 +32,8 @@ system x86_64 rpm system
 job install provides /bin/p
 job install provides s
 job update name v
+result transaction,problems <inline>
+#>install P-1.noarch@available
+#>install q-1-1.noarch@available
+#>install r-1-1.noarch@available
+#>upgrade v-1-1.noarch@system v-2-1.noarch@available

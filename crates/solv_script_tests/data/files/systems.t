@@ -7,4 +7,6 @@ repo available 0 testtags <inline>
 # a comment
 #>=Pkg: A 2 1 aarch64
 system aarch64 rpm
+result transaction,problems <inline>
+#>install A-1-1.aarch64@available
 job install name A

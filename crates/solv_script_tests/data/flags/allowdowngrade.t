@@ -8,3 +8,6 @@ repo available 0 testtags <inline>
 system x86_64 rpm system
 solverflags allowdowngrade
 job install name X
+result transaction,problems <inline>
+#>downgrade d-2-1.noarch@system d-1-1.noarch@available
+#>install X-1-1.noarch@available

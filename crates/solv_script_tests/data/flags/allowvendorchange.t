@@ -15,3 +15,8 @@ repo available 0 testtags <inline>
 system x86_64 rpm system
 solverflags allowvendorchange
 job update all packages
+result transaction,problems <inline>
+#>install m-1-1.noarch@available
+#>obsolete n-1-1.noarch@system m-1-1.noarch@available
+#>upgrade s-1-1.noarch@system s-2-1.x86_64@available
+#>upgrade v-1-1.noarch@system v-2-1.noarch@available

@@ -9,3 +9,5 @@ repo available 0 testtags <inline>
 system x86_64 rpm system
 solverflags ignorerecommended
 job install name P
+result transaction,problems <inline>
+#>install P-1-1.noarch@available

@@ -15,3 +15,5 @@ repo available 0 testtags <inline>
 system x86_64 rpm system
 solverflags !allownamechange
 job update all packages
+result transaction,problems <inline>
+#>upgrade s-1-1.noarch@system s-2-1.x86_64@available

@@ -6,3 +6,5 @@ repo available 0 testtags <inline>
 system x86_64 rpm system
 solverflags noinfarchcheck
 job install pkg A-1-1.i686@available
+result transaction,problems <inline>
+#>install A-1-1.i686@available

@@ -14,3 +14,7 @@ repo available 0 testtags <inline>
 #>=Pkg: s 2 1 x86_64
 system x86_64 rpm system
 job update all packages
+result transaction,problems <inline>
+#>install m-1-1.noarch@available
+#>obsolete n-1-1.noarch@system m-1-1.noarch@available
+#>upgrade s-1-1.noarch@system s-2-1.x86_64@available

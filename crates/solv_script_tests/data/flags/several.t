@@ -15,3 +15,7 @@ repo available 0 testtags <inline>
 system x86_64 rpm system
 solverflags allowarchchange,allowvendorchange !allownamechange
 job update all packages
+result transaction,problems <inline>
+#>upgrade r-1-1.i686@system r-2-1.x86_64@available
+#>upgrade s-1-1.noarch@system s-2-1.x86_64@available
+#>upgrade v-1-1.noarch@system v-2-1.noarch@available

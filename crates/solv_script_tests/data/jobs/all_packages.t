@@ -8,3 +8,6 @@ system x86_64 rpm system
 job erase all packages
 job noop
 job noop name A
+result transaction,problems <inline>
+#>erase A-1-1.noarch@system
+#>erase B-1-1.noarch@system

@@ -7,3 +7,6 @@ repo available 0 testtags <inline>
 system x86_64 rpm system
 job allowuninstall name A
 job install name X
+result transaction,problems <inline>
+#>erase A-1-1.noarch@system
+#>install X-1-1.noarch@available

@@ -7,3 +7,5 @@ repo system 0 testtags <inline>
 repo available 0 testtags <inline>
 system x86_64 rpm system
 job erase name B
+result transaction,problems <inline>
+#>erase B-1-1.noarch@system

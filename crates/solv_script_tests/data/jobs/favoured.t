@@ -10,3 +10,6 @@ repo available 0 testtags <inline>
 system x86_64 rpm system
 job favor name lb
 job install name P
+result transaction,problems <inline>
+#>install P-1-1.noarch@available
+#>install lb-1-1.noarch@available

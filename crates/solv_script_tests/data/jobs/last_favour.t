@@ -14,3 +14,6 @@ job favor name lc
 job disfavor all packages
 job favor name lb
 job install name P
+result transaction,problems <inline>
+#>install P-1-1.noarch@available
+#>install lb-1-1.noarch@available

@@ -11,3 +11,5 @@ job lock name A
 job lock name Q
 job update all packages
 job install name P
+result transaction,problems <inline>
+#>install P-1-1.noarch@available

@@ -6,3 +6,5 @@ repo available 0 testtags <inline>
 system x86_64 rpm system
 job multiversion name kernel
 job install name kernel = 3
+result transaction,problems <inline>
+#>install kernel-3-1.noarch@available

@@ -6,3 +6,4 @@ repo available 0 testtags <inline>
 system x86_64 rpm system
 job multiversion name A
 job update all packages
+result transaction,problems <inline>

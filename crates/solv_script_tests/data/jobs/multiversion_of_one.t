@@ -6,3 +6,5 @@ repo available 0 testtags <inline>
 system x86_64 rpm system
 job multiversion name A = 1
 job update name A
+result transaction,problems <inline>
+#>upgrade A-1-1.noarch@system A-2-1.noarch@available

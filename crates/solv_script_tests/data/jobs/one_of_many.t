@@ -6,3 +6,5 @@ repo available 0 testtags <inline>
 #>=Pkg: A 1 1 noarch
 system x86_64 rpm system
 job install oneof B-2-1.noarch@available A-1-1.noarch@available B-2-1.noarch@available A-1-1.noarch@available B-2-1.noarch@available A-1-1.noarch@available B-2-1.noarch@available A-1-1.noarch@available B-2-1.noarch@available A-1-1.noarch@available B-2-1.noarch@available A-1-1.noarch@available B-2-1.noarch@available A-1-1.noarch@available B-2-1.noarch@available A-1-1.noarch@available B-2-1.noarch@available A-1-1.noarch@available B-2-1.noarch@available A-1-1.noarch@available B-2-1.noarch@available A-1-1.noarch@available B-2-1.noarch@available A-1-1.noarch@available B-2-1.noarch@available A-1-1.noarch@available B-2-1.noarch@available A-1-1.noarch@available B-2-1.noarch@available A-1-1.noarch@available B-2-1.noarch@available A-1-1.noarch@available B-2-1.noarch@available A-1-1.noarch@available B-2-1.noarch@available A-1-1.noarch@available B-2-1.noarch@available A-1-1.noarch@available B-2-1.noarch@available A-1-1.noarch@available
+result transaction,problems <inline>
+#>install A-1-1.noarch@available

@@ -197,3 +197,27 @@ job erase provides nosuch12
 job erase provides /bin/other13
 job erase provides /bin/other14 = 9
 job erase name x15
+result transaction,problems <inline>
+#>erase A09-1-1.noarch@system
+#>erase A10-1-1.noarch@system
+#>erase lib01-1-1.noarch@system
+#>erase lib01-2-1.noarch@system
+#>erase lib02-1-1.noarch@system
+#>erase lib02-2-1.noarch@system
+#>erase lib03-2-1.noarch@system
+#>erase lib04-2-1.noarch@system
+#>erase lib05-1-1.noarch@system
+#>erase lib06-1-1.noarch@system
+#>erase lib07-2-1.noarch@system
+#>erase lib08-2-1.noarch@system
+#>erase lib09-1-1.noarch@system
+#>erase lib09-2-1.noarch@system
+#>erase lib10-1-1.noarch@system
+#>erase lib11-1-1.noarch@system
+#>erase lib11-2-1.noarch@system
+#>erase other02-1-1.noarch@system
+#>erase other03-1-1.noarch@system
+#>erase other05-1-1.noarch@system
+#>erase other07-1-1.noarch@system
+#>erase other13-1-1.noarch@system
+#>erase other14-1-1.noarch@system

@@ -42,3 +42,15 @@ job erase oneof Ye-1-1.noarch@system Xe-1-1.noarch@system Ye-1-1.noarch@system
 job erase pkg Xf-2-1.noarch@system
 job erase name Yg < 1
 job erase name Xh < 2-1
+result transaction,problems <inline>
+#>erase Xa-1-1.noarch@system
+#>erase Xa-2-1.noarch@system
+#>erase Xb-2-1.noarch@system
+#>erase Xc-1-1.noarch@system
+#>erase Xc-2-1.noarch@system
+#>erase Xe-1-1.noarch@system
+#>erase Xf-2-1.noarch@system
+#>erase Xh-1-1.noarch@system
+#>erase Yc-1-1.noarch@system
+#>erase Yd-1-1.noarch@system
+#>erase Ye-1-1.noarch@system

@@ -8,3 +8,5 @@ system x86_64 rpm system
 job install name N
 job install name N
 job update name N
+result transaction,problems <inline>
+#>install N-2-1.noarch@available

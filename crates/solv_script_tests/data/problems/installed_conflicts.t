@@ -7,3 +7,9 @@ repo available 0 testtags <inline>
 #>=Prv: x
 system x86_64 rpm system
 job install name c
+result transaction,problems <inline>
+#>problem 1 info conflicting requests
+#>problem 1 info package a-1-1.noarch@system conflicts with x provided by c-1-1.noarch@available
+#>problem 1 info problem with installed package a-1-1.noarch@system
+#>problem 1 solution 1 erase a-1-1.noarch@system
+#>problem 1 solution 2 deljob install name c

@@ -5,3 +5,7 @@ repo available 0 testtags <inline>
 #>=Req: missing
 system x86_64 rpm system
 job install name A
+result transaction,problems <inline>
+#>problem 1 info conflicting requests
+#>problem 1 info nothing provides missing needed by A-1-1.noarch@available
+#>problem 1 solution 1 deljob install name A

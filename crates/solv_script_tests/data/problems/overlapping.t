@@ -9,3 +9,9 @@ system x86_64 rpm system
 job install name A
 job install name B
 job install name C
+result transaction,problems <inline>
+#>problem 1 info conflicting requests
+#>problem 1 info package A-1-1.noarch@available conflicts with B | (C & C)
+#>problem 1 solution 1 deljob install name A
+#>problem 1 solution 2 deljob install name B
+#>problem 1 solution 2 deljob install name C

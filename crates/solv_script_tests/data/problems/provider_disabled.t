@@ -7,3 +7,8 @@ repo available 0 testtags <inline>
 system x86_64 rpm system
 disable pkg lib-1-1.noarch@available
 job install name P
+result transaction,problems <inline>
+#>problem 1 info conflicting requests
+#>problem 1 info package P-1-1.noarch@available requires lib, but none of the providers can be installed
+#>problem 1 info package lib-1-1.noarch@available is not installable
+#>problem 1 solution 1 deljob install name P

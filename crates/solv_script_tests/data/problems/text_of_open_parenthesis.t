@@ -5,3 +5,7 @@ repo available 0 testtags <inline>
 #>=Req: (f(x )
 system x86_64 rpm system
 job install name P
+result transaction,problems <inline>
+#>problem 1 info conflicting requests
+#>problem 1 info nothing provides f(x needed by P-1-1.noarch@available
+#>problem 1 solution 1 deljob install name P

@@ -6,3 +6,9 @@ repo available 0 testtags <inline>
 system x86_64 rpm system
 job install name A
 job install name nosuch
+result transaction,problems <inline>
+#>problem 1 info conflicting requests
+#>problem 1 info nothing provides missing needed by A-1-1.noarch@available
+#>problem 1 solution 1 deljob install name A
+#>problem 2 info nothing provides requested nosuch
+#>problem 2 solution 1 deljob install name nosuch

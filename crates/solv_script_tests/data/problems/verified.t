@@ -7,3 +7,10 @@ repo available 0 testtags <inline>
 system x86_64 rpm system
 job install name C
 job verify all packages
+result transaction,problems <inline>
+#>problem 1 info nothing provides missing needed by B-1-1.noarch@system
+#>problem 1 info problem with installed package B-1-1.noarch@system
+#>problem 1 solution 1 erase B-1-1.noarch@system
+#>problem 2 info nothing provides missing needed by B-1-1.noarch@system
+#>problem 2 info problem with installed package B-1-1.noarch@system
+#>problem 2 solution 1 erase B-1-1.noarch@system

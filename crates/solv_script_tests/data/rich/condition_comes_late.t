@@ -10,3 +10,8 @@ repo available 0 testtags <inline>
 #>=Req: Y
 system x86_64 rpm system
 job install name P
+result transaction,problems <inline>
+#>install P-1-1.noarch@available
+#>install X-1-1.noarch@available
+#>install Y-1-1.noarch@available
+#>install Z-1-1.noarch@available

@@ -8,3 +8,7 @@ repo available 0 testtags <inline>
 system x86_64 rpm system
 job install name P
 job install name Y
+result transaction,problems <inline>
+#>install P-1-1.noarch@available
+#>install X-1-1.noarch@available
+#>install Y-1-1.noarch@available

@@ -6,3 +6,6 @@ repo available 0 testtags <inline>
 #>=Pkg: X 1 1 noarch
 system x86_64 rpm system
 job install name P
+result transaction,problems <inline>
+#>install P-1-1.noarch@available
+#>install X-1-1.noarch@available

@@ -7,3 +7,5 @@ repo available 0 testtags <inline>
 #>=Pkg: Y 1 1 noarch
 system x86_64 rpm system
 job install name P
+result transaction,problems <inline>
+#>install P-1-1.noarch@available

@@ -10,3 +10,5 @@ repo available 0 testtags <inline>
 #>=Prv: Y
 system x86_64 rpm system
 job install name P
+result transaction,problems <inline>
+#>install P-1-1.noarch@available

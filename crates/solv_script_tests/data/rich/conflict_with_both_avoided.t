@@ -14,3 +14,8 @@ system x86_64 rpm system
 job install name C
 job install name A
 job install name X
+result transaction,problems <inline>
+#>install A-1-1.noarch@available
+#>install C-1-1.noarch@available
+#>install D-1-1.noarch@available
+#>install X-1-1.noarch@available

@@ -11,3 +11,7 @@ repo available 0 testtags <inline>
 system x86_64 rpm system
 job install name C
 job install name X
+result transaction,problems <inline>
+#>install C-1-1.noarch@available
+#>install D-1-1.noarch@available
+#>install X-1-1.noarch@available

@@ -8,3 +8,6 @@ repo available 0 testtags <inline>
 system x86_64 rpm system
 job install name P
 job install name y
+result transaction,problems <inline>
+#>install P-1-1.noarch@available
+#>install y-1-1.noarch@available

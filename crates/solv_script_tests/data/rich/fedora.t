@@ -66,3 +66,16 @@ job install name git
 job install name curl
 job update name openssl-libs
 job update name zlib
+result transaction,problems <inline>
+#>install bash-completion-2.11-11.fc39.noarch@fedora
+#>install ca-certificates-2023.2.60-3.fc39.noarch@fedora
+#>install curl-8.2.1-3.fc39.x86_64@fedora
+#>install git-2.41.0-2.fc39.x86_64@fedora
+#>install git-core-2.41.0-2.fc39.x86_64@fedora
+#>install glibc-common-2.38-14.fc39.x86_64@fedora
+#>install less-633-2.fc39.x86_64@fedora
+#>install libcurl-8.2.1-3.fc39.x86_64@fedora
+#>install zlib-ng-compat-2.1.3-1.fc39.x86_64@fedora
+#>obsolete zlib-1.2.13-4.fc39.x86_64@system zlib-ng-compat-2.1.3-1.fc39.x86_64@fedora
+#>upgrade glibc-2.38-7.fc39.x86_64@system glibc-2.38-14.fc39.x86_64@fedora
+#>upgrade openssl-libs-1:3.0.9-2.fc39.x86_64@system openssl-libs-1:3.1.1-4.fc39.x86_64@fedora

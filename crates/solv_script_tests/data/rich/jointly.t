@@ -12,3 +12,6 @@ repo available 0 testtags <inline>
 #>=Prv: B
 system x86_64 rpm system
 job install name R
+result transaction,problems <inline>
+#>install R-1-1.noarch@available
+#>install p3-1-1.noarch@available

@@ -7,3 +7,7 @@ repo available 0 testtags <inline>
 #>=Pkg: c 1 1 noarch
 system x86_64 rpm system
 job install name P
+result transaction,problems <inline>
+#>install P-1-1.noarch@available
+#>install a-1-1.noarch@available
+#>install c-1-1.noarch@available

@@ -9,3 +9,7 @@ repo available 0 testtags <inline>
 system x86_64 rpm system
 job install name P
 job install name c
+result transaction,problems <inline>
+#>install P-1-1.noarch@available
+#>install a-1-1.noarch@available
+#>install c-1-1.noarch@available

@@ -6,3 +6,4 @@ repo available 0 testtags <inline>
 #>=Pkg: a 1 1 noarch
 #>=Pkg: b 1 1 noarch
 system x86_64 rpm system
+result transaction,problems <inline>

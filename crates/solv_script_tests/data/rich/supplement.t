@@ -10,3 +10,7 @@ repo available 0 testtags <inline>
 system x86_64 rpm system
 job install name a
 job install name b
+result transaction,problems <inline>
+#>install a-1-1.noarch@available
+#>install b-1-1.noarch@available
+#>install s-1-1.noarch@available

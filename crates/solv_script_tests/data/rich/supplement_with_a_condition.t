@@ -7,3 +7,6 @@ repo available 0 testtags <inline>
 #>=Pkg: y 1 1 noarch
 system x86_64 rpm system
 job install name a
+result transaction,problems <inline>
+#>install a-1-1.noarch@available
+#>install s-1-1.noarch@available

@@ -13,3 +13,10 @@ repo available 0 testtags <inline>
 #>=Pkg: or 1 1 noarch
 system x86_64 rpm system
 job install name P
+result transaction,problems <inline>
+#>install A-1-1.noarch@available
+#>install B-1-1.noarch@available
+#>install D-1-1.noarch@available
+#>install P-1-1.noarch@available
+#>install and-1-1.noarch@available
+#>install or-1-1.noarch@available

@@ -11,3 +11,5 @@ repo available 0 testtags <inline>
 #>=Pkg: c 1 1 noarch
 system x86_64 rpm system
 job install name c
+result transaction,problems <inline>
+#>install c-1-1.noarch@available

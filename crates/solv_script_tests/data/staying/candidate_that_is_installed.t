@@ -5,3 +5,4 @@ repo available 0 testtags <inline>
 #>=Pkg: A 2 1 noarch
 system x86_64 rpm system
 job install name A
+result transaction,problems <inline>

@@ -7,3 +7,5 @@ repo available 0 testtags <inline>
 #>=Pkg: K 2 1 noarch
 system x86_64 rpm system
 job update name K
+result transaction,problems <inline>
+#>upgrade K-1-1.noarch@system K-2-1.noarch@available

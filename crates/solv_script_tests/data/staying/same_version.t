@@ -5,3 +5,4 @@ repo system 0 testtags <inline>
 #>=Pkg: A 1 1 noarch
 system x86_64 rpm system
 job update name A
+result transaction,problems <inline>

@@ -6,3 +6,4 @@ repo available 0 testtags <inline>
 #>=Req: missing
 system x86_64 rpm system
 job update name A
+result transaction,problems <inline>

@@ -123,3 +123,4 @@ evrcmp 1ÿ0 = 1.0
 evrcmp 1.0 >= 1ÿ0
 evrcmp aé = a
 evrcmp a >= aé
+result transaction,problems <inline>

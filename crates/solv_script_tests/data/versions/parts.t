@@ -9,3 +9,4 @@ evrcmp 1-2:3 = 1-2.3
 evrcmp 1-2:3 < 2
 evrcmp a-b-c = a.b-c
 evrcmp a-b-c > a-b.c
+result transaction,problems <inline>

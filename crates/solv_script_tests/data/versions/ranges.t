@@ -98,3 +98,24 @@ job erase provides n29 = 1-1
 job erase provides n30 = 1:1
 job erase provides n31 = 1-1
 job erase provides n32 = 1-
+result transaction,problems <inline>
+#>erase p01-1-1.noarch@system
+#>erase p02-1-1.noarch@system
+#>erase p05-1-1.noarch@system
+#>erase p06-1-1.noarch@system
+#>erase p09-1-1.noarch@system
+#>erase p10-1-1.noarch@system
+#>erase p11-1-1.noarch@system
+#>erase p12-1-1.noarch@system
+#>erase p13-1-1.noarch@system
+#>erase p14-1-1.noarch@system
+#>erase p15-1-1.noarch@system
+#>erase p16-1-1.noarch@system
+#>erase p19-1-1.noarch@system
+#>erase p20-1-1.noarch@system
+#>erase p21-1-1.noarch@system
+#>erase p22-1-1.noarch@system
+#>erase p25-1-1.noarch@system
+#>erase p26-1-1.noarch@system
+#>erase p27-1-1.noarch@system
+#>erase p28-1-1.noarch@system

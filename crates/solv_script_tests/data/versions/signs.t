@@ -146,3 +146,28 @@ job erase provides n45 <> 2-1
 job erase provides n46 = 2~-9
 job erase provides n47 <> 2-1
 job erase provides n48 = 3-1
+result transaction,problems <inline>
+#>erase p01-1-1.noarch@system
+#>erase p02-1-1.noarch@system
+#>erase p05-1-1.noarch@system
+#>erase p06-1-1.noarch@system
+#>erase p09-1-1.noarch@system
+#>erase p10-1-1.noarch@system
+#>erase p11-1-1.noarch@system
+#>erase p12-1-1.noarch@system
+#>erase p13-1-1.noarch@system
+#>erase p14-1-1.noarch@system
+#>erase p19-1-1.noarch@system
+#>erase p20-1-1.noarch@system
+#>erase p27-1-1.noarch@system
+#>erase p28-1-1.noarch@system
+#>erase p31-1-1.noarch@system
+#>erase p32-1-1.noarch@system
+#>erase p39-1-1.noarch@system
+#>erase p40-1-1.noarch@system
+#>erase p41-1-1.noarch@system
+#>erase p42-1-1.noarch@system
+#>erase p45-1-1.noarch@system
+#>erase p46-1-1.noarch@system
+#>erase p47-1-1.noarch@system
+#>erase p48-1-1.noarch@system

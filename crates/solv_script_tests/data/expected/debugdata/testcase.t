@@ -6,4 +6,4 @@ solverflags allowvendorchange !allowdowngrade
 job update oneof editor-1-1.noarch@@System editor-2-1.noarch@local
 job install name viewer [forcebest]
 job multiversion provides kernel
-result transaction solver.result
+result transaction,problems solver.result

@@ -1,0 +1,10 @@
+# Update and distupgrade of one package: the distribution upgrade is what counts.
+repo system 0 testtags <inline>
+#>=Pkg: A 2 1 noarch
+repo available 0 testtags <inline>
+#>=Pkg: A 1 1 noarch
+system x86_64 rpm system
+job update name A
+job distupgrade name A
+result transaction,problems <inline>
+#>downgrade A-2-1.noarch@system A-1-1.noarch@available

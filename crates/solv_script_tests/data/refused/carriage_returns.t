@@ -1,0 +1,4 @@
+# The last line is refused: UnknownLine.
+
+#
+foo

@@ -1,0 +1,2 @@
+# The last line is refused: UnknownJobFlag.
+job erase name A [cleandeps,x]

@@ -1,0 +1,2 @@
+# The last line is refused: FlagNotHere.
+job install name A [cleandeps]

@@ -1,0 +1,2 @@
+# The last line is refused: BadOperator.
+evrcmp 1 ! 2

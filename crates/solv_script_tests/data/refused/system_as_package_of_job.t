@@ -1,0 +1,5 @@
+# The last line is refused: SystemInJob.
+repo a 0 testtags <inline>
+#>=Pkg: A 1 1 noarch
+#>=Pkg: B 1 1 noarch
+job install pkg @SYSTEM

@@ -1,0 +1,2 @@
+# The last line is refused: BadWords.
+repo a x foo b c
