@@ -1,24 +1,41 @@
 #!/usr/bin/env python3
-"""What has to be believed: the definitions that the contracts of `run` and `proof_run` and the public laws reach.
+"""What has to be believed: the definitions that the contracts of the top calls and the public laws reach.
 
-    tools/promise.py            counts, crate by crate, of what is promised and what stands beside it
-    tools/promise.py --check    fails where a module of a crate's specs/ holds anything else: what serves contracts
-                                between layers, loops and tables stands in specs/Inner/, examples in specs/Examples/
-    tools/promise.py --print    the promise as one text in reading order, lowest crate first
+    tools/promise.py               how large each of the three promises is, and crate by crate what stands beside them
+    tools/promise.py --check       fails where a module of a crate's specs/ holds anything else: what serves contracts
+                                   between layers, loops and tables stands in specs/Inner/, examples in specs/Examples/
+    tools/promise.py --print NAME  one promise as a text in reading order, lowest crate first: `library` (`prepare` and
+                                   `answer`), `run` (testsolv), `proofcheck`, or `laws`, what public laws say besides;
+                                   without NAME all of them together
 
-A public law is a public function of a module `laws` that does nothing; one that calls other laws says how layers fit each
-other, and is not counted, but for those on the checker of proofs. It reads the files as text, at the top of the repository. A name that is bound again inside a definition counts as the
-definition of that name, so that the promise may come out larger than it is, and not smaller.
+The promise of a program counts with the contracts of the traits through which it meets files and sinks. A public law is a
+public function of a module `laws` that does nothing (LAW_MODULES names one more module); one that calls other laws says how
+layers fit each other, and is not counted, but for those on the checker of proofs.
+
+Each definition counts by itself, also in a block of some that share their parameters; those of a block `mutual` count
+together. Constructors of `data` are names of their type; the fields of a record are no definitions. It reads the files as
+text, at the top of the repository. A name that is bound again inside a definition counts as the definition of that name, so
+that the promise may come out larger than it is, and not smaller.
 """
 import collections
 import pathlib
 import re
+import signal
 import sys
 
 # crates that hold nothing but examples and tests
 EXAMPLES = ("solv_worked", "solv_call_tests")
-# the top calls of the programs, which stand in a module `top`
-TOP_CALLS = {"solv_run": "run", "solv_proof_run": "proof_run"}
+# the calls that each promise is of: crate, module, functions
+CALLS = {
+    "library": (("solv_answers", "preparing", ("prepare",)), ("solv_answers", "answering", ("answer",))),
+    "run": (("solv_run", "top", ("run",)),),
+    "proofcheck": (("solv_proof_run", "top", ("proof_run",)),),
+}
+# the traits through which the programs meet the outside: crate, module, trait
+TRAITS = (("solv_io", "fetching", "Files"), ("solv_io", "writing", "Sink"))
+PROGRAMS = ("run", "proofcheck")
+# modules with public laws beside those whose name ends with `laws`
+LAW_MODULES = (("solv_graph", "reaching"),)
 # crates whose laws are promised although they call others: what the checker of proofs says
 CHECKERS = ("solv_verdicts", "solv_proof_run")
 ROOT = pathlib.Path(__file__).resolve().parent.parent
@@ -29,10 +46,10 @@ KINDS = ("abbrev ", "unfoldable ", "record ", "data ", "pub record ", "pub data 
 
 
 class Definition:
-    """A definition, or a block of some that share their parameters or call each other."""
+    """A definition, or a block of some that call each other."""
 
-    def __init__(self, module, line, names, lines, comment):
-        self.module, self.line, self.names, self.lines, self.comment = module, line, names, lines, comment
+    def __init__(self, module, line, names, lines, comment, headers):
+        self.module, self.line, self.names, self.lines, self.comment, self.headers = module, line, names, lines, comment, headers
 
 
 class Module:
@@ -65,61 +82,47 @@ def imports_of(lines):
 
 
 def items_of(module):
-    """Each item from its comment to the next one's."""
-    lines, start, comment, names = module.text, None, None, []
-    end = 0
-    for number, line in enumerate(lines + ["abbrev end : ℕ"]):
-        top = line[:1].strip() != ""
-        if not top:
-            continue
-        if USE.match(line) or line.startswith("pub mod "):
-            comment = None
-            continue
-        if line.startswith("--"):
-            if comment is None:
-                comment = number
-            continue
-        name = HEAD.match(line)
-        block = line.startswith("module ") or line.strip() in ("mutual", "abbrev mutual")
-        new = block or (name and name.group(2) not in names)
-        if not new:
-            comment = None
-            continue
-        if start is not None:
-            end = comment if comment is not None else number
-            yield item(module, start, end, names)
-        start = comment if comment is not None else number
-        while start < number and not lines[start].startswith("--"):
-            start += 1
-        comment = None
-        names = block_names(lines, number) if block else [name.group(2)]
-
-
-def block_names(lines, number):
-    """The names that a block defines, those of blocks within it too, without the fields of records."""
-    found, fields = [], None
-    for line in lines[number + 1:]:
-        if line[:1].strip():
-            break
+    """Each definition by itself, with its comment and the headers of the blocks round it. A `mutual` block stays whole."""
+    headers, comment, item, mutual = [], [], None, None
+    for number, line in enumerate(module.text):
         rest = line.lstrip()
         depth = len(line) - len(rest)
-        if rest and fields is not None and depth <= fields:
-            fields = None
-        name = HEAD.match(rest)
-        if name and (rest.startswith(KINDS) or fields is None and re.match(r"^(?:pub )?[^\s:=(]+ :", rest)):
-            found.append(name.group(2))
-        if re.match(r"^(?:pub )?(?:record|data) ", rest):
-            fields = depth
-    return found
+        if not rest:
+            continue
+        if depth == 0 and (USE.match(line) or line.startswith("pub mod ")):
+            item, comment = None, []
+            continue
+        while headers and depth <= headers[-1][0]:
+            headers.pop()
+        base = headers[-1][0] + 2 if headers else 0
+        if mutual is not None and depth <= mutual:
+            item, mutual = None, None
+        if rest.startswith("--") and (item is None or depth <= base) and mutual is None:
+            comment.append(line)
+            continue
+        if mutual is None and depth == base and rest.startswith("module "):
+            headers.append((depth, line))
+            item = None
+            continue
+        if depth == base and (rest.strip() in ("mutual", "abbrev mutual") or begins(rest, item)):
+            names = [] if rest.strip().endswith("mutual") else [HEAD.match(rest).group(2)]
+            item = Definition(module, number + 1, names, [line], comment, [header for _, header in headers])
+            comment = []
+            mutual = depth if not names else None
+            yield item
+            continue
+        if item is not None:
+            item.lines.append(line)
+            if mutual is not None and depth == mutual + 2:
+                name = HEAD.match(rest)
+                if name and (rest.startswith(KINDS) or re.match(r"^(?:pub )?[^\s:=(]+ :", rest)):
+                    item.names.append(name.group(2))
 
 
-def item(module, start, end, names):
-    lines = module.text[start:end]
-    while lines and not lines[-1].strip():
-        lines = lines[:-1]
-    body = [line for line in lines if not line.lstrip().startswith("--")]
-    comment = [line for line in lines if line.lstrip().startswith("--")]
-    return Definition(module, start + 1, names, body, comment)
+def begins(rest, item):
+    """Whether a line is the first of a definition, and no equation of the one in hand."""
+    name = HEAD.match(rest)
+    return bool(name) and (rest.startswith(KINDS) or re.match(r"^(?:pub )?[^\s:=(]+ :", rest) is not None) and (item is None or name.group(2) not in item.names)
 
 
 def crates():
@@ -196,16 +199,24 @@ class Book:
                 continue
             seen.add(item)
             module = item.module
-            left += [other for other in self.cited(words_of(item.lines), module.imports, module.aliases, module.crate, module.name) if other]
+            left += [other for other in self.cited(words_of(item.headers + item.lines), module.imports, module.aliases, module.crate, module.name) if other]
         return seen
 
 
 def parts_of(item):
-    """The constructors and fields that a record or a `data` names."""
-    for line in item.lines[1:]:
-        part = re.match(r"^\s+(?:pub )?([^\s:(){}]+) :", line)
-        if part:
-            yield part.group(1)
+    """The constructors of the types that an item defines by `data`; the fields of a record are no definitions."""
+    inside = None
+    for line in item.lines:
+        rest = line.lstrip()
+        depth = len(line) - len(rest)
+        if inside is not None and depth <= inside:
+            inside = None
+        if re.match(r"^(?:pub )?data ", rest):
+            inside = depth
+        elif inside is not None and depth == inside + 2:
+            part = re.match(r"^((?:[^\s:(){}]+ )+):", rest)
+            if part:
+                yield from part.group(1).split()
 
 
 def functions_of(path):
@@ -218,61 +229,122 @@ def functions_of(path):
             yield match.group(2), text[match.start():end.start()], end.group(0).strip() == "{}"
 
 
-def seeds_of(book):
-    """What the contracts of the top calls name, and what the public laws name."""
-    top, laws = [], []
+def trait_clauses(path, trait):
+    """The clauses of the functions of a trait."""
+    text = path.read_text()
+    begin = re.search(r"^pub trait " + trait + r" \{$", text, re.M).end()
+    body = text[begin:text.index("\n}\n", begin)]
+    return "\n".join(line for line in body.split("\n") if not line.lstrip().startswith("//"))
+
+
+def cited_by(book, path, clauses):
+    imports, aliases = imports_of(path.read_text().split("\n"))
+    return [item for item in book.cited(words_of([clauses]), imports, aliases) if item]
+
+
+def source(crate, module):
+    return ROOT / "crates" / crate / "src" / f"{module}.rt"
+
+
+def seeds_of_calls(book, name):
+    """What the contracts of these calls name, and of a program those of the traits."""
+    found = []
+    for crate, module, functions in CALLS[name]:
+        path = source(crate, module)
+        clauses = {function: text for function, text, _ in functions_of(path)}
+        for function in functions:
+            found += cited_by(book, path, clauses[function])
+    if name in PROGRAMS:
+        for crate, module, trait in TRAITS:
+            path = source(crate, module)
+            found += cited_by(book, path, trait_clauses(path, trait))
+    return found
+
+
+def seeds_of_laws(book):
+    """What the public laws name."""
+    found = []
     for crate in book.crates:
         for path in sorted((ROOT / "crates" / crate / "src").rglob("*.rt")):
-            top_call = TOP_CALLS.get(crate) if path.stem == "top" else None
-            if not top_call and not path.stem.endswith("laws"):
-                continue
-            imports, aliases = imports_of(path.read_text().split("\n"))
-            for name, clauses, is_empty in functions_of(path):
-                found = [item for item in book.cited(words_of([clauses]), imports, aliases) if item]
-                if top_call and name == top_call:
-                    top += found
-                elif is_empty or (crate in CHECKERS and not top_call):
-                    laws += found
-    return top, laws
+            if path.stem.endswith("laws") or (crate, path.stem) in LAW_MODULES:
+                for _, clauses, is_empty in functions_of(path):
+                    if is_empty or crate in CHECKERS:
+                        found += cited_by(book, path, clauses)
+    return found
 
 
-def size(items):
+def lines_of(items):
     return sum(len(item.lines) + len(item.comment) for item in items)
 
 
-def main():
-    book = Book()
-    top, laws = seeds_of(book)
-    run, law = book.reach(top), book.reach(laws)
-    promise = run | law
-    if "--print" in sys.argv:
-        for item in book.definitions:
-            if item in promise:
-                print(f"-- {item.module.crate}, {item.module.name}")
-                print("\n".join(item.comment + item.lines), end="\n\n")
-        return 0
-    print(f"{sum(len(i.names) for i in run)} definitions, {size(run)} lines, are reached by the contracts of the top calls; {sum(len(i.names) for i in promise - run)}, {size(promise - run)} lines, by public laws alone; of {sum(len(i.names) for i in book.definitions)}, {size(book.definitions)} lines")
-    wrong = []
-    for name, module in book.modules.items():
-        others = [item for item in module.items if item not in promise]
+def code_of(items):
+    return sum(len(item.lines) for item in items)
+
+
+def names_of(items):
+    return sum(len(item.names) for item in items)
+
+
+def told(what, items):
+    return f"{what:30} {names_of(items):5} definitions, {lines_of(items):5} lines, {code_of(items):5} of them without comments"
+
+
+def misplaced(book, promise):
+    """Definitions that stand where the others of their module should not."""
+    for module in book.modules.values():
         apart = module.crate in EXAMPLES or module.name.split(".")[0] in ("Inner", "Examples")
-        if others and not apart:
-            wrong += others
-        if apart:
-            wrong += [item for item in module.items if item in promise]
-    if "--check" not in sys.argv:
-        table = collections.Counter()
-        for item in book.definitions:
-            table[(item.module.crate, item in promise)] += len(item.comment) + len(item.lines)
-        for crate in book.crates:
-            if table[(crate, True)] or table[(crate, False)]:
-                print(f"{crate:16} {table[(crate, True)]:6} lines promised, {table[(crate, False)]:6} beside it")
-        return 0
-    for item in wrong:
+        yield from (item for item in module.items if (item in promise) == apart)
+
+
+def check(book, promise):
+    wrong = 0
+    for item in misplaced(book, promise):
         where = "is not of the promise" if item not in promise else "is of the promise"
         print(f"{item.module.path.relative_to(ROOT)}:{item.line}: {' '.join(item.names[:3])} {where}")
+        wrong += 1
     return 1 if wrong else 0
 
 
+def table(book, promise):
+    lines = collections.Counter()
+    for item in book.definitions:
+        lines[(item.module.crate, item in promise)] += len(item.comment) + len(item.lines)
+    for crate in book.crates:
+        if lines[(crate, True)] or lines[(crate, False)]:
+            print(f"{crate:16} {lines[(crate, True)]:6} lines promised, {lines[(crate, False)]:6} beside it")
+
+
+def main():
+    words = sys.argv[1:]
+    book = Book()
+    promises = {name: book.reach(seeds_of_calls(book, name)) for name in CALLS}
+    calls = set().union(*promises.values())
+    laws = book.reach(seeds_of_laws(book))
+    promise = calls | laws
+    if words[:1] == ["--print"] and len(words) <= 2 and set(words[1:]) <= {*CALLS, "laws"}:
+        chosen = {**promises, "laws": laws - calls}[words[1]] if words[1:] else promise
+        for item in book.definitions:
+            if item in chosen:
+                print(f"-- {item.module.crate}, {item.module.name}")
+                print("\n".join(item.headers + item.comment + item.lines), end="\n\n")
+        return 0
+    if words == ["--check"]:
+        return check(book, promise)
+    if words:
+        print("usage: promise.py [--check | --print [library | run | proofcheck | laws]]", file=sys.stderr)
+        return 2
+    print(told("library, `prepare`, `answer`:", promises["library"]))
+    print(told("`run`:", promises["run"]))
+    print(told("`proof_run`:", promises["proofcheck"]))
+    print(told("  beside what `run` has:", promises["proofcheck"] - promises["run"]))
+    print(told("all three:", calls))
+    print(told("public laws besides:", laws - calls))
+    print(told("all definitions there are:", set(book.definitions)), end="\n\n")
+    table(book, promise)
+    return 0
+
+
 if __name__ == "__main__":
+    # (who reads the first lines alone ends it)
+    signal.signal(signal.SIGPIPE, signal.SIG_DFL)
     sys.exit(main())

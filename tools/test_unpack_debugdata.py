@@ -1,5 +1,5 @@
 #!/usr/bin/env python3
-"""Tries unpack_debugdata.py on a folder of its own making, and the program on what comes out.
+"""Tries unpack_debugdata.py on folders of its own making, and the program on what comes out.
 
     tools/test_unpack_debugdata.py [PROGRAM]
 
@@ -16,15 +16,21 @@ TOOL = pathlib.Path(__file__).with_name("unpack_debugdata.py")
 SCRIPT = """\
 repo @System -99.-1000 testtags @System.repo.gz
 repo local -99.-1000 testtags local.repo.gz
-repo media 0 rpmmd media.xml
+repo media 0.-1000 rpmmd media.xml
+repo more 0.-1000 testtags <inline>
+#>=Pkg: more 1 1 noarch
 system x86_64 rpm @System
 poolflags implicitobsoleteusescolors whatprovideswithdisabled
 solverflags allowvendorchange !allowdowngrade keeporphans
 job update oneof editor-1-1.noarch@@System editor-2-1.noarch@local [targeted,setevr]
+job distupgrade name reader [targeted]
+job erase name writer [cleandeps,weak]
+job update name reader [cleandeps]
+job userinstalled oneof editor-1-1.noarch@@System
 job install name viewer [forcebest,setarch]
 job excludefromweak pkg editor-2-1.noarch@local
 job multiversion provides kernel
-result transaction,problems solver.result
+result transaction,problems results/solver.result
 nextjob
 job erase name viewer
 """
@@ -33,12 +39,18 @@ UNPACKED = """\
 repo @System -99 testtags @System.repo
 repo local -99 testtags local.repo
 repo media 0 empty
+repo more 0 testtags <inline>
+#>=Pkg: more 1 1 noarch
 system x86_64 rpm @System
 solverflags allowvendorchange !allowdowngrade
 job update oneof editor-1-1.noarch@@System editor-2-1.noarch@local
+job distupgrade name reader
+job erase name writer [cleandeps]
+job update name reader
+job userinstalled oneof editor-1-1.noarch@@System
 job install name viewer [forcebest]
 job multiversion provides kernel
-result transaction solver.result
+result transaction,problems results/solver.result
 """
 
 INSTALLED = "=Ver: 3.0\n=Pkg: editor 1 1 noarch\n=Pkg: reader 1 1 noarch\n"
@@ -51,17 +63,26 @@ upgrade editor-1-1.noarch@@System editor-2-1.noarch@local
 """
 
 LEFT_OUT = """\
-left out: a job excludefromweak
+left out, which may change the answer: a job excludefromweak
+left out, which may change the answer, 2 times: the job's flag targeted
+left out, which may change the answer: the job's flag weak
+left out, which may change the answer: the packages of a repository of the type rpmmd
+left out, which may change the answer: the rest behind a line nextjob
 left out: a line poolflags
-left out: expected lines of the kind problems
+left out: the job's flag cleandeps
 left out: the job's flag setarch
 left out: the job's flag setevr
-left out: the job's flag targeted
-left out: the packages of a repository of the type rpmmd
-left out: the rest behind a line nextjob
-left out, 2 times: the second part of a priority, -1000
+left out, 4 times: the second part of all priorities, -1000
 left out: the solver's flag keeporphans
 """
+
+# a script, and the words at the end of the fault with which it is refused
+REFUSED = (
+    ("repo a 0 testtags a.repo.zst\njob install name a\n", "name the other file in testcase.t"),
+    ("repo a 0 testtags a.repo.gz\nrepo b 0 testtags a.repo\njob install name a\n", "a.repo and a.repo.gz would both be a.repo"),
+    ("repo a 0 testtags ../a.repo\njob install name a\n", "../a.repo stands outside of the folder"),
+    ("repo a 0 empty\njob drop_orphaned all packages\njob multiversion provides kernel\n", "no job is left that asks for something"),
+)
 
 
 def same(what, found, wanted):
@@ -74,7 +95,8 @@ def main():
         source, target = pathlib.Path(folder, "from"), pathlib.Path(folder, "to")
         source.mkdir()
         (source / "testcase.t").write_text(SCRIPT)
-        (source / "solver.result").write_text(RESULT)
+        (source / "results").mkdir()
+        (source / "results" / "solver.result").write_text(RESULT)
         (source / "@System.repo.gz").write_bytes(gzip.compress(INSTALLED.encode()))
         (source / "local.repo.gz").write_bytes(gzip.compress(LOCAL.encode()))
         run = subprocess.run([sys.executable, TOOL, source, target], capture_output=True, text=True)
@@ -82,9 +104,18 @@ def main():
         same("what was left out", run.stderr, LEFT_OUT)
         same("the script", (target / "testcase.t").read_text(), UNPACKED)
         same("what is installed", (target / "@System.repo").read_text(), INSTALLED)
-        same("what is expected", (target / "solver.result").read_text(), RESULT.replace("erase", "obsolete"))
+        same("what is expected", (target / "results" / "solver.result").read_text(), RESULT.replace("erase", "obsolete"))
         again = subprocess.run([sys.executable, TOOL, source, target], capture_output=True, text=True)
         same("a folder that is there already", again.returncode, 1)
+        for number, (script, fault) in enumerate(REFUSED):
+            refused, nothing = pathlib.Path(folder, f"refused{number}"), pathlib.Path(folder, f"nothing{number}")
+            refused.mkdir()
+            (refused / "testcase.t").write_text(script)
+            (refused / "a.repo").write_text(LOCAL)
+            (refused / "a.repo.gz").write_bytes(gzip.compress(LOCAL.encode()))
+            (refused / "a.repo.zst").write_bytes(b"packed")
+            run = subprocess.run([sys.executable, TOOL, refused, nothing], capture_output=True, text=True)
+            same(f"a script that is refused, {number}", (run.returncode, run.stderr.endswith(fault + "\n"), nothing.exists()), (1, True, False))
         if len(sys.argv) > 1:
             solved = subprocess.run([sys.argv[1], target / "testcase.t"], capture_output=True, text=True)
             same("what the program says", (solved.returncode, solved.stdout, solved.stderr), (0, "", ""))

@@ -3,10 +3,13 @@
 
     tools/unpack_debugdata.py FROM TO
 
-FROM has libsolv's script testcase.t and what it names; TO is made, and must not be there yet. Repositories are unpacked. Lines and
-words that docs/FORMATS.md does not have are left out, and each kind of them is told once on stderr, with how often it
-stood there. An expected transaction is kept where the result has no problems, whose numbers are libsolv's own; an erased package
-that another one obsoletes is `obsolete` here. Where anything fails, TO is not left behind.
+FROM has libsolv's script testcase.t and what it names; TO is made, and must not be there yet. Repositories are unpacked. Lines
+and words that docs/FORMATS.md does not have are left out, and each kind of them is told once on stderr, with how often it
+stood there: first what may change the answer by itself. An expected transaction is kept where libsolv had one; problems, whose
+numbers are libsolv's own, are not. An erased package that another one obsoletes is `obsolete` here.
+
+Where anything fails, TO is not left behind, and the status is 1: a file that cannot be read or unpacked, two files that would
+come to one name, or a script whose jobs ask for something, and none of these is left.
 """
 import bz2
 import collections
@@ -19,10 +22,17 @@ import sys
 UNPACK = {".gz": gzip.decompress, ".bz2": bz2.decompress, ".xz": lzma.decompress, ".lzma": lzma.decompress}
 SOLVER_FLAGS = {"allowdowngrade", "allownamechange", "allowarchchange", "allowvendorchange", "allowuninstall",
                 "ignorerecommended", "noinfarchcheck"}
-ACTIONS = {"install", "erase", "update", "lock", "verify", "multiversion", "allowuninstall", "favor", "disfavor", "noop"}
+# jobs that ask for something, and jobs that only say how packages are to be taken
+ASKING = {"install", "erase", "update", "distupgrade", "verify"}
+MARKING = {"lock", "multiversion", "allowuninstall", "favor", "disfavor", "userinstalled", "noop"}
+# marks that are not read here
+OTHER_MARKS = {"excludefromweak", "blacklist"}
 SELECTIONS = {"pkg", "name", "provides", "oneof", "all"}
-BEST = {"install", "update"}
+# the flags of jobs, and where they may stand
+JOB_FLAGS = {"forcebest": {"install", "update"}, "cleandeps": {"erase"}}
 AS_IT_IS = {"system", "namespace", "disable", "evrcmp"}
+# the lines of a transaction
+CHANGES = {"install", "erase", "upgrade", "downgrade", "change", "reinstall", "obsolete"}
 
 
 class Unpacking:
@@ -30,7 +40,9 @@ class Unpacking:
 
     def __init__(self, source, target):
         self.source, self.target = source, target
-        self.left_out = collections.Counter()
+        self.decisive, self.others = collections.Counter(), collections.Counter()
+        self.written, self.priorities = {}, collections.Counter()
+        self.asked = self.kept = 0
 
     def file(self, name):
         """Unpacks a file that the script names, and gives the name that it has then; it stands under the same path."""
@@ -39,67 +51,68 @@ class Unpacking:
         path = pathlib.PurePosixPath(name)
         if path.is_absolute() or ".." in path.parts:
             raise ValueError(f"{name} stands outside of the folder")
+        if path.suffix == ".zst":
+            raise ValueError(f"{name} is compressed as .zst, which is not unpacked here: unpack it by zstd -d, and name the other file in testcase.t")
         data = (self.source / path).read_bytes()
         if path.suffix in UNPACK:
             data, path = UNPACK[path.suffix](data), path.with_suffix("")
-        elif path.suffix == ".zst":
-            self.left_out["the packages of a repository that is compressed as .zst"] += 1
-            return None
-        self.write(path, data)
+        self.write(path, data, name)
         return str(path)
 
-    def write(self, path, data):
+    def write(self, path, data, name):
+        if self.written.setdefault(str(path), name) != name:
+            raise ValueError(f"{name} and {self.written[str(path)]} would both be {path}")
         place = self.target / path
         place.parent.mkdir(parents=True, exist_ok=True)
         place.write_bytes(data)
 
     def repo(self, words):
         name, priority, kind = words[1:4]
-        first, dot, second = priority.partition(".")
-        if dot:
-            self.left_out[f"the second part of a priority, {second}"] += 1
+        first, _, second = priority.partition(".")
+        self.priorities[second] += 1
         if kind == "testtags" and len(words) == 5:
-            file = self.file(words[4])
-            return f"repo {name} {first} testtags {file}" if file else f"repo {name} {first} empty"
+            return f"repo {name} {first} testtags {self.file(words[4])}"
         if kind != "empty":
-            self.left_out[f"the packages of a repository of the type {kind}"] += 1
+            self.decisive[f"the packages of a repository of the type {kind}"] += 1
         return f"repo {name} {first} empty"
 
     def solverflags(self, words):
         flags = [flag for word in words[1:] for flag in word.split(",") if flag]
         for flag in flags:
             if flag.lstrip("!") not in SOLVER_FLAGS:
-                self.left_out[f"the solver's flag {flag}"] += 1
+                self.others[f"the solver's flag {flag}"] += 1
         known = [flag for flag in flags if flag.lstrip("!") in SOLVER_FLAGS]
         return "solverflags " + " ".join(known) if known else None
 
     def job(self, words):
         action = words[1]
+        self.asked += action not in MARKING | OTHER_MARKS
         flags = words[-1][1:-1].split(",") if words[-1].startswith("[") and words[-1].endswith("]") else []
         rest = words[2:-1] if flags else words[2:]
-        if action not in ACTIONS or (rest and rest[0] not in SELECTIONS):
-            self.left_out[f"a job {action}" + ("" if action not in ACTIONS else f" {rest[0]}")] += 1
+        if action not in ASKING | MARKING or (rest and rest[0] not in SELECTIONS):
+            self.decisive[f"a job {action}" + ("" if action not in ASKING | MARKING else f" {rest[0]}")] += 1
             return None
-        best = [flag for flag in flags if flag == "forcebest" and action in BEST]
+        self.kept += action in ASKING
+        known = [flag for flag in flags if action in JOB_FLAGS.get(flag, ())]
         for flag in flags:
-            if flag not in best:
-                self.left_out[f"the job's flag {flag}"] += 1
-        return " ".join(["job", action, *rest, *(["[forcebest]"] if best else [])])
+            if flag not in known:
+                (self.decisive if flag in ("weak", "targeted") else self.others)[f"the job's flag {flag}"] += 1
+        return " ".join(["job", action, *rest, *([f"[{','.join(known)}]"] if known else [])])
 
     def result(self, words):
-        kinds, name = words[1].split(","), words[2]
+        name = words[2]
         path = pathlib.PurePosixPath(name)
         inside = name != "<inline>" and not path.is_absolute() and ".." not in path.parts
-        lines = (self.source / path).read_text().splitlines() if inside else []
-        if not inside or "transaction" not in kinds or any(line.startswith("problem ") for line in lines):
-            self.left_out["the expected lines"] += 1
+        lines = [line for line in (self.source / path).read_text().splitlines() if line.strip()] if inside else []
+        if not inside or "transaction" not in words[1].split(",") or any(line.startswith("problem ") for line in lines):
+            self.others["the expected lines"] += 1
             return None
-        wanted = [self.change(line) for line in lines if line.strip()]
-        self.write(path, "".join(line + "\n" for line in wanted).encode())
-        for kind in kinds:
-            if kind != "transaction":
-                self.left_out[f"expected lines of the kind {kind}"] += 1
-        return f"result transaction {name}"
+        wanted = [self.change(line) for line in lines if line.split()[0] in CHANGES]
+        self.write(path, "".join(line + "\n" for line in wanted).encode(), name)
+        for line in lines:
+            if line.split()[0] not in CHANGES:
+                self.others[f"an expected line {line.split()[0]}"] += 1
+        return f"result transaction,problems {name}"
 
     @staticmethod
     def change(line):
@@ -122,18 +135,30 @@ class Unpacking:
                 return self.result(words)
             case word if word in AS_IT_IS:
                 return line
-        self.left_out[f"a line {words[0]}"] += 1
+        self.others[f"a line {words[0]}"] += 1
         return None
+
+    def tell(self):
+        seconds = {second: count for second, count in self.priorities.items() if second}
+        if len(self.priorities) > 1:
+            self.decisive.update({f"the second part of a priority, {second}": count for second, count in seconds.items()})
+        else:
+            self.others.update({f"the second part of all priorities, {second}": count for second, count in seconds.items()})
+        for counts, note in ((self.decisive, ", which may change the answer"), (self.others, "")):
+            for what, count in sorted(counts.items()):
+                times = f", {count} times" if count > 1 else ""
+                print(f"left out{note}{times}: {what}", file=sys.stderr)
 
     def run(self):
         lines = (self.source / "testcase.t").read_text().splitlines()
         end = next((n for n, line in enumerate(lines) if line.split()[:1] == ["nextjob"]), len(lines))
         if end < len(lines):
-            self.left_out["the rest behind a line nextjob"] += 1
+            self.decisive["the rest behind a line nextjob"] += 1
         made = [made for line in lines[:end] if (made := self.line(line)) is not None]
-        (self.target / "testcase.t").write_text("".join(line + "\n" for line in made))
-        for what, count in sorted(self.left_out.items()):
-            print(f"left out, {count} times: {what}" if count > 1 else f"left out: {what}", file=sys.stderr)
+        self.write(pathlib.PurePosixPath("testcase.t"), "".join(line + "\n" for line in made).encode(), "testcase.t")
+        self.tell()
+        if self.asked and not self.kept:
+            raise ValueError("no job is left that asks for something")
 
 
 def main():
