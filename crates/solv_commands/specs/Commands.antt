@@ -11,7 +11,7 @@ use Rattle.solv_commands.specs.Commas.{between_commas}
 use Rattle.solv_commands.specs.Numbers.{priority}
 use Rattle.solv_commands.specs.declared.flags_of_jobs.JobFlags.{JobFlags}
 use Rattle.solv_commands.specs.declared.causes.Cause.{Cause}
-use Rattle.solv_commands.specs.declared.causes.Cause.TheVariants.{BadWords, BadNumber, BadRepoType, BadNamespace, BadOperator, UnknownJob, UnknownJobFlag, FlagNotHere, UnknownSelection, UnknownLine, NotBuilt}
+use Rattle.solv_commands.specs.declared.causes.Cause.TheVariants.{BadWords, BadNumber, BadRepoType, BadNamespace, BadOperator, UnknownJob, UnknownJobFlag, FlagNotHere, UnknownSelection, UnknownLine}
 
 -- what a job selects, as it is written; a dependency stands here as its words
 pub data Asked : Type 0 where
@@ -29,6 +29,7 @@ pub data Command : Type 0 where
   evrcmp : List ℕ → Cmp → List ℕ → Command
   results : List ℕ → List ℕ → Command
   job : Action → Asked → JobFlags → List ℕ → Command
+  next_round : Command
 
 abbrev pub and_then : {A B : Type 0} → Result A Cause → (A → Result B Cause) → Result B Cause
 and_then (Ok x) next = next x
@@ -212,7 +213,12 @@ job_line (word ∷ words) =
     else Err FlagNotHere))
     else Err BadWords
 
--- a line, by its first word and the others; one line is not built yet
+-- `nextjob`
+abbrev pub next_line : List (List ℕ) → Result Command Cause
+next_line [] = Ok next_round
+next_line words = Err BadWords
+
+-- a line, by its first word and the others
 abbrev pub command : List ℕ → List (List ℕ) → Result Command Cause
 command first words =
     if bytes_eq first (codes "repo") then repo_line words
@@ -223,5 +229,5 @@ command first words =
     else (if bytes_eq first (codes "evrcmp") then evrcmp_line words
     else (if bytes_eq first (codes "job") then job_line words
     else (if bytes_eq first (codes "result") then result_line words
-    else (if bytes_eq first (codes "nextjob") then Err NotBuilt
+    else (if bytes_eq first (codes "nextjob") then next_line words
     else Err UnknownLine))))))))

@@ -1,12 +1,10 @@
 -- What is due in each case of a run.
 use Rattle.std.specs.Prelude.{ℕ, ◌≡◌, true, List, [], ◌∷◌, ◌++◌, Option, Some, None, Ok, Err, IfSome, slice_get}
 use Rattle.solv_io.specs.Counters.{Rose}
-use Rattle.solv_pool.specs.Catalog.{catalog_of}
-use Rattle.solv_pool.specs.HardRules.{hard_rules}
 use Rattle.solv_pool.specs.declared.tasks.Task.{Task}
 use Rattle.solv_proof.specs.Texts.{proof_text, are_listed}
 use Rattle.solv_proof.specs.declared.kinds.Proof.{Proof}
-use Rattle.solv_rules.specs.Books.{first_fault}
+use Rattle.solv_answers.specs.Answers.{first_limit}
 use Rattle.solv_rules.specs.declared.fault.BookFault.{BookFault}
 use Rattle.solv_said.specs.Dues.{usage_due, read_fault_due, limit_due}
 use Rattle.solv_said.specs.Fetches.{IsNamed, HasScript, WasFetched, HasAskedFront, IsUnreadDue}
@@ -14,27 +12,28 @@ use Rattle.solv_said.specs.Runs.{SinkRun, IsSaid}
 use Rattle.solv_said.specs.declared.dues.Due.{Due}
 use Rattle.solv_script.specs.FileRuns.{FilesRun, AskedBesides, AreFetched}
 use Rattle.solv_script.specs.Grammar.{script_due}
+use Rattle.solv_script.specs.Rounds.{tasks}
 use Rattle.solv_script.specs.declared.scripts.Script.{Script}
-use Rattle.solv_verdicts.specs.Verdicts.{verdict_of, NoSetMeets}
+use Rattle.solv_verdicts.specs.Verdicts.{verdict_of, NoSetMeetsRound}
 use Rattle.solv_verdicts.specs.declared.verdicts.Verdict.TheVariants.{Yes}
 use Rattle.solv_proof_run.specs.Lines.{verdicts_due}
 use Rattle.solv_proof_run.specs.Naming.{Pair, program, usage_line, script_in}
 use Rattle.solv_proof_run.specs.ProofFiles.{BadLineOf, file_read, bad_line_due}
 use Rattle.solv_proof_run.specs.declared.reports.ProofReport.{ProofReport}
 
--- where yes is said of a proof, no set that holds the system meets the rules that it lists
-abbrev pub AreRefuted : Task → List Proof → Type 0
-AreRefuted task proofs = (i : ℕ) (p : Proof) → slice_get proofs i ≡ Some p → verdict_of task p ≡ Yes → NoSetMeets task p
+-- where yes is said of a proof, no set that holds the system meets the rules of its round that it lists
+abbrev pub AreRefuted : List Task → List Proof → Type 0
+AreRefuted tasks proofs = (i : ℕ) (p : Proof) → slice_get proofs i ≡ Some p → verdict_of tasks p ≡ Yes → NoSetMeetsRound tasks p
 
--- the proofs of a text are judged against a task: the text is theirs, and a yes says what it should
-pub record AreJudged (task : Task) (text : List ℕ) (proofs : List Proof) : Type 0 where
+-- the proofs of a text are judged against the tasks of rounds: the text is theirs, and a yes says what it should
+pub record AreJudged (given : List Task) (text : List ℕ) (proofs : List Proof) : Type 0 where
   pub read : file_read text ≡ Ok proofs
   pub is_text : text ≡ proof_text proofs
   pub listed : are_listed proofs ≡ true
-  pub refuted : AreRefuted task proofs
+  pub refuted : AreRefuted given proofs
 
 module _ (pair : Pair) (files : FilesRun) where
-  -- the script was read with all files that it names, its clauses pass no limit, and then the file of proofs was asked for
+  -- the script was read with all files that it names, the clauses of no round pass a limit, and then the file of proofs was asked for
   pub record HasAskedProof (script : Script) : Type 0 where
     pub bytes : List ℕ
     pub fetched : List (List ℕ)
@@ -44,7 +43,7 @@ module _ (pair : Pair) (files : FilesRun) where
     pub are : AreFetched files names fetched
     pub all_due : names ≡ script_due pair.script fetched bytes
     pub script_is : HasScript pair.script bytes fetched script
-    pub fits : first_fault (catalog_of script.task) 0 (hard_rules script.task) ≡ None
+    pub fits : first_limit (tasks script) ≡ None
 
   -- and it has this text, and no fault was counted
   pub record HasProof (script : Script) (text : List ℕ) : Type 0 where
@@ -53,17 +52,17 @@ module _ (pair : Pair) (files : FilesRun) where
     pub no_fault : files.faults_after ≡ files.faults_before
 
 module _ (form : Option Pair) (files : FilesRun) where
-  -- What is due, with the proofs that were read: the words name no pair of files; or the script is not read; or its clauses pass a limit; or the file
+  -- What is due, with the proofs that were read: the words name no pair of files; or the script is not read; or the clauses of a round pass a limit; or the file
   -- of proofs cannot be read; or it has a bad line; or what is said of its proofs.
   pub data IsDueRun : Due → List Proof → Type 0 where
     no_pair : form ≡ None → AskedBesides files [] → files.faults_after ≡ files.faults_before → IsDueRun (usage_due usage_line) []
     unread : (pair : Pair) (due : Due) → form ≡ Some pair → IsUnreadDue (Some pair.script) files program due → IsDueRun due []
     passes : (pair : Pair) (script : Script) (fault : BookFault) → form ≡ Some pair → WasFetched (Some pair.script) files script
-        → first_fault (catalog_of script.task) 0 (hard_rules script.task) ≡ Some fault → IsDueRun (limit_due program script.task fault) []
+        → first_limit (tasks script) ≡ Some fault → IsDueRun (limit_due program script.task fault) []
     no_proof : (pair : Pair) (script : Script) → form ≡ Some pair → HasAskedProof pair files script → Rose files.faults_before files.faults_after → IsDueRun (read_fault_due program pair.proof) []
     bad_proof : (pair : Pair) (script : Script) (text : List ℕ) (bad : BadLineOf) → form ≡ Some pair → HasProof pair files script text → file_read text ≡ Err bad → IsDueRun (bad_line_due pair.proof bad) []
-    judged : (pair : Pair) (script : Script) (text : List ℕ) (proofs : List Proof) → form ≡ Some pair → HasProof pair files script text → AreJudged script.task text proofs
-        → IsDueRun (verdicts_due script.task proofs) proofs
+    judged : (pair : Pair) (script : Script) (text : List ℕ) (proofs : List Proof) → form ≡ Some pair → HasProof pair files script text → AreJudged (tasks script) text proofs
+        → IsDueRun (verdicts_due (tasks script) proofs) proofs
 
   -- a run: what is due is said, and the proofs are reported
   pub record IsRun (report : ProofReport) (out err : SinkRun) : Type 0 where

@@ -1,12 +1,10 @@
 -- Why a run ends with its status.
 use Rattle.std.specs.Prelude.{ℕ, ◌≡◌, ◌<◌, ◌⊎◌, true, false, List, Option, Some, None, Result, Ok, Err, IfSome, slice_get}
 use Rattle.solv_io.specs.declared.status.Status.TheVariants as status
-use Rattle.solv_pool.specs.Catalog.{catalog_of}
-use Rattle.solv_pool.specs.HardRules.{hard_rules}
 use Rattle.solv_pool.specs.declared.tasks.Task.{Task}
 use Rattle.solv_proof.specs.Texts.{proof_text}
 use Rattle.solv_proof.specs.declared.kinds.Proof.{Proof}
-use Rattle.solv_rules.specs.Books.{first_fault}
+use Rattle.solv_answers.specs.Answers.{first_limit}
 use Rattle.solv_rules.specs.declared.fault.BookFault.{BookFault}
 use Rattle.solv_said.specs.Dues.{limit_line}
 use Rattle.solv_said.specs.Explained.{HoldScript, IsCalm, IsBad, IsReadFault}
@@ -14,10 +12,11 @@ use Rattle.solv_said.specs.Fetches.{WasFetched}
 use Rattle.solv_said.specs.Runs.{SinkRun, WroteAll, HasWriteFault}
 use Rattle.solv_script.specs.FileRuns.{FilesRun}
 use Rattle.solv_script.specs.Grammar.{Bad, script_read}
+use Rattle.solv_script.specs.Rounds.{tasks}
 use Rattle.solv_script.specs.ScriptsOf.{IsScriptOf}
 use Rattle.solv_script.specs.States.{State}
 use Rattle.solv_script.specs.declared.scripts.Script.{Script}
-use Rattle.solv_verdicts.specs.Verdicts.{NoSetMeets}
+use Rattle.solv_verdicts.specs.Verdicts.{NoSetMeetsRound}
 use Rattle.solv_proof_run.specs.Cases.{HasProof, AreRefuted}
 use Rattle.solv_proof_run.specs.Lines.{lines_due, all_yes}
 use Rattle.solv_proof_run.specs.Naming.{Pair, program, script_in}
@@ -26,33 +25,33 @@ use Rattle.solv_proof_run.specs.declared.reports.ProofReport.{ProofReport}
 
 module _ (form : Option Pair) (files : FilesRun) (report : ProofReport) (out err : SinkRun) where
   -- The proofs that are reported are those of the file of proofs, whose text is theirs, and the line of each is written. Where yes is said of one, no set
-  -- that holds the system meets the hard rules of the script that it lists.
+  -- that holds the system meets the hard rules of its round that it lists.
   pub record HasVerdicts (script : Script) : Type 0 where
     pub pair : Pair
     pub words : form ≡ Some pair
     pub has : HasProof pair files script (proof_text report.proofs)
-    pub lines : WroteAll out (lines_due script.task report.proofs)
-    pub refuted : AreRefuted script.task report.proofs
+    pub lines : WroteAll out (lines_due (tasks script) report.proofs)
+    pub refuted : AreRefuted (tasks script) report.proofs
 
   -- every line says yes: no set that holds the system meets what any of the proofs lists
   pub record IsDone : Type 0 where
     pub script : Script
     pub has : HasVerdicts script
-    pub each : all_yes script.task report.proofs ≡ true
-    pub none : (i : ℕ) (p : Proof) → slice_get report.proofs i ≡ Some p → NoSetMeets script.task p
+    pub each : all_yes (tasks script) report.proofs ≡ true
+    pub none : (i : ℕ) (p : Proof) → slice_get report.proofs i ≡ Some p → NoSetMeetsRound (tasks script) p
 
   -- some line says no
   pub record IsDiffering : Type 0 where
     pub script : Script
     pub has : HasVerdicts script
-    pub some_no : all_yes script.task report.proofs ≡ false
+    pub some_no : all_yes (tasks script) report.proofs ≡ false
 
-  -- the first limit that the clauses of the script pass, which is the one line on `err`
+  -- the first limit that the clauses of a round pass, which is the one line on `err`
   pub record IsLimited : Type 0 where
     pub script : Script
     pub fault : BookFault
     pub fetched : WasFetched (script_in form) files script
-    pub passed : first_fault (catalog_of script.task) 0 (hard_rules script.task) ≡ Some fault
+    pub passed : first_limit (tasks script) ≡ Some fault
     pub line : WroteAll err (limit_line program script.task fault)
 
   -- the first bad line of the file of proofs, which is the one line on `err`
@@ -67,24 +66,24 @@ module _ (form : Option Pair) (files : FilesRun) (report : ProofReport) (out err
     pub line : WroteAll err (bad_line pair.proof bad)
 
   -- what the text of the file of proofs decides
-  pub record IsDecidedByText (task : Task) (text : List ℕ) : Type 0 where
+  pub record IsDecidedByText (given : List Task) (text : List ℕ) : Type 0 where
     pub bad_text : (bad : BadLineOf) → file_read text ≡ Err bad → report.status ≡ status.Refused
     pub good_text : (proofs : List Proof) → file_read text ≡ Ok proofs → report.proofs ≡ proofs
-    pub yes_to_all : (proofs : List Proof) → file_read text ≡ Ok proofs → all_yes task proofs ≡ true → report.status ≡ status.Done
-    pub no_to_some : (proofs : List Proof) → file_read text ≡ Ok proofs → all_yes task proofs ≡ false → report.status ≡ status.Differs
+    pub yes_to_all : (proofs : List Proof) → file_read text ≡ Ok proofs → all_yes given proofs ≡ true → report.status ≡ status.Done
+    pub no_to_some : (proofs : List Proof) → file_read text ≡ Ok proofs → all_yes given proofs ≡ false → report.status ≡ status.Differs
 
   -- the file of proofs has a text, which decides
-  pub record HasDecidingText (pair : Pair) (task : Task) : Type 0 where
+  pub record HasDecidingText (pair : Pair) (given : List Task) : Type 0 where
     pub text : List ℕ
     pub holds : IfSome files.contents (λ held. held pair.proof ≡ Some text)
-    pub by : IsDecidedByText task text
+    pub by : IsDecidedByText given text
 
-  -- what becomes of a script that the grammar accepts: its clauses pass a limit, or the file of proofs decides
+  -- what becomes of a script that the grammar accepts: the clauses of a round pass a limit, or the file of proofs decides
   pub record IsComplete (pair : Pair) (state : State) : Type 0 where
     pub script : Script
     pub of_state : IsScriptOf state script
-    pub limited : (fault : BookFault) → first_fault (catalog_of script.task) 0 (hard_rules script.task) ≡ Some fault → report.status ≡ status.Refused
-    pub within : first_fault (catalog_of script.task) 0 (hard_rules script.task) ≡ None → HasDecidingText pair script.task
+    pub limited : (fault : BookFault) → first_limit (tasks script) ≡ Some fault → report.status ≡ status.Refused
+    pub within : first_limit (tasks script) ≡ None → HasDecidingText pair (tasks script)
 
   -- what the grammar says of the script decides first
   pub record IsDecidedBy (pair : Pair) (given : Result State Bad) : Type 0 where

@@ -23,10 +23,10 @@ is_yes NoRound = false
 is_yes NoRules = false
 is_yes (NoStep n) = false
 
-module _ (task : Task) where
-  -- the line of a proof: the problem that it names, and what is said of it against the task
+module _ (tasks : List Task) where
+  -- the line of a proof: the problem that it names, and what is said of it against the task of its round
   abbrev pub proof_line : Proof → List ℕ
-  proof_line p = codes "problem " ++ (decimal p.round ++ (codes " " ++ (decimal p.number ++ (codes ": " ++ verdict_words (verdict_of task p)))))
+  proof_line p = codes "problem " ++ (decimal p.round ++ (codes " " ++ (decimal p.number ++ (codes ": " ++ verdict_words (verdict_of tasks p)))))
 
   -- the lines of proofs, in their order
   abbrev pub lines_due : List Proof → List ℕ
@@ -34,7 +34,7 @@ module _ (task : Task) where
 
   -- yes is said of each
   abbrev pub all_yes : List Proof → Bool
-  all_yes proofs = list_all (λ p. is_yes (verdict_of task p)) proofs
+  all_yes proofs = list_all (λ p. is_yes (verdict_of tasks p)) proofs
 
   -- what is due for proofs that were read
   abbrev pub verdicts_due : List Proof → Due

@@ -1,17 +1,19 @@
 -- What is due in a run: its status, and the texts for both sinks.
-use Rattle.std.specs.Prelude.{ℕ, ◌&&◌, List, [], ◌++◌, codes, length, if◌then◌else◌}
+use Rattle.std.specs.Prelude.{ℕ, Bool, true, ◌&&◌, List, [], ◌∷◌, ◌++◌, codes, length, if◌then◌else◌}
 use Rattle.std.specs.Fmt.{decimal}
 use Rattle.solv_io.specs.declared.status.Status.{Status}
 use Rattle.solv_io.specs.declared.status.Status.TheVariants as status
 use Rattle.solv_pool.specs.HardRules.{hard_rules}
 use Rattle.solv_pool.specs.declared.tasks.Task.{Task}
+use Rattle.solv_script.specs.Rounds.{turns}
 use Rattle.solv_script.specs.declared.scripts.Script.{Script}
 use Rattle.solv_answers.specs.declared.answers.Answer.{Answer}
 use Rattle.solv_answers.specs.declared.answers.Answer.TheVariants.{Transaction, Problems, Spent}
 use Rattle.solv_words.specs.declared.command_line.Command.{Command}
 use Rattle.solv_run.specs.Checks.{are_true}
 use Rattle.solv_run.specs.Proofs.{printed_proofs}
-use Rattle.solv_run.specs.Texts.{is_spent, is_as_wanted, printed}
+use Rattle.solv_run.specs.Rounds.{some_spent}
+use Rattle.solv_run.specs.Texts.{are_as_wanted, printed}
 use Rattle.solv_said.specs.declared.dues.Due.{Due}
 
 -- the name that stands before the lines on `err`
@@ -26,32 +28,38 @@ usage_line = codes "usage: testsolv [-r] [--budget N] [--proof] [--grow SEED] FI
 abbrev pub spent_line : ℕ → List ℕ
 spent_line budget = codes "testsolv: budget of " ++ (decimal budget ++ codes " learnt rules spent\n")
 
-abbrev pub spent_line_of : ℕ → Answer → List ℕ
-spent_line_of budget answer = if is_spent answer then spent_line budget else []
+-- the line on `err`: where the budget is spent there is one, and else none
+abbrev pub spent_line_where : Bool → ℕ → List ℕ
+spent_line_where spent budget = if spent then spent_line budget else []
 
--- the status of an answer of which no line is compared
-abbrev pub plain_status : Answer → Status
-plain_status answer = if is_spent answer then status.Spent else status.Done
+abbrev pub spent_line_of : ℕ → List Answer → List ℕ
+spent_line_of budget answers = spent_line_where (some_spent answers) budget
 
--- the status of an answer to a script: whether the budget is spent, and else whether all comparisons are true and the lines are as the script expects them
-abbrev pub answer_status : Script → Answer → Status
-answer_status script answer =
-    if is_spent answer then status.Spent
-    else (if are_true script.checks && is_as_wanted script answer then status.Done else status.Differs)
+-- the status: whether the budget is spent, and else whether all is as it is wanted
+abbrev pub status_of : Bool → Bool → Status
+status_of spent as_wanted = if spent then status.Spent else (if as_wanted then status.Done else status.Differs)
 
--- what is due for an answer to a script
-abbrev pub answer_due : Command → Script → Answer → Due
-answer_due command script answer = record { status = answer_status script answer; out = printed command.shows script answer; err = spent_line_of command.budget answer }
+-- the status of answers of which no line is compared
+abbrev pub plain_status : List Answer → Status
+plain_status answers = status_of (some_spent answers) true
 
--- and where proofs are asked for: those of its problems, and nothing else; no line is compared
-abbrev pub proofs_due : ℕ → Answer → Due
-proofs_due budget answer = record { status = plain_status answer; out = printed_proofs answer; err = spent_line_of budget answer }
+-- the status of the answers to a script, where all comparisons have to be true, and the lines of each round as it expects
+abbrev pub answers_status : Script → List Answer → Status
+answers_status script answers = status_of (some_spent answers) (are_true script.checks && are_as_wanted (turns script) answers)
+
+-- what is due for the answers to a script
+abbrev pub answers_due : Command → Script → List Answer → Due
+answers_due command script answers = record { status = answers_status script answers; out = printed command.shows script answers; err = spent_line_of command.budget answers }
+
+-- and where proofs are asked for: those of their problems, and nothing else; no line is compared
+abbrev pub proofs_due : ℕ → List Answer → Due
+proofs_due budget answers = record { status = plain_status answers; out = printed_proofs answers; err = spent_line_of budget answers }
 
 -- an answer in few words
 abbrev pub answer_words : Answer → List ℕ
 answer_words (Transaction trail set made ordered) = codes "transaction of " ++ (decimal (length made) ++ codes " changes")
 answer_words (Problems problems) = decimal (length problems) ++ codes " problems"
-answer_words (Spent ledger) = codes "spent"
+answer_words Spent = codes "spent"
 
 -- the line on the task of a seed: its packages besides the system, its hard rules, and its answer
 abbrev pub grown_line : ℕ → Task → Answer → List ℕ
@@ -59,4 +67,4 @@ grown_line seed task answer = codes "grow " ++ (decimal seed ++ (codes ": " ++ (
 
 -- what is due for an answer to the task of a seed
 abbrev pub grown_due : ℕ → ℕ → Task → Answer → Due
-grown_due budget seed task answer = record { status = plain_status answer; out = grown_line seed task answer; err = spent_line_of budget answer }
+grown_due budget seed task answer = record { status = plain_status (answer ∷ []); out = grown_line seed task answer; err = spent_line_of budget (answer ∷ []) }

@@ -1,3 +1,5 @@
 -- Words of contracts between layers, and what holds inside.
 pub mod Outcomes
 pub mod Phases
+pub mod Proofs
+pub mod Rounds

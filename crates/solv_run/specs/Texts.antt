@@ -1,14 +1,16 @@
 -- What is printed for an answer.
-use Rattle.std.specs.Prelude.{ℕ, Bool, true, false, ◌||◌, ◌==◌, List, [], ◌++◌, map, flat_map, length, codes, slice_get, None, Some, is_none, if◌then◌else◌}
+use Rattle.std.specs.Prelude.{ℕ, Bool, ◌||◌, ◌==◌, List, [], ◌∷◌, ◌++◌, map, flat_map, length, codes, slice_get, None, Some, is_none, if◌then◌else◌}
 use Rattle.std.specs.Fmt.{decimal}
-use Rattle.std.specs.List.{enumerate_from}
+use Rattle.std.specs.List.{enumerate_from, list_all, zip}
 use Rattle.std.specs.Option.{option_map_or}
 use Rattle.solv_pool.specs.Catalog.{catalog_of}
 use Rattle.solv_pool.specs.HardRules.{hard_rules}
 use Rattle.solv_pool.specs.Words.{when}
 use Rattle.solv_pool.specs.declared.tasks.Task.{Task}
+use Rattle.solv_script.specs.Rounds.{Turn, turns}
 use Rattle.solv_script.specs.declared.scripts.Kinds.{Kinds}
 use Rattle.solv_script.specs.declared.scripts.Script.{Script}
+use Rattle.solv_answers.specs.Answers.{is_spent}
 use Rattle.solv_answers.specs.declared.answers.Answer.{Answer}
 use Rattle.solv_answers.specs.declared.answers.Answer.TheVariants.{Transaction, Problems, Spent}
 use Rattle.solv_remedy.specs.declared.problems.Problem.{Problem}
@@ -46,30 +48,41 @@ module _ (task : Task) where
   abbrev pub answer_lines : Kinds → Answer → List (List ℕ)
   answer_lines kinds (Transaction trail set made ordered) = solved_lines (catalog_of task) task.jobs kinds made ordered trail.events set
   answer_lines kinds (Problems problems) = problems_lines kinds problems
-  answer_lines kinds (Spent ledger) = []
+  answer_lines kinds Spent = []
 
-abbrev pub is_spent : Answer → Bool
-is_spent (Transaction trail set made ordered) = false
-is_spent (Problems problems) = false
-is_spent (Spent ledger) = true
-
--- the result lines of an answer to a script, sorted by bytes, each once
-abbrev pub told_lines : Script → Answer → List (List ℕ)
-told_lines script answer = line_set (answer_lines script.task script.kinds answer)
+-- the result lines of an answer to a round, sorted by bytes, each once
+abbrev pub told_lines : Turn → Answer → List (List ℕ)
+told_lines turn answer = line_set (answer_lines turn.task turn.kinds answer)
 
 -- how lines differ from those that are wanted: `-` and each that is missing, and then `+` and each that is more
 abbrev pub differing_lines : List (List ℕ) → List (List ℕ) → List (List ℕ)
 differing_lines wanted given = map (λ line. codes "-" ++ line) (missing_lines wanted given) ++ map (λ line. codes "+" ++ line) (missing_lines given wanted)
 
--- how the result lines of an answer differ from those that the script expects; of a spent budget nothing is said
-abbrev pub differences : Script → Answer → List (List ℕ)
-differences script answer = if is_spent answer then [] else elim script.wanted [ None ↦ [] | Some wanted ↦ differing_lines (line_set wanted) (told_lines script answer) ]
+-- how the result lines of an answer differ from those that the round expects; of a spent budget nothing is said
+abbrev pub differences : Turn → Answer → List (List ℕ)
+differences turn answer = if is_spent answer then [] else elim turn.wanted [ None ↦ [] | Some wanted ↦ differing_lines (line_set wanted) (told_lines turn answer) ]
 
 -- they do not differ
-abbrev pub is_as_wanted : Script → Answer → Bool
-is_as_wanted script answer = length (differences script answer) == 0
+abbrev pub is_as_wanted : Turn → Answer → Bool
+is_as_wanted turn answer = length (differences turn answer) == 0
 
--- what is printed: the comparisons that are false; the result lines, where they are asked for or the script says of none what it expects; and how they
--- differ from those that it expects
-abbrev pub printed : Bool → Script → Answer → List ℕ
-printed shows script answer = ended_lines (false_lines script.checks ++ (when (shows || is_none script.wanted) (told_lines script answer) ++ differences script answer))
+-- so it is in each round that has an answer
+abbrev pub are_as_wanted : List Turn → List Answer → Bool
+are_as_wanted turns answers = list_all (λ x. is_as_wanted x.0 x.1) (zip turns answers)
+
+-- the lines of a round: its result lines, where they are asked for or the round says of none what it expects; and how they differ from those that it expects
+abbrev pub round_lines : Bool → Turn → Answer → List (List ℕ)
+round_lines shows turn answer = when (shows || is_none turn.wanted) (told_lines turn answer) ++ differences turn answer
+
+-- those of a round behind another
+abbrev pub next_lines : Bool → Turn → Answer → List (List ℕ)
+next_lines shows turn answer = codes "nextjob" ∷ round_lines shows turn answer
+
+-- the lines of the rounds that have answers, with `nextjob` between two
+abbrev pub rounds_lines : Bool → List Turn → List Answer → List (List ℕ)
+rounds_lines shows (turn ∷ turns) (answer ∷ answers) = round_lines shows turn answer ++ flat_map (λ x. next_lines shows x.0 x.1) (zip turns answers)
+rounds_lines shows turns answers = []
+
+-- what is printed: the comparisons that are false, and the lines of the rounds that were begun
+abbrev pub printed : Bool → Script → List Answer → List ℕ
+printed shows script answers = ended_lines (false_lines script.checks ++ rounds_lines shows (turns script) answers)

@@ -4,87 +4,41 @@ ghost use Rattle.solv_io.specs.Lines.{ended_lines};
 ghost use Rattle.solv_pool.specs.HardRules.{hard_rules};
 ghost use Rattle.solv_pool.specs.Words.{when};
 ghost use Rattle.solv_pool.specs.TaskBelonging.{IsClosed};
-ghost use Rattle.solv_answers.specs.Answers.{IsPrepared};
-ghost use Rattle.solv_run.specs.Inner.Outcomes.{way_of, found_of, founds_of, has_listed};
-ghost use Rattle.solv_run.specs.Texts.{problems_lines, answer_lines, told_lines, differing_lines, differences, is_spent, is_as_wanted, printed};
+ghost use Rattle.solv_answers.specs.Answers.{IsPrepared, is_spent};
+ghost use Rattle.solv_script.specs.Inner.Turns.{first_turn};
+ghost use Rattle.solv_run.specs.Inner.Outcomes.{has_listed};
+ghost use Rattle.solv_run.specs.Texts.{problems_lines, answer_lines, told_lines, differing_lines, differences, is_as_wanted, round_lines};
 ghost use Rattle.solv_lines.specs.LineSets.{line_set};
 
-use crate::checks::append_false;
+use crate::rounds::is_spent;
 use solv_answers::{Answer, Prepared};
-use solv_lines::{Found, LineSet, Outcome, WayOut, compare, line_set, result_lines};
-use solv_list::{Bytes, Items};
-use solv_remedy::{Problem, Solution};
+use solv_lines::{LineSet, Outcome, compare, line_set, result_lines};
+use solv_list::Bytes;
+use solv_remedy::Problem;
 use solv_script::Script;
 use std::alloc::{AllocError, Global};
-
-/// A solution as its lines name it.
-fn way_of(alloc: Global, solution: &Solution) -> Result<WayOut, AllocError>
-    ensures { IfOk result (λ way. way ≡ way_of solution.now) }
-{
-    let dropped = solution.dropped.held().to_vec(alloc)?;
-    let set = solution.set.held().to_vec(alloc)?;
-    Ok(WayOut {
-        dropped: Items::wrap(dropped),
-        set: Items::wrap(set),
-    })
-}
-
-/// The solutions of a problem as their lines name them.
-fn ways_of(alloc: Global, solutions: &[Solution]) -> Result<Vec<WayOut>, AllocError>
-    ensures { IfOk result (λ ways. ways.items ≡ map way_of solutions.now) }
-{
-    let mut ways = Vec::new(alloc);
-    for solution in solutions {
-        ways.push(way_of(alloc, solution)?)?;
-    }
-    Ok(ways)
-}
-
-/// A problem as its lines name it.
-fn found_of(alloc: Global, problem: &Problem) -> Result<Found, AllocError>
-    ensures { IfOk result (λ found. found ≡ found_of problem.now) }
-{
-    let rules = problem.rules.held().to_vec(alloc)?;
-    let solutions = ways_of(alloc, problem.solutions.held())?;
-    Ok(Found {
-        rules: Items::wrap(rules),
-        solutions: Items::wrap(solutions),
-    })
-}
-
-/// The problems of a task as their lines name them.
-fn founds_of(alloc: Global, problems: &[Problem]) -> Result<Vec<Found>, AllocError>
-    ensures { IfOk result (λ founds. founds.items ≡ founds_of problems.now) }
-{
-    let mut founds = Vec::new(alloc);
-    for problem in problems {
-        founds.push(found_of(alloc, problem)?)?;
-    }
-    Ok(founds)
-}
 
 /// The result lines of problems.
 fn lines_of_problems(
     alloc: Global,
     script: &Script,
-    prepared: &Prepared,
+    prepared: &Prepared<'_>,
     problems: &[Problem],
 ) -> Result<LineSet, AllocError>
     requires closed { IsClosed script.now.task }
     requires prepared { IsPrepared script.now.task prepared.now }
     ensures { IfOk result (λ lines. lines ≡ line_set (problems_lines script.now.task script.now.kinds problems.now)) }
 {
-    let founds = founds_of(alloc, problems)?;
-    let outcome = Outcome::Failed(Items::wrap(founds));
     let (task, rules) = (&script.task, prepared.book.rules());
-    result_lines(alloc, script.kinds, task, &prepared.prov, rules, &outcome)
+    let failed = Outcome::Failed(problems);
+    result_lines(alloc, script.kinds, task, prepared.prov, rules, &failed)
 }
 
 /// The result lines of an answer to a script.
 fn answer_lines(
     alloc: Global,
     script: &Script,
-    prepared: &Prepared,
+    prepared: &Prepared<'_>,
     answer: &Answer,
 ) -> Result<LineSet, AllocError>
     requires closed { IsClosed script.now.task }
@@ -106,14 +60,14 @@ fn answer_lines(
                 trail,
                 set: set.held(),
             };
-            result_lines(alloc, script.kinds, task, &prepared.prov, rules, &solved)
+            result_lines(alloc, script.kinds, task, prepared.prov, rules, &solved)
         }
         Answer::Problems(problems) => {
             lines_of_problems(alloc, script, prepared, problems.held())
         }
-        Answer::Spent(_) => {
+        Answer::Spent => {
             let spent = Outcome::Spent;
-            result_lines(alloc, script.kinds, task, &prepared.prov, rules, &spent)
+            result_lines(alloc, script.kinds, task, prepared.prov, rules, &spent)
         }
     }
 }
@@ -158,13 +112,6 @@ fn differing_lines(
     Ok(lines)
 }
 
-/// Whether the budget is spent.
-fn is_spent(answer: &Answer) -> bool
-    ensures { result ≡ is_spent answer.now }
-{
-    matches!(answer, Answer::Spent(_))
-}
-
 /// How the result lines of an answer differ from those that the script expects.
 fn differences(
     alloc: Global,
@@ -172,8 +119,8 @@ fn differences(
     answer: &Answer,
     given: &LineSet,
 ) -> Result<Vec<Bytes>, AllocError>
-    requires { given.now ≡ told_lines script.now answer.now }
-    ensures { IfOk result (λ lines. lines.items ≡ differences script.now answer.now) }
+    requires { given.now ≡ told_lines (first_turn script.now) answer.now }
+    ensures { IfOk result (λ lines. lines.items ≡ differences (first_turn script.now) answer.now) }
 {
     if is_spent(answer) {
         return Ok(Vec::new(alloc));
@@ -214,24 +161,23 @@ fn append_told(
     }
 }
 
-/// What is printed for an answer to a script.
-pub(crate) fn printed(
+/// What is printed for the answer to the first round of a script.
+pub(crate) fn round_said(
     alloc: Global,
     shows: bool,
     script: &Script,
-    prepared: &Prepared,
+    prepared: &Prepared<'_>,
     answer: &Answer,
 ) -> Result<Said, AllocError>
     requires closed { IsClosed script.now.task }
     requires prepared { IsPrepared script.now.task prepared.now }
     requires listed { has_listed (length script.now.task.universe.packages) answer.now ≡ true }
-    ensures text { IfOk result (λ made. made.text.items ≡ printed shows script.now answer.now) }
-    ensures as_wanted { IfOk result (λ made. made.as_wanted ≡ is_as_wanted script.now answer.now) }
+    ensures text { IfOk result (λ made. made.text.items ≡ ended_lines (round_lines shows (first_turn script.now) answer.now)) }
+    ensures as_wanted { IfOk result (λ made. made.as_wanted ≡ is_as_wanted (first_turn script.now) answer.now) }
 {
     let given = answer_lines(alloc, script, prepared, answer)?;
     let differing = differences(alloc, script, answer, &given)?;
     let mut text = Vec::new(alloc);
-    append_false(script.checks.held(), &mut text)?;
     append_told(shows, script, &given, &mut text)?;
     append_lines(&differing, &mut text)?;
     let as_wanted = differing.is_empty();

@@ -1,123 +1,178 @@
 //! What is due for a script that was read.
-ghost use Rattle.std.specs.Prelude.{◌≡◌, ◌≤◌, true, false, length, Some, IfOk};
+ghost use Rattle.std.specs.Prelude.{◌≡◌, ◌≤◌, true, false, None, Some, IfOk, map};
+ghost use Rattle.std.specs.List.{All};
 ghost use Rattle.solv_pool.specs.Catalog.{catalog_of};
 ghost use Rattle.solv_pool.specs.HardRules.{hard_rules};
 ghost use Rattle.solv_pool.specs.TaskBelonging.{IsClosed};
 ghost use Rattle.solv_pool.specs.TaskForms.{HasForms};
+ghost use Rattle.solv_prov.specs.Index.{IsIndexOf};
 ghost use Rattle.solv_rules.specs.Books.{first_fault};
-ghost use Rattle.solv_answers.specs.Answers.{IsPrepared};
-ghost use Rattle.solv_run.specs.Cases.{IsDueFor, IsGoodAnswer};
-ghost use Rattle.solv_run.specs.Dues.{answer_due, answer_status};
-ghost use Rattle.solv_run.specs.Inner.Outcomes.{has_listed};
-ghost use Rattle.solv_run.specs.Texts.{is_as_wanted};
+ghost use Rattle.solv_answers.specs.Answers.{IsPrepared, first_limit};
+ghost use Rattle.solv_script.specs.Rounds.{tasks, turns};
+ghost use Rattle.solv_script.specs.Inner.Turns.{first_turn};
+ghost use Rattle.solv_run.specs.Cases.{IsDueFor};
+ghost use Rattle.solv_run.specs.Dues.{answers_due, answers_status};
+ghost use Rattle.solv_run.specs.Inner.Rounds.{AreAll};
+ghost use Rattle.solv_run.specs.Texts.{printed};
 
-use crate::checks::are_true;
-use crate::dues::{Conclusion, PROGRAM, unanswered, with_answer};
-use crate::printing::printed;
+use crate::checks::{append_false, are_true};
+use crate::dues::{Conclusion, PROGRAM, nothing_reached, status_of, unanswered};
 use crate::proving::proofs_due;
-use crate::texts::spent_text_of;
-use solv_answers::{Answer, Prepared, answer, prepare};
+use crate::rounds::{Begun, answer_round, later_rounds};
+use crate::texts::spent_text_where;
+use solv_answers::{Prepared, prepare};
 use solv_io::Status;
 use solv_list::Bytes;
+use solv_prov::Providers;
+use solv_rounds::later_limit;
 use solv_rules::BookFault;
 use solv_said::{Due, limit_due};
 use solv_script::Script;
 use solv_words::Command;
 use std::alloc::{AllocError, Global};
 
-/// The status of an answer, whose lines are as the script expects them or not.
-fn status_of(script: &Script, answer: &Answer, as_wanted: bool) -> Status
-    requires { as_wanted ≡ is_as_wanted script.now answer.now }
-    ensures { result ≡ answer_status script.now answer.now }
+/// The status of the answers to the rounds of a script, where no proofs are asked for.
+fn answers_status(command: &Command, script: &Script, begun: &Begun) -> Status
+    requires plain { command.now.proves ≡ false }
+    requires all { AreAll command.now (tasks script.now) (turns script.now) begun.now }
+    ensures { result ≡ answers_status script.now begun.now.reached.answers }
 {
-    if let Answer::Spent(_) = answer {
-        return Status::Spent;
-    }
-    if are_true(script.checks.held()) && as_wanted {
-        Status::Done
-    } else {
-        Status::Differs
-    }
+    let _ = command;
+    let as_wanted = are_true(script.checks.held()) && begun.as_wanted;
+    status_of(begun.spent, as_wanted)
 }
 
-/// What is due for an answer to a script.
-fn answer_due(
+/// What is printed of them.
+fn answers_text(
     alloc: Global,
     command: &Command,
     script: &Script,
-    prepared: &Prepared,
-    answer: &Answer,
-) -> Result<Due, AllocError>
-    requires closed { IsClosed script.now.task }
-    requires prepared { IsPrepared script.now.task prepared.now }
-    requires listed { has_listed (length script.now.task.universe.packages) answer.now ≡ true }
-    ensures { IfOk result (λ due. due ≡ answer_due command.now script.now answer.now) }
+    begun: &Begun,
+) -> Result<Vec<u8>, AllocError>
+    requires plain { command.now.proves ≡ false }
+    requires all { AreAll command.now (tasks script.now) (turns script.now) begun.now }
+    ensures { IfOk result (λ text. text.items ≡ printed command.now.shows script.now begun.now.reached.answers) }
 {
-    let printed = printed(alloc, command.shows, script, prepared, answer)?;
-    let status = status_of(script, answer, printed.as_wanted);
-    let err = spent_text_of(alloc, command.budget, answer)?;
+    let _ = command;
+    let mut out = Vec::new(alloc);
+    append_false(script.checks.held(), &mut out)?;
+    out.extend_from_slice(&begun.text)?;
+    Ok(out)
+}
+
+/// What is due for the answers to the rounds of a script, where no proofs are asked for.
+fn answers_due(
+    alloc: Global,
+    command: &Command,
+    script: &Script,
+    begun: &Begun,
+) -> Result<Due, AllocError>
+    requires plain { command.now.proves ≡ false }
+    requires all { AreAll command.now (tasks script.now) (turns script.now) begun.now }
+    ensures { IfOk result (λ due. due ≡ answers_due command.now script.now begun.now.reached.answers) }
+{
+    let out = answers_text(alloc, command, script, begun)?;
+    let err = spent_text_where(alloc, begun.spent, command.budget)?;
     Ok(Due {
-        status,
-        out: Bytes::wrap(printed.text),
+        status: answers_status(command, script, begun),
+        out: Bytes::wrap(out),
         err: Bytes::wrap(err),
     })
 }
 
-/// What a script's answer comes to, where no proofs are asked for.
-fn answer_concluded(
+/// What the rounds of a script come to, where no proofs are asked for.
+fn answers_concluded(
     alloc: Global,
     command: &Command,
     script: &Script,
-    prepared: &Prepared,
-    answer: Answer,
+    begun: Begun,
 ) -> Result<Conclusion, AllocError>
-    requires closed { IsClosed script.now.task }
-    requires prepared { IsPrepared script.now.task prepared.now }
     requires plain { command.now.proves ≡ false }
-    requires good { IsGoodAnswer script.now.task command.now.budget answer }
-    ensures { IfOk result (λ conclusion. IsDueFor command.now script.now conclusion.due conclusion.answers) }
+    requires fits { first_limit (tasks script.now) ≡ None }
+    requires all { AreAll command.now (tasks script.now) (turns script.now) begun }
+    ensures { IfOk result (λ conclusion. IsDueFor command.now script.now conclusion.due conclusion.reached) }
 {
-    let due = answer_due(alloc, command, script, prepared, &answer)?;
-    with_answer(alloc, due, answer)
+    let due = answers_due(alloc, command, script, &begun)?;
+    Ok(Conclusion {
+        due,
+        reached: begun.reached,
+    })
 }
 
-/// What a script's answer comes to, where proofs are asked for.
+/// What they come to where proofs are asked for.
 fn proofs_concluded(
     alloc: Global,
     command: &Command,
     script: &Script,
-    answer: Answer,
+    begun: Begun,
 ) -> Result<Conclusion, AllocError>
     requires asked { command.now.proves ≡ true }
-    requires good { IsGoodAnswer script.now.task command.now.budget answer }
-    ensures { IfOk result (λ conclusion. IsDueFor command.now script.now conclusion.due conclusion.answers) }
+    requires fits { first_limit (tasks script.now) ≡ None }
+    requires all { AreAll command.now (tasks script.now) (turns script.now) begun }
+    ensures { IfOk result (λ conclusion. IsDueFor command.now script.now conclusion.due conclusion.reached) }
 {
-    let due = proofs_due(alloc, command.budget, &script.task, &answer)?;
-    with_answer(alloc, due, answer)
+    let due = proofs_due(alloc, command.budget, script, begun.spent, &begun.reached)?;
+    Ok(Conclusion {
+        due,
+        reached: begun.reached,
+    })
+}
+
+/// Answers all rounds of a script, of which the first is prepared.
+fn rounds_begun(
+    alloc: Global,
+    command: &Command,
+    script: &mut Script,
+    prov: &Providers,
+    first: Prepared<'_>,
+) -> Result<Begun, AllocError>
+    requires closed { All IsClosed (tasks script.old) }
+    requires forms { All HasForms (tasks script.old) }
+    requires index { IsIndexOf prov.now (catalog_of script.old.task) }
+    requires prepared { IsPrepared script.old.task first }
+    requires fits { first_limit (tasks script.old) ≡ None }
+    requires budget { command.now.budget ≤ 1000000 }
+    ensures script { script.new ≡ script.old }
+    ensures all { IfOk result (AreAll command.now (tasks script.old) (turns script.old)) }
+{
+    let mut begun = Begun {
+        reached: nothing_reached(alloc),
+        text: Vec::new(alloc),
+        as_wanted: true,
+        spent: false,
+        left: command.budget,
+    };
+    answer_round(alloc, command, script, &first, &mut begun)?;
+    drop(first);
+    later_rounds(alloc, command, script, prov, &mut begun)?;
+    Ok(begun)
 }
 
 /// Answers a script.
 fn answered_due(
     alloc: Global,
     command: &Command,
-    script: &Script,
-    prepared: &Prepared,
+    script: &mut Script,
+    prov: &Providers,
+    first: Prepared<'_>,
 ) -> Result<Conclusion, AllocError>
-    requires closed { IsClosed script.now.task }
-    requires forms { HasForms script.now.task }
-    requires prepared { IsPrepared script.now.task prepared.now }
+    requires closed { All IsClosed (tasks script.old) }
+    requires forms { All HasForms (tasks script.old) }
+    requires index { IsIndexOf prov.now (catalog_of script.old.task) }
+    requires prepared { IsPrepared script.old.task first }
+    requires fits { first_limit (tasks script.old) ≡ None }
     requires budget { command.now.budget ≤ 1000000 }
-    ensures { IfOk result (λ conclusion. IsDueFor command.now script.now conclusion.due conclusion.answers) }
+    ensures { IfOk result (λ conclusion. IsDueFor command.now script.old conclusion.due conclusion.reached) }
 {
-    let answer = answer(alloc, &script.task, prepared, command.budget)?;
+    let begun = rounds_begun(alloc, command, script, prov, first)?;
     if command.proves {
-        proofs_concluded(alloc, command, script, answer)
+        proofs_concluded(alloc, command, script, begun)
     } else {
-        answer_concluded(alloc, command, script, prepared, answer)
+        answers_concluded(alloc, command, script, begun)
     }
 }
 
-/// What is due for a limit that the clauses of a script's task pass.
+/// What is due for a limit that the clauses of a round pass.
 fn passed_due(
     alloc: Global,
     command: &Command,
@@ -125,26 +180,48 @@ fn passed_due(
     fault: BookFault,
 ) -> Result<Conclusion, AllocError>
     requires closed { IsClosed script.now.task }
-    requires passed { first_fault (catalog_of script.now.task) 0 (hard_rules script.now.task) ≡ Some fault }
-    ensures { IfOk result (λ conclusion. IsDueFor command.now script.now conclusion.due conclusion.answers) }
+    requires passed { first_limit (tasks script.now) ≡ Some fault }
+    ensures { IfOk result (λ conclusion. IsDueFor command.now script.now conclusion.due conclusion.reached) }
 {
     let due = limit_due(alloc, PROGRAM, &script.task, fault)?;
     Ok(unanswered(alloc, due))
+}
+
+/// Tries the books of the later rounds, and answers a script whose first round is prepared.
+fn first_due(
+    alloc: Global,
+    command: &Command,
+    script: &mut Script,
+    prov: &Providers,
+    first: Prepared<'_>,
+) -> Result<Conclusion, AllocError>
+    requires closed { All IsClosed (tasks script.old) }
+    requires forms { All HasForms (tasks script.old) }
+    requires index { IsIndexOf prov.now (catalog_of script.old.task) }
+    requires prepared { IsPrepared script.old.task first }
+    requires budget { command.now.budget ≤ 1000000 }
+    ensures { IfOk result (λ conclusion. IsDueFor command.now script.old conclusion.due conclusion.reached) }
+{
+    match later_limit(alloc, script, prov)? {
+        Some(fault) => passed_due(alloc, command, script, fault),
+        None => answered_due(alloc, command, script, prov, first),
+    }
 }
 
 /// What is due for a script that was read.
 pub(crate) fn script_due(
     alloc: Global,
     command: &Command,
-    script: &Script,
+    script: &mut Script,
 ) -> Result<Conclusion, AllocError>
-    requires closed { IsClosed script.now.task }
-    requires forms { HasForms script.now.task }
+    requires closed { All IsClosed (tasks script.old) }
+    requires forms { All HasForms (tasks script.old) }
     requires budget { command.now.budget ≤ 1000000 }
-    ensures { IfOk result (λ conclusion. IsDueFor command.now script.now conclusion.due conclusion.answers) }
+    ensures { IfOk result (λ conclusion. IsDueFor command.now script.old conclusion.due conclusion.reached) }
 {
-    match prepare(alloc, &script.task) {
-        Ok(prepared) => answered_due(alloc, command, script, &prepared),
+    let prov = Providers::build(alloc, &script.task)?;
+    match prepare(alloc, &script.task, &prov) {
+        Ok(first) => first_due(alloc, command, script, &prov, first),
         Err(BookFault::Memory) => Err(AllocError),
         Err(fault) => passed_due(alloc, command, script, fault),
     }

@@ -1,8 +1,10 @@
 //! The script that a run reads.
 ghost use Rattle.std.specs.Prelude.{◌≡◌, ℕ, List, Option, Some, IfOk, IfErr};
+ghost use Rattle.std.specs.List.{All};
 ghost use Rattle.solv_pool.specs.TaskBelonging.{IsClosed};
 ghost use Rattle.solv_pool.specs.TaskForms.{HasForms};
 ghost use Rattle.solv_script.specs.FileRuns.{FilesRun};
+ghost use Rattle.solv_script.specs.Rounds.{tasks};
 ghost use Rattle.solv_script.specs.Inner.FileRuns.{HasEnded, IsRead, script_piece};
 ghost use Rattle.solv_said.specs.Fetches.{WasFetched};
 ghost use Rattle.solv_said.specs.Inner.Faults.{HasNoScript, IsReadFaultOf};
@@ -37,8 +39,8 @@ fn read_fetched<F: Files>(
 ) -> Result<Script, ScriptFault>
     ensures read { IfOk result (IsRead (script_piece file.now bytes.items)
         (files_run F.contents F.asked F.faults files.old files.new)) }
-    ensures closed { IfOk result (λ script. IsClosed script.task) }
-    ensures forms { IfOk result (λ script. HasForms script.task) }
+    ensures closed { IfOk result (λ script. All IsClosed (tasks script)) }
+    ensures forms { IfOk result (λ script. All HasForms (tasks script)) }
     ensures ended { IfErr result (HasEnded (script_piece file.now bytes.items)
         (files_run F.contents F.asked F.faults files.old files.new)) }
     ensures contents { F.contents files.new ≡ F.contents files.old }
@@ -56,8 +58,8 @@ pub fn fetch_script<F: Files>(
 ) -> Result<Script, ScriptFault>
     ensures read { IfOk result (WasFetched (Some file.now)
         (files_run F.contents F.asked F.faults files.old files.new)) }
-    ensures closed { IfOk result (λ script. IsClosed script.task) }
-    ensures forms { IfOk result (λ script. HasForms script.task) }
+    ensures closed { IfOk result (λ script. All IsClosed (tasks script)) }
+    ensures forms { IfOk result (λ script. All HasForms (tasks script)) }
     ensures ended { IfErr result (HasNoScript (Some file.now)
         (files_run F.contents F.asked F.faults files.old files.new)) }
     ensures contents { F.contents files.new ≡ F.contents files.old }

@@ -1,5 +1,5 @@
 -- What a yes says, and who gets one.
-use Rattle.std.specs.Prelude.{ℕ, ◌≡◌, ◌≤◌, ◌<◌, Bool, true, List, Some, flat_map, length, map, slice_get}
+use Rattle.std.specs.Prelude.{ℕ, ◌≡◌, ◌≤◌, ◌<◌, Bool, true, List, Some, IsSomeAnd, flat_map, length, map, slice_get}
 use Rattle.std.specs.List.{list_all, enumerate_from}
 use Rattle.solv_core.specs.Cores.{CoreOf}
 use Rattle.solv_derive.specs.Range.{steps_over}
@@ -13,7 +13,7 @@ use Rattle.solv_remedy.specs.Problems.{meets_listed}
 use Rattle.solv_remedy.specs.Remedies.{IsGoodList}
 use Rattle.solv_remedy.specs.declared.problems.Problem.{Problem}
 use Rattle.solv_rules.specs.Books.{is_bookable}
-use Rattle.solv_verdicts.specs.Verdicts.{verdict_on}
+use Rattle.solv_verdicts.specs.Verdicts.{of_round, verdict_on}
 use Rattle.solv_verdicts.specs.declared.verdicts.Verdict.TheVariants.{Yes}
 
 -- no set that holds the system meets the rules that a proof lists, where yes is said of it
@@ -34,12 +34,28 @@ proofs_of round problems = map (λ x. proof_of round x.0 x.1) (enumerate_from 1 
 abbrev pub HasClauses : Request → CoreOf → Type 0
 HasClauses r core = core.clauses ≡ flat_map (rule_clauses r.catalog) (rules_of r)
 
--- the proofs of a good list of problems may be written
-abbrev pub ProblemsMayBeWritten : Type 0
-ProblemsMayBeWritten = (r : Request) (core : CoreOf) (problems : List Problem) (round : ℕ) → HasClauses r core → IsGoodList r core problems → 0 < round
-    → are_listed (proofs_of round problems) ≡ true
+-- the proofs of the problems of rounds, which are numbered from 1; a round without problems has none
+abbrev pub proofs_of_rounds : List (List Problem) → List Proof
+proofs_of_rounds rounds = flat_map (λ x. proofs_of x.0 x.1) (enumerate_from 1 rounds)
 
--- yes is said of each of them
+-- problems that are a good list of them for some request and core
+pub record AreGoodFor (r : Request) (problems : List Problem) : Type 0 where
+  pub core : CoreOf
+  pub clauses : HasClauses r core
+  pub good : IsGoodList r core problems
+
+-- each round has none, or a good list for its request
+pub record AreOfRounds (requests : List Request) (rounds : List (List Problem)) : Type 0 where
+  pub within : length rounds ≤ length requests
+  pub each : (i : ℕ) (r : Request) (problems : List Problem) → slice_get requests i ≡ Some r → slice_get rounds i ≡ Some problems → 0 < length problems → AreGoodFor r problems
+
+-- the proofs of good problems of rounds may be written, where there is one
+abbrev pub ProblemsMayBeWritten : Type 0
+ProblemsMayBeWritten = (requests : List Request) (rounds : List (List Problem)) → AreOfRounds requests rounds → 0 < length (proofs_of_rounds rounds)
+    → are_listed (proofs_of_rounds rounds) ≡ true
+
+-- yes is said of each of them, over the rules of its round
 abbrev pub ProblemsAreProved : Type 0
-ProblemsAreProved = (r : Request) (core : CoreOf) (problems : List Problem) (round : ℕ) → HasClauses r core → IsGoodList r core problems
-    → (i : ℕ) (p : Proof) → slice_get (proofs_of round problems) i ≡ Some p → verdict_on r.catalog (rules_of r) p ≡ Yes
+ProblemsAreProved = (requests : List Request) (rounds : List (List Problem)) → AreOfRounds requests rounds
+    → (i : ℕ) (p : Proof) → slice_get (proofs_of_rounds rounds) i ≡ Some p
+    → IsSomeAnd (of_round requests p.round) (λ r. verdict_on r.catalog (rules_of r) p ≡ Yes)

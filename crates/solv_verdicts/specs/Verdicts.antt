@@ -1,5 +1,5 @@
 -- What is said of a proof.
-use Rattle.std.specs.Prelude.{ℕ, ◌≡◌, nat_lt, ◌==◌, Bool, true, List, flat_map, length, if◌then◌else◌}
+use Rattle.std.specs.Prelude.{ℕ, zero, suc, ◌≡◌, nat_lt, Bool, true, List, Option, Some, None, IsSomeAnd, flat_map, length, slice_get, if◌then◌else◌}
 use Rattle.std.specs.List.{list_all}
 use Rattle.solv_derive.specs.Logs.{checked}
 use Rattle.solv_derive.specs.declared.logs.Checked.{Checked}
@@ -33,10 +33,19 @@ module _ (catalog : Catalog) (rules : List HardRule) where
   abbrev pub verdict_on : Proof → Verdict
   verdict_on p = if are_there p.rules then judged p (checked (flat_map (rule_clauses catalog) rules) p.log.steps) else NoRules
 
--- what is said of a proof against a task, which has one round
-abbrev pub verdict_of : Task → Proof → Verdict
-verdict_of task p = if p.round == 1 then verdict_on (catalog_of task) (hard_rules task) p else NoRound
-
 -- no set that holds the system meets the hard rules of a task that a proof lists
 abbrev pub NoSetMeets : Task → Proof → Type 0
 NoSetMeets task p = (set : ℕ → Bool) → set 0 ≡ true → meets_listed (catalog_of task) (hard_rules task) p.rules set ≡ true → ⊥
+
+-- what a list has for a round, where rounds are numbered from 1
+abbrev pub of_round : {T : Type 0} → List T → ℕ → Option T
+of_round each zero = None
+of_round each (suc n) = slice_get each n
+
+-- what is said of a proof against the tasks of rounds: that there is none of its number is told first
+abbrev pub verdict_of : List Task → Proof → Verdict
+verdict_of tasks p = elim (of_round tasks p.round) [ None ↦ NoRound | Some task ↦ verdict_on (catalog_of task) (hard_rules task) p ]
+
+-- a proof's round is there, and no set that holds the system meets the hard rules of it that the proof lists
+abbrev pub NoSetMeetsRound : List Task → Proof → Type 0
+NoSetMeetsRound tasks p = IsSomeAnd (of_round tasks p.round) (λ task. NoSetMeets task p)

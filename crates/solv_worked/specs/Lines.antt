@@ -15,13 +15,13 @@ use Rattle.solv_pool.specs.declared.tasks.Task.{Task}
 use Rattle.solv_trail.specs.declared.questions.Question.TheVariants as question
 use Rattle.solv_core.specs.declared.verdicts.Event.{Event}
 use Rattle.solv_core.specs.declared.verdicts.Event.TheVariants as event
+use Rattle.solv_remedy.specs.declared.problems.Problem.{Problem}
+use Rattle.solv_remedy.specs.declared.problems.Solution.{Solution}
 use Rattle.solv_script.specs.declared.scripts.Kinds.{Kinds}
 use Rattle.solv_trans.specs.declared.kinds.Change.{Change}
 use Rattle.solv_trans.specs.declared.kinds.Change.TheVariants as change
 use Rattle.solv_trans.specs.declared.ordering.Ordered.{Ordered}
 use Rattle.solv_lines.specs.SolutionTexts.{solution_texts}
-use Rattle.solv_lines.specs.declared.outcomes.Found.{Found}
-use Rattle.solv_lines.specs.declared.outcomes.WayOut.{WayOut}
 
 -- `<`
 abbrev pub below : Cmp
@@ -161,16 +161,16 @@ happened = event.Known (pos 1) ∷ event.Known (negsuc 1) ∷ event.Took (questi
 abbrev pub made : List Change
 made = change.Upgrade 1 4 ∷ change.Downgrade 4 1 ∷ change.Alter 2 3 ∷ change.Reinstall 2 2 ∷ change.Obsolete 1 3 ∷ change.Erase 2 ∷ change.Install 5 ∷ []
 
--- a problem that lists these rules, without solutions, and with them
-abbrev pub listing : List ℕ → Found
-listing rules = record { rules = rules; solutions = [] }
+-- a problem that lists these rules, with these solutions, and without any; its derivation is on no line
+abbrev pub solved_by : List ℕ → List Solution → Problem
+solved_by rules solutions = record { rules = rules; log = record { steps = [] }; solutions = solutions }
 
-abbrev pub solved_by : List ℕ → List WayOut → Found
-solved_by rules ways = record { rules = rules; solutions = ways }
+abbrev pub listing : List ℕ → Problem
+listing rules = solved_by rules []
 
--- the way out that drops these rules, with this set
-abbrev pub way : List ℕ → List ℕ → WayOut
-way dropped set = record { dropped = dropped; set = set }
+-- the solution that drops these rules, with this set
+abbrev pub way : List ℕ → List ℕ → Solution
+way dropped set = record { dropped = dropped; set = set; refuted = [] }
 
 -- what is said of it
 abbrev pub said_of : List ℕ → List ℕ → List (List ℕ)

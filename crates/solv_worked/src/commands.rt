@@ -4,10 +4,10 @@ ghost use Rattle.solv_base.specs.declared.comparison.Cmp.{Cmp};
 ghost use Rattle.solv_pool.specs.declared.jobs.Action.TheVariants.{Install, Erase, Update, Distupgrade, Lock, Verify, Multiversion, AllowUninstall, Noop, Favor, Disfavor, UserInstalled};
 ghost use Rattle.solv_pool.specs.declared.tasks.Flags.{Flags};
 ghost use Rattle.solv_commands.specs.Commas.{between_commas};
-ghost use Rattle.solv_commands.specs.Commands.{repo, system, solverflags, namespace, disable, evrcmp, results, job, pkg, by_name, by_provides, one_of, all, nothing, no_job_flags};
+ghost use Rattle.solv_commands.specs.Commands.{repo, system, solverflags, namespace, disable, evrcmp, results, job, next_round, pkg, by_name, by_provides, one_of, all, nothing, no_job_flags};
 ghost use Rattle.solv_worked.specs.Commands.{said, set_by, best_flag, cleaning_flag};
 ghost use Rattle.solv_commands.specs.Numbers.{priority};
-ghost use Rattle.solv_commands.specs.declared.causes.Cause.TheVariants.{BadWords, BadNumber, BadRepoType, BadNamespace, BadOperator, UnknownJob, UnknownJobFlag, FlagNotHere, UnknownSelection, UnknownLine, NotBuilt};
+ghost use Rattle.solv_commands.specs.declared.causes.Cause.TheVariants.{BadWords, BadNumber, BadRepoType, BadNamespace, BadOperator, UnknownJob, UnknownJobFlag, FlagNotHere, UnknownSelection, UnknownLine};
 
 /// Repositories, with files and empty.
 pub fn repo_lines()
@@ -50,6 +50,12 @@ pub fn result_lines()
     ensures no_file { said (codes "result transaction") ≡ Err BadWords }
     ensures no_word { said (codes "result") ≡ Err BadWords }
     ensures blank_between { said (codes "result transaction, problems a") ≡ Err BadWords }
+{}
+
+/// The line that begins a round is one word.
+pub fn next_lines()
+    ensures alone { said (codes "nextjob \r") ≡ Ok next_round }
+    ensures another_word { said (codes "nextjob x") ≡ Err BadWords }
 {}
 
 /// Jobs, with their own texts.
@@ -122,11 +128,10 @@ pub fn solver_flags(flags: solv_pool::Flags)
     ensures two_signs { set_by (codes "!!allowdowngrade") flags ≡ None }
 {}
 
-/// Lines that are unknown, and one that is not built yet.
+/// Lines that are unknown.
 pub fn unknown_lines()
     ensures unknown { said (codes "poolflags implicitobsoleteusesprovides") ≡ Err UnknownLine }
     ensures case_counts { said (codes "Repo a 1 empty") ≡ Err UnknownLine }
-    ensures nextjob { said (codes "nextjob x") ≡ Err NotBuilt }
 {}
 
 /// Priorities.

@@ -7,10 +7,10 @@ ghost use Rattle.solv_lines.specs.Inner.RuleTexts.{rule_text_at};
 ghost use Rattle.solv_lines.specs.Comparing.{missing_lines};
 ghost use Rattle.solv_lines.specs.LineSets.{line_set};
 ghost use Rattle.solv_lines.specs.Inner.LineSets.{rises};
-ghost use Rattle.solv_lines.specs.Inner.ResultLines.{outcome_lines};
+ghost use Rattle.solv_lines.specs.Inner.ResultLines.{outcome_lines, problems_lines};
 ghost use Rattle.solv_lines.specs.ResultLines.{seven_digits, question_word, solved_lines};
 ghost use Rattle.solv_worked.specs.Lines.{spoken, told, made, placed, happened, listing, solved_by, way, said_of, both_kinds, no_kinds, problems_alone, order_alone, reason_alone};
-ghost use Rattle.solv_lines.specs.declared.outcomes.Outcome.TheVariants.{Failed, Spent};
+ghost use Rattle.solv_lines.specs.declared.outcomes.Outcome.TheVariants.{Spent};
 
 /// The texts of rules of every kind, what is said of a requirement that nothing meets, and of a job that selects nothing, by
 /// a name and by all packages.
@@ -24,10 +24,10 @@ pub fn rows_of_rule_texts()
 /// before the second.
 pub fn rows_of_result_lines()
     ensures changes { line_set (solved_lines (catalog_of spoken) spoken.jobs both_kinds made placed happened (0 ∷ 1 ∷ 3 ∷ [])) ≡ codes "change B-1-1.noarch@system C-1-1.noarch@available" ∷ codes "downgrade A-2-1.noarch@available A-1-1.noarch@system" ∷ codes "erase B-1-1.noarch@system" ∷ codes "install P-1-1.i686@available" ∷ codes "obsolete A-1-1.noarch@system C-1-1.noarch@available" ∷ codes "reinstall B-1-1.noarch@system B-1-1.noarch@system" ∷ codes "upgrade A-1-1.noarch@system A-2-1.noarch@available" ∷ [] }
-    ensures problem { line_set (outcome_lines spoken told both_kinds (Failed (listing (1 ∷ 8 ∷ 9 ∷ 13 ∷ []) ∷ []))) ≡ codes "problem 1 info conflicting requests" ∷ codes "problem 1 info package B-1-1.noarch@system requires A, but none of the providers can be installed" ∷ codes "problem 1 info problem with installed package B-1-1.noarch@system" ∷ [] }
-    ensures problems { line_set (outcome_lines spoken told both_kinds (Failed (listing [] ∷ listing (10 ∷ []) ∷ listing [] ∷ listing [] ∷ listing [] ∷ listing [] ∷ listing [] ∷ listing [] ∷ listing [] ∷ listing (10 ∷ []) ∷ []))) ≡ codes "problem 10 info nothing provides requested nosuch" ∷ codes "problem 2 info nothing provides requested nosuch" ∷ [] }
+    ensures problem { line_set (problems_lines spoken told both_kinds (listing (1 ∷ 8 ∷ 9 ∷ 13 ∷ []) ∷ [])) ≡ codes "problem 1 info conflicting requests" ∷ codes "problem 1 info package B-1-1.noarch@system requires A, but none of the providers can be installed" ∷ codes "problem 1 info problem with installed package B-1-1.noarch@system" ∷ [] }
+    ensures problems { line_set (problems_lines spoken told both_kinds (listing [] ∷ listing (10 ∷ []) ∷ listing [] ∷ listing [] ∷ listing [] ∷ listing [] ∷ listing [] ∷ listing [] ∷ listing [] ∷ listing (10 ∷ []) ∷ [])) ≡ codes "problem 10 info nothing provides requested nosuch" ∷ codes "problem 2 info nothing provides requested nosuch" ∷ [] }
     ensures no_changes { solved_lines (catalog_of spoken) spoken.jobs problems_alone made placed happened (0 ∷ 1 ∷ 3 ∷ []) ≡ [] }
-    ensures no_problems { outcome_lines spoken told no_kinds (Failed (listing (1 ∷ []) ∷ [])) ≡ [] }
+    ensures no_problems { problems_lines spoken told no_kinds (listing (1 ∷ []) ∷ []) ≡ [] }
     ensures spent { outcome_lines spoken told both_kinds Spent ≡ [] }
     ensures sorted { line_set (codes "b" ∷ codes "a" ∷ codes "ab" ∷ codes "b" ∷ []) ≡ codes "a" ∷ codes "ab" ∷ codes "b" ∷ [] }
 {}
@@ -72,8 +72,8 @@ pub fn rows_of_solution_texts()
 /// The lines of problems with their solutions: an erase job of what an installed package requires, an install job of a
 /// package of an inferior architecture, and one that asks for the best.
 pub fn rows_of_problems()
-    ensures needed { line_set (outcome_lines spoken told both_kinds (Failed (solved_by (1 ∷ 8 ∷ 9 ∷ 13 ∷ []) (way (8 ∷ 9 ∷ []) (0 ∷ []) ∷ way (13 ∷ []) (0 ∷ 1 ∷ 2 ∷ []) ∷ []) ∷ []))) ≡ codes "problem 1 info conflicting requests" ∷ codes "problem 1 info package B-1-1.noarch@system requires A, but none of the providers can be installed" ∷ codes "problem 1 info problem with installed package B-1-1.noarch@system" ∷ codes "problem 1 solution 1 erase B-1-1.noarch@system" ∷ codes "problem 1 solution 2 deljob erase name A" ∷ [] }
-    ensures inferior { line_set (outcome_lines spoken told both_kinds (Failed (solved_by (17 ∷ 18 ∷ []) (way (17 ∷ []) (0 ∷ 6 ∷ []) ∷ way (18 ∷ []) (0 ∷ []) ∷ []) ∷ []))) ≡ codes "problem 1 info A-1-1.i686@available has inferior architecture" ∷ codes "problem 1 info conflicting requests" ∷ codes "problem 1 solution 1 allow A-1-1.i686@available" ∷ codes "problem 1 solution 2 deljob install pkg A-1-1.i686@available" ∷ [] }
-    ensures best { line_set (outcome_lines spoken told both_kinds (Failed (listing [] ∷ solved_by (19 ∷ []) (way (19 ∷ []) (0 ∷ []) ∷ []) ∷ []))) ≡ codes "problem 2 info cannot install the best candidate for the job" ∷ codes "problem 2 solution 1 dropbest install name A [forcebest]" ∷ [] }
-    ensures no_problems { outcome_lines spoken told no_kinds (Failed (solved_by (19 ∷ []) (way (19 ∷ []) (0 ∷ []) ∷ []) ∷ [])) ≡ [] }
+    ensures needed { line_set (problems_lines spoken told both_kinds (solved_by (1 ∷ 8 ∷ 9 ∷ 13 ∷ []) (way (8 ∷ 9 ∷ []) (0 ∷ []) ∷ way (13 ∷ []) (0 ∷ 1 ∷ 2 ∷ []) ∷ []) ∷ [])) ≡ codes "problem 1 info conflicting requests" ∷ codes "problem 1 info package B-1-1.noarch@system requires A, but none of the providers can be installed" ∷ codes "problem 1 info problem with installed package B-1-1.noarch@system" ∷ codes "problem 1 solution 1 erase B-1-1.noarch@system" ∷ codes "problem 1 solution 2 deljob erase name A" ∷ [] }
+    ensures inferior { line_set (problems_lines spoken told both_kinds (solved_by (17 ∷ 18 ∷ []) (way (17 ∷ []) (0 ∷ 6 ∷ []) ∷ way (18 ∷ []) (0 ∷ []) ∷ []) ∷ [])) ≡ codes "problem 1 info A-1-1.i686@available has inferior architecture" ∷ codes "problem 1 info conflicting requests" ∷ codes "problem 1 solution 1 allow A-1-1.i686@available" ∷ codes "problem 1 solution 2 deljob install pkg A-1-1.i686@available" ∷ [] }
+    ensures best { line_set (problems_lines spoken told both_kinds (listing [] ∷ solved_by (19 ∷ []) (way (19 ∷ []) (0 ∷ []) ∷ []) ∷ [])) ≡ codes "problem 2 info cannot install the best candidate for the job" ∷ codes "problem 2 solution 1 dropbest install name A [forcebest]" ∷ [] }
+    ensures no_problems { problems_lines spoken told no_kinds (solved_by (19 ∷ []) (way (19 ∷ []) (0 ∷ []) ∷ []) ∷ []) ≡ [] }
 {}

@@ -1,15 +1,15 @@
 //! Examples on which the grammar of scripts is evaluated.
-ghost use Rattle.std.specs.Prelude.{◌≡◌, ◌∷◌, ◌++◌, [], ◌-◌, codes, map, true, false, Some, None, Ok, Err};
+ghost use Rattle.std.specs.Prelude.{◌≡◌, ◌∷◌, ◌++◌, [], ◌-◌, codes, length, map, true, false, Some, None, Ok, Err};
 ghost use Rattle.solv_base.specs.Dependency.{one, plain};
 ghost use Rattle.solv_base.specs.Pool.{Held};
 ghost use Rattle.solv_pool.specs.Written as written;
 ghost use Rattle.solv_pool.specs.declared.universes.Arch.TheVariants.{X86_64, I686, Aarch64};
-ghost use Rattle.solv_commands.specs.declared.causes.Cause.TheVariants.{BadWords, BadNumber, BadRepoType, DuplicateRepo, DuplicateSystem, BadArch, BadDisttype, UnknownRepo, UnknownFlag, BadNamespace, UnknownPackage, BadOperator, DuplicateResult, UnknownKind, UnknownJob, UnknownJobFlag, FlagNotHere, UnknownSelection, SystemInJob, UnknownLine, Compressed, BadFileName, FileTooLong, ScriptTooLong, MissingOperand, OperatorNotHere, BadPackageLine, TagBeforePackage, UnclosedBlock, NotBuilt};
+ghost use Rattle.solv_commands.specs.declared.causes.Cause.TheVariants.{BadWords, BadNumber, BadRepoType, DuplicateRepo, DuplicateSystem, BadArch, BadDisttype, UnknownRepo, UnknownFlag, BadNamespace, UnknownPackage, BadOperator, DuplicateResult, UnknownKind, UnknownJob, UnknownJobFlag, FlagNotHere, UnknownSelection, SystemInJob, UnknownLine, Compressed, BadFileName, FileTooLong, ScriptTooLong, MissingOperand, OperatorNotHere, BadPackageLine, TagBeforePackage, UnclosedBlock, AfterNextjob};
 ghost use Rattle.solv_script.specs.Reads.{default_kinds, first_flags};
 ghost use Rattle.solv_script.specs.Grammar.{counted};
 ghost use Rattle.solv_script.specs.Results.{no_kinds};
-ghost use Rattle.solv_script.specs.States.{no_line};
-ghost use Rattle.solv_worked.specs.Scripts.{map_counted, at, bad_line, due_in_folder, file_a, file_b, file_c, given, given_in_folder, map_given, refused, with_packages};
+ghost use Rattle.solv_script.specs.States.{no_line, rounds_given, script_given};
+ghost use Rattle.solv_worked.specs.Scripts.{map_counted, at, bad_line, due_in_folder, file_a, file_b, file_c, given, given_in_folder, map_given, refused, two_rounds, with_packages};
 
 /// Comments, blank lines and inline lines that belong to no repository say nothing, and numbers go on over them. A block that
 /// is open at the end of a repository's lines is bad at the last of them.
@@ -19,7 +19,6 @@ pub fn lines_of_scripts()
     ensures nothing { refused (codes "# a comment\n \t\r\n#>=Req: (\n\n") ≡ None }
     ensures blank_before { refused (codes "\n # a comment") ≡ at 2 UnknownLine }
     ensures first_word { refused (codes "repo a 0 empty\nRepo b 0 empty") ≡ at 2 UnknownLine }
-    ensures late { refused (codes "nextjob") ≡ at 1 NotBuilt }
 {}
 
 /// Repositories.
@@ -127,6 +126,33 @@ pub fn jobs_of_scripts()
     ensures cleandeps { map_given (λ s. map (λ j. j.cleandeps) s.task.jobs) (given (codes "job erase name A [cleandeps]\njob erase name A")) ≡ Some (true ∷ false ∷ []) }
     ensures text { map_given (λ s. map (λ j. j.text) s.task.jobs) (given (codes "job \tinstall  name A\t>= 1 [forcebest] \r")) ≡ Some (codes "install name A >= 1 [forcebest]" ∷ []) }
     ensures entered { map_given (λ s. s.held.names) (given (codes "job install name A >= 1\njob erase provides A")) ≡ Some (codes "A" ∷ codes "1" ∷ []) }
+{}
+
+/// What may stand behind a `nextjob` line: that a line of packages may not is tried before its words.
+pub fn lines_behind_nextjob()
+    ensures late { refused (codes "repo a 0 empty\nnextjob\nrepo a 0 empty") ≡ at 3 AfterNextjob }
+    ensures late_before_words { refused (codes "nextjob\nrepo a") ≡ at 2 AfterNextjob }
+    ensures late_system { refused (codes "nextjob\nsystem foo") ≡ at 2 AfterNextjob }
+    ensures late_namespace { refused (codes "nextjob\n#>x\nnamespace") ≡ at 3 AfterNextjob }
+    ensures late_disable { refused (codes "nextjob\ndisable pkg") ≡ at 2 AfterNextjob }
+    ensures words { refused (codes "nextjob x") ≡ at 1 BadWords }
+    ensures unknown { refused (codes "nextjob\nRepo") ≡ at 2 UnknownLine }
+    ensures checks { map_given (λ s. length s.checks) (given (codes "evrcmp 1 < 2\nnextjob\nevrcmp 1 < 2")) ≡ Some 2 }
+    ensures results_each { refused (codes "result order <inline>\nnextjob\nresult order <inline>") ≡ None }
+    ensures result_twice { refused (codes "nextjob\nresult order <inline>\nresult order <inline>") ≡ at 3 DuplicateResult }
+{}
+
+/// What rounds have: the flags stay, and the jobs, the kinds and the lines that are expected begin anew.
+pub fn rounds_of_scripts()
+    ensures count { map_given (λ s. length s.earlier) (given (codes "nextjob\n\nnextjob\n")) ≡ Some 2 }
+    ensures jobs { map_given (λ s. map (λ r. map (λ j. j.text) r.jobs) (rounds_given s)) (given two_rounds) ≡ Some ((codes "install name A" ∷ []) ∷ (codes "install name nosuch" ∷ []) ∷ []) }
+    ensures first { map_given (λ s. map (λ j. j.text) (script_given s).task.jobs) (given two_rounds) ≡ Some (codes "install name A" ∷ []) }
+    ensures later { map_given (λ s. length (script_given s).later) (given two_rounds) ≡ Some 1 }
+    ensures flags_stay { map_given (λ s. s.task.flags) (given (codes "solverflags allowuninstall\nnextjob")) ≡ Some (record first_flags { allow_uninstall = true }) }
+    ensures flags_of_first { map_given (λ s. (script_given s).task.flags) (given (codes "solverflags allowuninstall\nnextjob\nsolverflags !allowuninstall")) ≡ Some (record first_flags { allow_uninstall = true }) }
+    ensures kinds_anew { map_given (λ s. s.kinds) (given (codes "result order <inline>\nnextjob")) ≡ Some default_kinds }
+    ensures kinds_of_first { map_given (λ s. (script_given s).kinds) (given (codes "result order <inline>\nnextjob")) ≡ Some (record no_kinds { order = true }) }
+    ensures wanted_anew { map_given (λ s. s.wanted) (given (codes "result order <inline>\n#>a\nnextjob")) ≡ Some None }
 {}
 
 /// The bytes of a file, and of a script and its files together.

@@ -1,0 +1,2 @@
+-- Words of contracts between layers, and what holds inside.
+pub mod Fronts

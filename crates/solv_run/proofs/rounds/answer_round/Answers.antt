@@ -1,0 +1,14 @@
+use Rattle.solv_script.specs.Inner.Turns.{first_turn}
+use Rattle.solv_said.proofs.Forming.{asks_formed}
+use Rattle.solv_run.specs.Rounds.{IsGoodAnswer}
+use Rattle.solv_run.proofs.RoundByRound.{taken_behind}
+use Rattle.solv_run.proofs.rounds.answer_round.Goals as goal
+
+pub answer-requires-clause-formed : goal.answer-requires-clause-formed
+answer-requires-clause-formed c = asks_formed c.args.script.now.task c.requires.forms
+
+pub returns-clause-one_more : goal.returns-clause-one_more
+returns-clause-one_more c =
+    let answered = c.in_ok-answered.answered in
+    let good : IsGoodAnswer c.args.script.now.task c.args.begun.now.left answered.answer answered.ledger = record { is = c.in_ok-answered.ensures.good; direct = c.in_ok-answered.ensures.direct } in
+    taken_behind c.args.command.now (first_turn c.args.script.now) answered c.take-2.result c.args.begun.now c.print.new.self c.take-2.new.self good c.in_ok-print.ensures c.take-2.ensures.taken

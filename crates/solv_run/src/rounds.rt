@@ -1,0 +1,194 @@
+//! The rounds of a script, answered in turn within one budget.
+ghost use Rattle.std.specs.Prelude.{◌≡◌, ◌<◌, ◌≤◌, ◌-◌, ◌++◌, ◌∷◌, [], ◌&&◌, None, Some, codes, false, true, length, map, slice_get, IfOk, IfSome, IfNone, OnOk};
+ghost use Rattle.std.specs.List.{All};
+ghost use Rattle.solv_io.specs.Lines.{ended_lines};
+ghost use Rattle.solv_pool.specs.Catalog.{catalog_of};
+ghost use Rattle.solv_pool.specs.HardRules.{hard_rules};
+ghost use Rattle.solv_pool.specs.TaskBelonging.{IsClosed};
+ghost use Rattle.solv_pool.specs.TaskForms.{HasForms};
+ghost use Rattle.solv_prov.specs.Index.{IsIndexOf};
+ghost use Rattle.solv_rules.specs.Books.{first_fault};
+ghost use Rattle.solv_answers.specs.Answers.{IsPrepared, first_limit, is_spent};
+ghost use Rattle.solv_script.specs.Rounds.{tasks, turn_of, turns, with_jobs_of};
+ghost use Rattle.solv_script.specs.Inner.Turns.{first_turn};
+ghost use Rattle.solv_run.specs.Inner.Outcomes.{has_listed};
+ghost use Rattle.solv_run.specs.Inner.Rounds.{AreAll, HasBegun, HasNext, HasPrinted, HasTaken, IsOneMore};
+ghost use Rattle.solv_run.specs.Texts.{is_as_wanted, round_lines};
+
+use crate::printing::round_said;
+use crate::reports::Reached;
+use solv_answers::{Answer, Answered, Prepared, answer, prepare};
+use solv_prov::Providers;
+use solv_rules::BookFault;
+use solv_script::Script;
+use solv_words::Command;
+use std::alloc::{AllocError, Global};
+
+/// The rounds that were begun.
+#[derive(Drop)]
+pub(crate) struct Begun {
+    pub(crate) reached: Reached,
+    /// What is printed of them, where no proofs are asked for.
+    pub(crate) text: Vec<u8>,
+    /// Whether the lines of each are as it expects.
+    pub(crate) as_wanted: bool,
+    /// Whether the last one spent the budget.
+    pub(crate) spent: bool,
+    /// What is left of the budget, where it is not spent.
+    pub(crate) left: u32,
+}
+
+/// Whether an answer is that the budget is spent.
+pub(crate) fn is_spent(answer: &Answer) -> bool
+    ensures { result ≡ is_spent answer.now }
+{
+    matches!(answer, Answer::Spent)
+}
+
+/// What an answer leaves of a budget.
+fn left_by(left: u32, answered: &Answered) -> u32
+    ensures left { length answered.now.ledger.entries ≤ left → result ≡ left - length answered.now.ledger.entries }
+    ensures less { result ≤ left }
+{
+    (left as usize).saturating_sub(answered.ledger.entries.len()) as u32
+}
+
+impl Begun {
+    /// Takes in what is printed of the first round of a script.
+    fn print(
+        &mut self,
+        alloc: Global,
+        shows: bool,
+        script: &Script,
+        prepared: &Prepared<'_>,
+        answer: &Answer,
+    ) -> Result<(), AllocError>
+        requires closed { IsClosed script.now.task }
+        requires prepared { IsPrepared script.now.task prepared.now }
+        requires listed { has_listed (length script.now.task.universe.packages) answer.now ≡ true }
+        ensures { OnOk result (HasPrinted shows (first_turn script.now) answer.now self.old self.new) }
+    {
+        let said = round_said(alloc, shows, script, prepared, answer)?;
+        self.text.extend_from_slice(&said.text)?;
+        self.as_wanted = self.as_wanted && said.as_wanted;
+        Ok(())
+    }
+
+    /// Takes in an answer.
+    fn take(&mut self, answered: Answered) -> Result<(), AllocError>
+        ensures taken { OnOk result (HasTaken answered self.old self.new) }
+        ensures left { self.new.left ≤ self.old.left }
+    {
+        self.spent = is_spent(&answered.answer);
+        self.left = left_by(self.left, &answered);
+        self.reached.push(answered)
+    }
+}
+
+/// Answers the first round of a script, behind those before.
+pub(crate) fn answer_round(
+    alloc: Global,
+    command: &Command,
+    script: &Script,
+    prepared: &Prepared<'_>,
+    begun: &mut Begun,
+) -> Result<(), AllocError>
+    requires closed { IsClosed script.now.task }
+    requires forms { HasForms script.now.task }
+    requires prepared { IsPrepared script.now.task prepared.now }
+    requires left { begun.old.left ≤ 1000000 }
+    ensures one_more { OnOk result (IsOneMore command.now [] (first_turn script.now) begun.old begun.new) }
+    ensures left { OnOk result (begun.new.left ≤ 1000000) }
+{
+    let answered = answer(alloc, &script.task, prepared, begun.left)?;
+    if command.proves {
+        return begun.take(answered);
+    }
+    begun.print(alloc, command.shows, script, prepared, &answered.answer)?;
+    begun.take(answered)
+}
+
+/// Makes the book of the first round of a script, whose clauses pass no limit, and answers it.
+fn prepare_round(
+    alloc: Global,
+    command: &Command,
+    script: &Script,
+    prov: &Providers,
+    begun: &mut Begun,
+) -> Result<(), AllocError>
+    requires closed { IsClosed script.now.task }
+    requires forms { HasForms script.now.task }
+    requires index { IsIndexOf prov.now (catalog_of script.now.task) }
+    requires fits { first_fault (catalog_of script.now.task) 0 (hard_rules script.now.task) ≡ None }
+    requires left { begun.old.left ≤ 1000000 }
+    ensures one_more { OnOk result (IsOneMore command.now [] (first_turn script.now) begun.old begun.new) }
+    ensures left { OnOk result (begun.new.left ≤ 1000000) }
+{
+    match prepare(alloc, &script.task, prov) {
+        Ok(prepared) => answer_round(alloc, command, script, &prepared, begun),
+        Err(BookFault::Memory) => Err(AllocError),
+        Err(_) => unreachable!(),
+    }
+}
+
+/// Puts the line before a later round at the end of the text, where no proofs are asked for.
+fn print_next(command: &Command, begun: &mut Begun) -> Result<(), AllocError>
+    ensures { OnOk result (HasNext command.now begun.old begun.new) }
+{
+    if !command.proves {
+        begun.text.extend_from_slice(b"nextjob\n")?;
+    }
+    Ok(())
+}
+
+/// Answers the later round at this place; the script is as before.
+fn later_round(
+    alloc: Global,
+    command: &Command,
+    script: &mut Script,
+    prov: &Providers,
+    place: usize,
+    begun: &mut Begun,
+) -> Result<(), AllocError>
+    requires place { place < length script.old.later }
+    requires closed { All IsClosed (tasks script.old) }
+    requires forms { All HasForms (tasks script.old) }
+    requires index { IsIndexOf prov.now (catalog_of script.old.task) }
+    requires fits { first_limit (tasks script.old) ≡ None }
+    requires left { begun.old.left ≤ 1000000 }
+    ensures script { script.new ≡ script.old }
+    ensures one_more { OnOk result (IfSome (slice_get script.old.later place) (λ r. IsOneMore command.now (codes "nextjob" ∷ []) (turn_of script.old r) begun.old begun.new)) }
+    ensures left { OnOk result (begun.new.left ≤ 1000000) }
+{
+    print_next(command, begun)?;
+    script.turn(place);
+    let answered = prepare_round(alloc, command, script, prov, begun);
+    script.turn(place);
+    answered
+}
+
+/// Answers the later rounds of a script in turn, until one spends the budget; the script is as before.
+pub(crate) fn later_rounds(
+    alloc: Global,
+    command: &Command,
+    script: &mut Script,
+    prov: &Providers,
+    begun: &mut Begun,
+) -> Result<(), AllocError>
+    requires closed { All IsClosed (tasks script.old) }
+    requires forms { All HasForms (tasks script.old) }
+    requires index { IsIndexOf prov.now (catalog_of script.old.task) }
+    requires fits { first_limit (tasks script.old) ≡ None }
+    requires left { begun.old.left ≤ 1000000 }
+    requires begun { HasBegun command.now (tasks script.old) (turns script.old) (map (with_jobs_of script.old.task) script.old.later) (map (turn_of script.old) script.old.later) begun.old }
+    ensures script { script.new ≡ script.old }
+    ensures all { OnOk result (AreAll command.now (tasks script.old) (turns script.old) begun.new) }
+{
+    for place in 0..script.later.len() {
+        if begun.spent {
+            return Ok(());
+        }
+        later_round(alloc, command, script, prov, place, begun)?;
+    }
+    Ok(())
+}

@@ -1,0 +1,3 @@
+# The last line is refused: AfterNextjob.
+nextjob
+namespace namespace:language(de) @SYSTEM

@@ -1,2 +1,0 @@
-# The last line is refused: NotBuilt.
-nextjob

@@ -1,0 +1,2 @@
+# The last line is refused: BadWords.
+nextjob x
