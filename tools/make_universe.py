@@ -1,11 +1,11 @@
 #!/usr/bin/env python3
 """Writes a script of a universe for the makers of rules: names in two versions each, and a part of them installed.
 
-Usage: make_universe.py [PACKAGES] [INSTALLED] > big.t
+Usage: make_universe.py [PACKAGES] [INSTALLED] [ROUNDS] > big.t
 
 Each package has five requirements on packages of other names, most with a version; one in twenty has a conflict, one in
-fifty an obsoletion. Every requirement is met. The script ends with a job that updates all packages. The same numbers give
-the same script.
+fifty an obsoletion. Every requirement is met. The script ends with a job that updates all packages or, where a number of
+rounds is given, with so many rounds that install one package each. The same numbers give the same script.
 """
 import random
 import sys
@@ -35,7 +35,12 @@ def main():
     for name in range(names):
         for version in (1, 2):
             write("".join(f"#>{line}\n" for line in package_lines(name, version, names, draw)))
-    write("system x86_64 rpm system\njob update all packages\n")
+    write("system x86_64 rpm system\n")
+    if len(sys.argv) > 3:
+        rounds = random.Random(7).sample(range(names), int(sys.argv[3]))
+        write("nextjob\n".join(f"job install name package-{name:06d}\n" for name in rounds))
+    else:
+        write("job update all packages\n")
 
 
 main()

@@ -1,9 +1,9 @@
 //! Calls on the rounds of a script.
-use crate::fixture::read_rounds;
+use crate::fixture::{make_ready, read_rounds};
 use solv_list::{Bytes, Items};
 use solv_pool::{Flags, Job};
 use solv_prov::Providers;
-use solv_rounds::{later_limit, prepare_round, to_front};
+use solv_rounds::{prepare_in_turn, prepare_round, to_front};
 use solv_rules::BookFault;
 use solv_script::{Kinds, Round, Script};
 use std::alloc::{AllocError, Global};
@@ -144,7 +144,8 @@ fn erases(alloc: Global, place: usize, want: [bool; 3]) -> Result<bool, AllocErr
         return Ok(false);
     }
     let prov = Providers::build(alloc, &script.task)?;
-    match prepare_round(alloc, &mut script, &prov, place) {
+    let first = make_ready(alloc, &script.task, &prov)?;
+    match prepare_round(alloc, &mut script, first, place) {
         Ok(prepared) => Ok(
             prepared.marks.erased.held() == want.as_slice() && are_rounds(&script, ONE, TWO, THREE),
         ),
@@ -160,32 +161,18 @@ fn each_round_is_prepared_for_itself(rt: HostRuntime) -> Result<(), Fail> {
     Ok(())
 }
 
-/// The requirement of P (1), which is installed, is broken, and has more clauses than a dependency may have. The first round verifies P.
-const RICH_FIRST: &str = "repo system 0 testtags <inline>
-#>=Pkg: P 1 1 noarch
-#>=Req: (a & b) | (a & b) | (a & b) | (a & b) | (a & b) | (a & b) | (a & b) | (a & b) | (a & b) | (a & b) | (a & b) | (a & b) | (a & b) | (a & b) | (a & b) | (a & b) | (a & b)
-system x86_64 rpm system
-job verify name P
-nextjob
-";
-
-/// The same, and the third round verifies P too.
+/// The requirement of P (1), which is installed, is broken, and has more clauses than a dependency may have. The third round verifies P.
 const RICH_LAST: &str = "repo system 0 testtags <inline>
 #>=Pkg: P 1 1 noarch
 #>=Req: (a & b) | (a & b) | (a & b) | (a & b) | (a & b) | (a & b) | (a & b) | (a & b) | (a & b) | (a & b) | (a & b) | (a & b) | (a & b) | (a & b) | (a & b) | (a & b) | (a & b)
 system x86_64 rpm system
-job verify name P
 nextjob
 nextjob
 job verify name P
 ";
 
 /// Scripts, each with whether a round behind the first one passes a limit.
-const LIMITS: &[(&str, bool)] = &[
-    (THREE_ROUNDS, false),
-    (RICH_FIRST, false),
-    (RICH_LAST, true),
-];
+const LIMITS: &[(&str, bool)] = &[(THREE_ROUNDS, false), (RICH_LAST, true)];
 
 /// Whether a fault is that a dependency has too many clauses.
 fn is_too_rich(fault: &BookFault) -> bool {
@@ -196,9 +183,10 @@ fn is_too_rich(fault: &BookFault) -> bool {
 fn passes(alloc: Global, text: &str, want: bool) -> Result<bool, AllocError> {
     let mut script = read_rounds(alloc, text)?;
     let prov = Providers::build(alloc, &script.task)?;
-    match later_limit(alloc, &mut script, &prov)? {
-        Some(fault) => Ok(want && is_too_rich(&fault)),
-        None => Ok(!want),
+    let first = make_ready(alloc, &script.task, &prov)?;
+    match prepare_in_turn(alloc, &mut script, first) {
+        Ok(_last) => Ok(!want),
+        Err(fault) => Ok(want && is_too_rich(&fault)),
     }
 }
 

@@ -198,3 +198,8 @@ nothing_held made ledger = record {
   few = omega arith;
   behind = omega arith;
 }
+
+pub held_by_none : (made : CoreOf) (kept : List ℕ) (first : ℕ) (clauses : List (List ℤ)) → kept ≡ [] → first ≡ 0 → clauses ≡ [] → (ledger : Ledger) → IsHeldBy (record { made = made; in_use = record { kept = kept; first = first; clauses = clauses } }) ledger
+held_by_none made kept first clauses e f g ledger =
+    let P : List ℕ → ℕ → List (List ℤ) → Type 0 = λ k n l. IsHeldBy (record { made = made; in_use = record { kept = k; first = n; clauses = l } }) ledger in
+    subst (λ k. P k first clauses) (sym e) (subst (λ n. P [] n clauses) (sym f) (subst (λ l. P [] 0 l) (sym g) (nothing_held made ledger)))

@@ -1,5 +1,5 @@
 //! A core, and its runs.
-ghost use Rattle.std.specs.Prelude.{◌≡◌, ◌⊎◌, ◌^◌, ◌≤◌, ◌+◌, ◌*◌, ◌==◌, ◌++◌, ◌∷◌, [], true, List, length, nat_lt, IfOk, OnOk, OnErr};
+ghost use Rattle.std.specs.Prelude.{◌≡◌, ◌⊎◌, ◌^◌, ◌≤◌, ◌+◌, ◌*◌, ◌==◌, ◌++◌, ◌∷◌, [], true, List, length, take, nat_lt, IfOk, OnOk, OnErr};
 ghost use Rattle.std.specs.List.{list_all};
 ghost use Rattle.solv_derive.specs.Range.{are_over};
 ghost use Rattle.solv_trail.specs.Propagated.{in_use};
@@ -20,6 +20,7 @@ use crate::forgetful::Forgetful;
 use crate::keeping::{flags_of, kept_of};
 use crate::ledger::{Ledger, Run};
 use crate::parts::{Numbers, Parts, Used};
+use crate::refitting::{copy_of, refill, refit_parts};
 use crate::refutation::log_of;
 use crate::refuting::{Contradiction, refuted_over};
 use crate::settling::{Outcome, settle};
@@ -73,20 +74,6 @@ impl Model for Core {
       narrow : AreNarrow c.parts.book.rules c.parts.watches.narrow.items;
       heads : AreHeads c.packages c.parts.watches.learnt.heads.items c.parts.watches.learnt.watched.items;
     } };
-}
-
-/// A copy of a memory.
-fn copy_of(alloc: Global, memory: &RuleMem) -> Result<RuleMem, AllocError>
-    ensures { IfOk result (λ copy. copy.rules ≡ memory.now.rules) }
-{
-    let mut copy = RuleMem::new(alloc);
-    for rule in 0..memory.len() as u32 {
-        match copy.push(memory.lits(RuleNo(rule))) {
-            Ok(_) => (),
-            Err(_) => return Err(AllocError),
-        }
-    }
-    Ok(copy)
 }
 
 /// Notes a run in the ledger, and closes up the learnt rules that stay in use: those whose leaves are clauses of enabled rules. Room
@@ -226,6 +213,36 @@ impl Core {
                 },
                 watches,
             },
+        })
+    }
+
+    /// Lets a core serve other clauses, of which the first ones are its own: what it has learnt goes, and only what stands behind the
+    /// shared clauses is copied.
+    pub fn refit(
+        self,
+        memory: &RuleMem,
+        owners: &[usize],
+        shared: usize,
+    ) -> Result<Core, AllocError>
+        requires each { length owners.now ≡ length memory.now.rules }
+        requires few { length memory.now.rules ≤ 2 ^ 27 }
+        requires over { are_over self.made.packages memory.now.rules ≡ true }
+        requires shared { take shared self.made.clauses ≡ take shared memory.now.rules }
+        ensures core { IfOk result (λ core. core ≡ record { made = record { clauses = memory.now.rules; owners = owners.now; packages = self.made.packages }; in_use = none_in_use }) }
+        ensures held { IfOk result (λ core. (ledger : LedgerOf) → IsHeldBy core ledger) }
+    {
+        let Core {
+            packages,
+            owners: mut owned,
+            mut parts,
+        } = self;
+        let alloc = *owned.allocator();
+        refit_parts(alloc, &mut parts, memory, shared, packages)?;
+        refill(&mut owned, owners)?;
+        Ok(Core {
+            packages,
+            owners: owned,
+            parts,
         })
     }
 

@@ -1,16 +1,16 @@
 -- What a run answers, said of the questions of a task.
-use Rattle.std.proofs.Common.{◌≡◌, ◌<◌, ◌⊎◌, ℕ, Bool, true, false, not, ◌&&◌, List, [], ◌∷◌, ◌++◌, Option, Some, None, inl, inr, refl, sym, ap, ◌∙◌, subst, arith}
+use Rattle.std.proofs.Common.{◌≡◌, ℕ, Bool, true, ◌&&◌, List, Option, Some, None, refl, sym, ap, ◌∙◌, subst}
 use Rattle.std.proofs.Math.Path.{fun_ext}
 use Rattle.std.specs.Prelude.{ℤ, flat_map, length, slice_get, nat_lt, Result, Ok, Err, IfOk}
 use Rattle.std.specs.declared.alloc.AllocError.{AllocError}
 use Rattle.std.specs.List.{list_all}
-use Rattle.std.proofs.lemmas.Bool.{and_parts, cases_Bool, false≢true}
+use Rattle.std.proofs.lemmas.Bool.{and_parts, false≢true}
 use Rattle.solv_pool.specs.Clauses.{rule_clauses, clause_true}
 use Rattle.solv_pool.specs.Laws.{ClausesSayTheRule}
 use Rattle.solv_pool.specs.Propagation.{is_fact}
 use Rattle.solv_pool.specs.RuleMeaning.{HardRule, meets_rule}
 use Rattle.solv_derive.specs.Laws.{GoodLogsRefute}
-use Rattle.solv_derive.specs.Leaves.{leaves, leaves_true, rule_true}
+use Rattle.solv_derive.specs.Leaves.{leaves, rule_true}
 use Rattle.solv_derive.specs.Logs.{is_good_log}
 use Rattle.solv_derive.specs.Range.{steps_over}
 use Rattle.solv_derive.specs.declared.logs.Log.{Log}
@@ -26,8 +26,7 @@ use Rattle.solv_core.specs.declared.ledger.Ledger.{Ledger}
 use Rattle.solv_core.specs.declared.verdicts.Trail.{Trail}
 use Rattle.solv_core.specs.declared.verdicts.Verdict.{Verdict}
 use Rattle.solv_core.specs.declared.verdicts.Verdict.TheVariants as verdict
-use Rattle.solv_rules.specs.Books.{owners_from}
-use Rattle.solv_questions.specs.Questions.{Request, rules_of, enabled_rules, asks}
+use Rattle.solv_questions.specs.Questions.{Request, rules_of, asks}
 use Rattle.solv_questions.specs.Inner.Law.{QuestionsKeepTheLaw}
 use Rattle.solv_pool.proofs.Members.{Has, all_by, all_at, has_flat, of_flat}
 use Rattle.solv_questions.proofs.Origins.{is_from, of_enabled}

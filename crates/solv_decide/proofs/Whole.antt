@@ -1,33 +1,28 @@
 -- What a book gives a core, and what the first run finds.
-use Rattle.std.proofs.Common.{◌≡◌, ◌<◌, ◌≤◌, ◌+◌, ◌*◌, ◌⊎◌, ℕ, zero, suc, Bool, true, false, not, ◌&&◌, ◌||◌, List, [], ◌∷◌, ◌++◌, map, Option, Some, None, inl, inr, refl, sym, ap, ◌∙◌, subst, arith, if◌then◌else◌}
-use Rattle.std.specs.Prelude.{ℤ, pos, negsuc, nat_abs, nat_lt, nat_le, flat_map, length, fold, ◌==◌}
+use Rattle.std.proofs.Common.{◌≡◌, ◌<◌, ◌≤◌, ◌+◌, ◌*◌, ℕ, suc, Bool, true, false, List, [], ◌∷◌, ◌++◌, map, Option, Some, None, refl, sym, ap, ◌∙◌, subst, arith, if◌then◌else◌}
+use Rattle.std.specs.Prelude.{ℤ, pos, negsuc, nat_lt, nat_le, flat_map, length, fold, ◌==◌}
 use Rattle.std.specs.List.{list_all, range_with_len}
-use Rattle.std.proofs.lemmas.Bool.{and_parts, and_from, lt-ltb, le-leb, eqb-true, cases_Bool, false≢true}
-use Rattle.std.proofs.lemmas.List.{length-append}
+use Rattle.std.proofs.lemmas.Bool.{and_parts, and_from, lt-ltb, le-leb, eqb-true}
 use Rattle.solv_base.specs.Dependency.{IsWellFounded}
 use Rattle.solv_pool.specs.Words.{is_among}
-use Rattle.solv_pool.specs.Catalog.{Catalog, packages}
+use Rattle.solv_pool.specs.Catalog.{Catalog}
 use Rattle.solv_pool.specs.Clauses.{rule_clauses, words, words_of_all}
 use Rattle.solv_pool.specs.Laws.{ClausesNamePackages, names_packages}
 use Rattle.solv_pool.specs.Laws.{names_package as names_one}
 use Rattle.solv_pool.specs.RuleMeaning.{HardRule, rule_with, shape_of}
 use Rattle.solv_pool.specs.declared.hard_rules.Rules.{Rules}
 use Rattle.solv_derive.specs.Range.{names_package, is_over, are_over}
-use Rattle.solv_trail.specs.declared.questions.Ask.{Ask}
 use Rattle.solv_core.specs.Cores.{CoreOf}
-use Rattle.solv_core.specs.Ledgers.{IsGoodLedger}
-use Rattle.solv_core.specs.declared.ledger.Ledger.{Ledger}
 use Rattle.solv_rules.specs.Books.{most_words, rich_fault, overrun, or_else, rule_fault, first_fault, is_bookable, has_form}
 use Rattle.solv_rules.specs.declared.fault.BookFault.{BookFault}
 use Rattle.solv_rules.specs.declared.fault.BookFault.TheVariants.{TooManyWords}
 use Rattle.std.proofs.lemmas.Bool.Decides.{nat_tests}
 use Rattle.solv_rules.specs.Books.{owners_from, read_rules}
 use Rattle.solv_questions.specs.Inner.Law.{AsksInForm}
-use Rattle.solv_questions.specs.Questions.{Request, rules_of, asks}
+use Rattle.solv_questions.specs.Questions.{Request, rules_of}
 use Rattle.solv_plan.specs.Inner.PlanOf.{plan_of}
-use Rattle.solv_core.specs.declared.verdicts.Verdict.{Verdict}
-use Rattle.solv_decide.specs.Inner.Deciding.{Asker, IsAskedFor, IsDecided}
-use Rattle.solv_decide.proofs.Enabling.{owners_below}
+use Rattle.solv_decide.specs.Inner.Deciding.{Asker, IsAskedFor}
+use Rattle.solv_decide.proofs.Enabling.{lengths_are, owners_below}
 use Rattle.solv_pool.proofs.Members.{Has, any_has}
 use Rattle.solv_questions.proofs.Asking.{in_range}
 use Rattle.solv_list.proofs.Lists.{all_weaker, list_all_join}
@@ -110,6 +105,17 @@ module _ (catalog : Catalog) where
       let all = all_within 0 rules (omega arith) e in
       let each = words_each (flat_map (rule_clauses catalog) rules) in
       omega (arith, all, each)
+
+-- what a core owes of the clauses of a book and their owners
+module _ (catalog : Catalog) (rules : List HardRule) (clauses : List (List ℤ)) (are : clauses ≡ flat_map (rule_clauses catalog) rules) where
+  pub owner_each : (owners : List ℕ) → owners ≡ owners_from catalog 0 rules → length owners ≡ length clauses
+  owner_each owners is = ap length is ∙ lengths_are catalog 0 rules ∙ sym (ap length are)
+
+  pub few_are : first_fault catalog 0 rules ≡ None → length clauses ≤ 134217728
+  few_are fits = let few = few_clauses catalog rules fits in let same = ap length are in omega (arith, same, few)
+
+  pub all_over : ClausesNamePackages → list_all (is_bookable catalog) rules ≡ true → (count : ℕ) → count ≡ length catalog.universe.packages → are_over count clauses ≡ true
+  all_over law bookable count same = ap (λ n. are_over n clauses) same ∙ ap (are_over (length catalog.universe.packages)) are ∙ clauses_over catalog law rules bookable
 
 -- a core over a book is asked for by who has the plan
 pub asked_for : (r : Request) (asker : Asker) (core : CoreOf) (clauses : List (List ℤ)) (owners : List ℕ) (rules : List HardRule)

@@ -4,6 +4,7 @@
 //! - [`solve`]: a set by a trail in which each package follows or is the first possible candidate of the first open
 //!   question, or a refutation, or a spent budget.
 //! - [`decide`]: the answer for a task, by one run with every rule enabled.
+//! - [`Left`] and [`decide_on`]: what an answer leaves for a later one, and an answer that begins with it.
 //! - [`set_of`]: the set of a trail.
 //!
 //! `specs/Deciding` says what each answer is.
@@ -15,7 +16,7 @@ mod recalling;
 mod sets;
 mod solving;
 
-pub use deciding::{Decided, decide};
+pub use deciding::{Decided, Left, decide, decide_on};
 pub use phases::Phases;
 pub use sets::set_of;
 pub use solv_core::{Core, Entry, Event, Ledger, Run, Trail, Verdict};

@@ -6,6 +6,7 @@ ghost use Rattle.solv_prov.specs.Index.{IsIndexOf};
 ghost use Rattle.solv_jobs.specs.Marking.{HasMarks};
 ghost use Rattle.solv_rules.specs.Books.{read_rules};
 ghost use Rattle.solv_questions.specs.Questions.{rules_of, request_of};
+ghost use Rattle.solv_plan.specs.Inner.Behind.{rest_by, rest_in};
 ghost use Rattle.solv_plan.specs.Inner.Plans.{plan_asks};
 ghost use Rattle.solv_plan.specs.Inner.PlanOf.{plan_of};
 ghost use Rattle.solv_plan.specs.Inner.Settling.{is_right_for};
@@ -13,8 +14,8 @@ ghost use Rattle.solv_decide.specs.Inner.Deciding.{IsLawful};
 ghost use Rattle.solv_decide.specs.Inner.GuideLaw.{lawful};
 
 use solv_core::{Ask, Guide, Known};
-use solv_plan::{Memory, Plan, next};
-use solv_planning::make_plan;
+use solv_plan::{Memory, Plan, Rest, next};
+use solv_planning::{make_plan, make_plan_on};
 use solv_pool::{Marks, Task};
 use solv_prov::Providers;
 use solv_rules::Book;
@@ -67,6 +68,42 @@ impl Phases {
             plan,
             packages: task.universe.count(),
         })
+    }
+
+    /// As `new`, on what stands in the plan behind its demands and its installed packages.
+    pub fn on(
+        alloc: Global,
+        task: &Task,
+        prov: &Providers,
+        marks: &Marks,
+        book: &Book,
+        rest: Rest,
+    ) -> Result<Phases, AllocError>
+        requires index { IsIndexOf prov.now (catalog_of task.now) }
+        requires closed { IsClosed task.now }
+        requires marks { HasMarks (length task.now.universe.packages) marks.now }
+        requires rules { read_rules book.now.rules ≡ rules_of (request_of task.now marks.now) }
+        requires rest { rest ≡ rest_by (catalog_of task.now) task.now.flags marks.now }
+        ensures { IfOk result (λ p. p ≡ record { plan = plan_of (request_of task.now marks.now); packages = length task.now.universe.packages }) }
+    {
+        let plan = make_plan_on(alloc, task, prov, marks, book.rules(), rest)?;
+        Ok(Phases {
+            alloc,
+            plan,
+            packages: task.universe.count(),
+        })
+    }
+
+    /// What stands in the plan behind its demands and its installed packages.
+    pub fn into_rest(self) -> Rest
+        ensures { result ≡ rest_in self.plan }
+    {
+        let Phases {
+            alloc: _,
+            plan,
+            packages: _,
+        } = self;
+        plan.into_rest()
     }
 
     /// The plan of the questions.

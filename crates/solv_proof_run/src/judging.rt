@@ -8,7 +8,6 @@ ghost use Rattle.solv_proof_run.specs.Inner.Rounds.{IsHeldFor, IsPlaceOf, IsRead
 use solv_answers::Prepared;
 use solv_derive::Scratch;
 use solv_proof::Proof;
-use solv_prov::Providers;
 use solv_rounds::{prepare_round, to_front};
 use solv_rules::BookFault;
 use solv_script::Script;
@@ -45,15 +44,14 @@ fn place_of(script: &Script, round: usize) -> Option<usize>
     Some(place)
 }
 
-/// The book of the round at this place: the one in hand, or that is let go and this one made.
+/// The book of the round at this place: the one in hand, or that which takes its place.
 fn take_up<'a>(
     alloc: Global,
     script: &mut Script,
-    prov: &'a Providers,
     hand: InHand<'a>,
     place: usize,
 ) -> Result<InHand<'a>, AllocError>
-    requires ready { IsReady script.old prov.now }
+    requires ready { IsReady script.old }
     requires hand { IsHeldFor script.old hand }
     requires place { place ≤ length script.old.later }
     ensures script { script.new ≡ script.old }
@@ -63,8 +61,8 @@ fn take_up<'a>(
     if hand.place == place {
         return Ok(hand);
     }
-    drop(hand);
-    match prepare_round(alloc, script, prov, place) {
+    let InHand { place: _, prepared } = hand;
+    match prepare_round(alloc, script, prepared, place) {
         Ok(prepared) => Ok(InHand { place, prepared }),
         Err(BookFault::Memory) => Err(AllocError),
         Err(_) => unreachable!(),
@@ -96,13 +94,12 @@ fn judge_in(
 fn judge_at<'a>(
     alloc: Global,
     script: &mut Script,
-    prov: &'a Providers,
     hand: InHand<'a>,
     place: usize,
     proof: &Proof,
     scratch: &mut Scratch,
 ) -> Result<Judgement<'a>, AllocError>
-    requires ready { IsReady script.old prov.now }
+    requires ready { IsReady script.old }
     requires hand { IsHeldFor script.old hand }
     requires place { place ≤ length script.old.later }
     requires packages { length script.old.task.universe.packages ≤ scratch.old }
@@ -112,7 +109,7 @@ fn judge_at<'a>(
     ensures hand { IfOk result (λ judged. IsHeldFor script.old judged.hand) }
     ensures scratch { scratch.new ≡ scratch.old }
 {
-    let hand = take_up(alloc, script, prov, hand, place)?;
+    let hand = take_up(alloc, script, hand, place)?;
     let verdict = judge_in(alloc, script, &hand, proof, scratch)?;
     Ok(Judgement { verdict, hand })
 }
@@ -121,12 +118,11 @@ fn judge_at<'a>(
 pub(crate) fn judge_one<'a>(
     alloc: Global,
     script: &mut Script,
-    prov: &'a Providers,
     hand: InHand<'a>,
     proof: &Proof,
     scratch: &mut Scratch,
 ) -> Result<Judgement<'a>, AllocError>
-    requires ready { IsReady script.old prov.now }
+    requires ready { IsReady script.old }
     requires hand { IsHeldFor script.old hand }
     requires packages { length script.old.task.universe.packages ≤ scratch.old }
     requires steps { steps_over scratch.old proof.now.log.steps ≡ true }
@@ -136,7 +132,7 @@ pub(crate) fn judge_one<'a>(
     ensures scratch { scratch.new ≡ scratch.old }
 {
     match place_of(script, proof.round) {
-        Some(place) => judge_at(alloc, script, prov, hand, place, proof, scratch),
+        Some(place) => judge_at(alloc, script, hand, place, proof, scratch),
         None => Ok(Judgement {
             verdict: Verdict::NoRound,
             hand,

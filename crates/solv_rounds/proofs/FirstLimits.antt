@@ -61,6 +61,21 @@ module _ (script : Script) (place : ℕ) where
       let of = of_later (Some fault) at in
       sym (ap first_limit of.1 ∙ first_passed of.0 (drop (place + 1) (later_tasks script)) fault (sym of.2)) ∙ so_far
 
+  -- and so has one for which a fault is due
+  pub due_of : (fault : BookFault) → IsDueAt (tasks script) (place + 1) fault → first_limit (drop place (later_tasks script)) ≡ first_limit (later_tasks script) → IsDue (first_limit (later_tasks script)) fault
+  due_of fault at so_far = by (slice_get (later_tasks script) place) refl up
+    where
+      next : place + 1 ≡ suc place
+      next = omega arith
+
+      up : IsSomeAnd (slice_get (later_tasks script) place) (λ task. IsDue (first_fault (catalog_of task) 0 (hard_rules task)) fault)
+      up = subst (λ (n : ℕ). IsSomeAnd (slice_get (tasks script) n) (λ task. IsDue (first_fault (catalog_of task) 0 (hard_rules task)) fault)) next at
+
+      by : (o : Option Task) → slice_get (later_tasks script) place ≡ o → IsSomeAnd o (λ task. IsDue (first_fault (catalog_of task) 0 (hard_rules task)) fault) → IsDue (first_limit (later_tasks script)) fault
+      by None e is = absurd is
+      by (Some task) e (inl memory) = inl memory
+      by (Some task) e (inr is) = inr (sym so_far ∙ ap first_limit (drop_get (later_tasks script) place task e) ∙ first_passed task (drop (place + 1) (later_tasks script)) fault is)
+
 -- behind the last round
 pub no_limit : (script : Script) (place : ℕ) → length script.later ≤ place → first_limit (drop place (later_tasks script)) ≡ first_limit (later_tasks script) → None ≡ first_limit (later_tasks script)
 no_limit script place end so_far = sym (ap first_limit (rest_none (with_jobs_of script.task) script.later place end)) ∙ so_far

@@ -2,13 +2,14 @@
 //!
 //! - [`to_front`]: brings the round at a place in front, and back.
 //! - [`prepare_round`]: the marks and the book of the round at a place.
-//! - [`later_limit`]: the first limit that the clauses of a later round pass.
+//! - [`prepare_in_turn`]: each later round in turn, or the first limit that the clauses of one pass.
 //!
-//! Places count from 0, which is the first round's. The index of providers rests on no job, so one serves each round.
+//! Places count from 0, which is the first round's. What rounds share is made once: the index of providers, which rests on no job, and, where flags and marks count
+//! alike, the rules of packages with their clauses.
 #![tactic(auto)]
 
 mod limits;
 mod turning;
 
-pub use limits::{later_limit, prepare_round};
+pub use limits::{prepare_in_turn, prepare_round};
 pub use turning::to_front;

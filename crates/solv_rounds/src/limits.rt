@@ -1,83 +1,67 @@
 //! The rounds of a script, prepared.
-ghost use Rattle.std.specs.Prelude.{◌≡◌, ◌≤◌, length, map, IfOk, IfErr};
+ghost use Rattle.std.specs.Prelude.{◌≡◌, ◌≤◌, None, length, map, IfOk, IfErr, OnOk};
 ghost use Rattle.std.specs.List.{All};
 ghost use Rattle.solv_pool.specs.Catalog.{catalog_of};
 ghost use Rattle.solv_pool.specs.TaskBelonging.{IsClosed};
 ghost use Rattle.solv_pool.specs.TaskForms.{HasForms};
-ghost use Rattle.solv_prov.specs.Index.{IsIndexOf};
-ghost use Rattle.solv_answers.specs.Answers.{first_limit};
+ghost use Rattle.solv_rules.specs.Books.{IsDue};
+ghost use Rattle.solv_answers.specs.Answers.{IsPrepared, first_limit};
+ghost use Rattle.solv_answers.specs.Inner.Fronts.{MayGoOn};
 ghost use Rattle.solv_script.specs.Rounds.{tasks, with_jobs_of};
-ghost use Rattle.solv_rounds.specs.Inner.Fronts.{IsDueAt, IsLimitAt, IsPreparedAt};
+ghost use Rattle.solv_rounds.specs.Inner.Fronts.{IsDueAt, IsPreparedAt};
 
 use crate::turning::to_front;
-use solv_answers::{Prepared, prepare};
-use solv_prov::Providers;
+use solv_answers::{Prepared, prepare_next};
 use solv_rules::BookFault;
 use solv_script::Script;
-use std::alloc::{AllocError, Global};
+use std::alloc::Global;
 
-/// The marks and the book of the round at this place, or the first limit that its clauses pass. The script is as before.
+/// The marks and the book of the round at this place, or the first limit that its clauses pass. What another round was prepared with goes, but for what both
+/// share. The script is as before.
 pub fn prepare_round<'a>(
     alloc: Global,
     script: &mut Script,
-    prov: &'a Providers,
+    before: Prepared<'a>,
     place: usize,
 ) -> Result<Prepared<'a>, BookFault>
     requires place { place ≤ length script.old.later }
     requires closed { All IsClosed (tasks script.old) }
     requires forms { All HasForms (tasks script.old) }
-    requires index { IsIndexOf prov.now (catalog_of script.old.task) }
+    requires before { MayGoOn (catalog_of script.old.task) before }
     ensures script { script.new ≡ script.old }
     ensures prepared { IfOk result (IsPreparedAt (tasks script.old) place) }
+    ensures goes_on { IfOk result (MayGoOn (catalog_of script.old.task)) }
     ensures fault { IfErr result (IsDueAt (tasks script.old) place) }
 {
     to_front(script, place);
-    let prepared = prepare(alloc, &script.task, prov);
+    let prepared = prepare_next(alloc, &script.task, before);
     to_front(script, place);
     prepared
 }
 
-/// The first limit that the clauses of the round at this place pass, if they pass one. The script is as before.
-fn round_limit(
+/// Prepares the later rounds of a script in turn, where the first one is prepared: what the last one is prepared with, or the first limit that the clauses
+/// of one pass. Each book takes the place of the one before. The script is as before.
+pub fn prepare_in_turn<'a>(
     alloc: Global,
     script: &mut Script,
-    prov: &Providers,
-    place: usize,
-) -> Result<Option<BookFault>, AllocError>
-    requires place { place ≤ length script.old.later }
+    first: Prepared<'a>,
+) -> Result<Prepared<'a>, BookFault>
     requires closed { All IsClosed (tasks script.old) }
     requires forms { All HasForms (tasks script.old) }
-    requires index { IsIndexOf prov.now (catalog_of script.old.task) }
+    requires first { IsPrepared script.old.task first }
+    requires goes_on { MayGoOn (catalog_of script.old.task) first }
     ensures script { script.new ≡ script.old }
-    ensures limit { IfOk result (IsLimitAt (tasks script.old) place) }
+    ensures last { IfOk result (IsPreparedAt (tasks script.old) (length script.old.later)) }
+    ensures goes_on { IfOk result (MayGoOn (catalog_of script.old.task)) }
+    ensures fits { OnOk result (first_limit (map (with_jobs_of script.old.task) script.old.later) ≡ None) }
+    ensures fault { IfErr result (IsDue (first_limit (map (with_jobs_of script.old.task) script.old.later))) }
 {
-    match prepare_round(alloc, script, prov, place) {
-        Ok(prepared) => {
-            drop(prepared);
-            Ok(None)
-        }
-        Err(BookFault::Memory) => Err(AllocError),
-        Err(fault) => Ok(Some(fault)),
-    }
-}
-
-/// The first limit that the clauses of a round behind the first one pass, round by round, if they pass one. Each book is let go before the next is
-/// made. The script is as before.
-pub fn later_limit(
-    alloc: Global,
-    script: &mut Script,
-    prov: &Providers,
-) -> Result<Option<BookFault>, AllocError>
-    requires closed { All IsClosed (tasks script.old) }
-    requires forms { All HasForms (tasks script.old) }
-    requires index { IsIndexOf prov.now (catalog_of script.old.task) }
-    ensures script { script.new ≡ script.old }
-    ensures limit { IfOk result (λ fault. fault ≡ first_limit (map (with_jobs_of script.old.task) script.old.later)) }
-{
+    let mut prepared = first;
     for place in 0..script.later.len() {
-        if let Some(fault) = round_limit(alloc, script, prov, place + 1)? {
-            return Ok(Some(fault));
-        }
+        prepared = match prepare_round(alloc, script, prepared, place + 1) {
+            Ok(next) => next,
+            Err(fault) => return Err(fault),
+        };
     }
-    Ok(None)
+    Ok(prepared)
 }

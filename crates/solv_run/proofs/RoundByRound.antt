@@ -16,7 +16,7 @@ use Rattle.solv_script.specs.Inner.Turns.{exchanged, first_turn}
 use Rattle.solv_script.specs.declared.scripts.Round.{Round}
 use Rattle.solv_script.specs.declared.scripts.Script.{Script}
 use Rattle.solv_words.specs.declared.command_line.Command.{Command}
-use Rattle.solv_run.specs.Inner.Rounds.{AreAll, HasBegun, HasNext, HasPrinted, HasTaken, IsOneMore, later_lines}
+use Rattle.solv_run.specs.Inner.Rounds.{AreAll, GoesOn, HasBegun, HasNext, HasPrinted, HasTaken, IsOneMore, later_lines}
 use Rattle.solv_run.specs.Rounds.{AreAnswers, IsGoodAnswer, all_answered, one_spent, then_next, some_spent}
 use Rattle.solv_run.specs.Texts.{are_as_wanted, is_as_wanted, next_lines, round_lines, rounds_lines}
 use Rattle.solv_run.specs.declared.reports.Reached.{Reached}
@@ -88,7 +88,7 @@ taken_behind command turn answered (Ok x) old mid new good printed took = record
 taken_behind command turn answered (Err e) old mid new good printed took = took
 
 -- a round behind the line before it
-pub behind_next : {E : Type 0} (command : Command) (turn : Turn) (r : Result ⊤ E) (old mid new : Begun) → HasNext command old mid → OnOk r (IsOneMore command [] turn mid new) → OnOk r (IsOneMore command (codes "nextjob" ∷ []) turn old new)
+pub behind_next : {T E : Type 0} (command : Command) (turn : Turn) (r : Result T E) (old mid new : Begun) → HasNext command old mid → OnOk r (IsOneMore command [] turn mid new) → OnOk r (IsOneMore command (codes "nextjob" ∷ []) turn old new)
 behind_next command turn (Ok x) old mid new next more = record {
   answer = more.answer;
   ledger = more.ledger;
@@ -103,6 +103,18 @@ behind_next command turn (Ok x) old mid new next more = record {
   left = λ unspent. more.left unspent ∙ ap (λ n. n - length more.ledger.entries) next.left;
 }
 behind_next command turn (Err e) old mid new next more = more
+
+-- where the budget is not spent it was begun
+pub goes_behind : {T E : Type 0} (command : Command) (turn : Turn) (r : Result T E) (old mid new : Begun) → old.spent ≡ false → HasNext command old mid → OnOk r (IsOneMore command [] turn mid new) → OnOk r (GoesOn command turn old new)
+goes_behind {T = T} {E = E} command turn (Ok x) old mid new calm next more = record {
+  spent = λ e. absurd (let clash = sym e ∙ calm in cc);
+  one_more = λ e. behind_next {T = T} {E = E} command turn (Ok x) old mid new next more;
+}
+goes_behind command turn (Err e) old mid new calm next more = more
+
+-- and else all is as it was
+pub goes_still : (command : Command) (turn : Turn) (old : Begun) → old.spent ≡ true → GoesOn command turn old old
+goes_still command turn old spent = record { spent = λ e. refl; one_more = λ e. absurd (let clash = sym e ∙ spent in cc) }
 
 -- a round more, with the list that it is the first of
 module _ (command : Command) (ts : List Task) (us : List Turn) (turn : Turn) (later_tasks : List Task) (later_turns : List Turn) (old new : Begun) where
@@ -221,42 +233,40 @@ rest_at f (y ∷ ys) (suc k) x e = rest_at f ys k x e
 -- a round of a script that was turned to the front
 module _ (command : Command) (script : Script) (place : ℕ) (within : place < length script.later) where
   abbrev IsNext : Begun → Begun → Type 0
-  IsNext old new = IfSome (slice_get script.later place) (λ r. IsOneMore command (codes "nextjob" ∷ []) (turn_of script r) old new)
+  IsNext old new = IfSome (slice_get script.later place) (λ r. GoesOn command (turn_of script r) old new)
 
   turn_is : first_turn (exchanged place script) ≡ turn_of script (other script place within)
   turn_is = ap first_turn (turned_is script place within)
 
-  pub next_of : (old new : Begun) → IsOneMore command (codes "nextjob" ∷ []) (first_turn (exchanged place script)) old new → IsNext old new
+  next_of : (old new : Begun) → GoesOn command (first_turn (exchanged place script)) old new → IsNext old new
   next_of old new more = by (slice_get script.later place) (is_other script place within)
     where
-      by : (o : Option Round) → o ≡ Some (other script place within) → IfSome o (λ r. IsOneMore command (codes "nextjob" ∷ []) (turn_of script r) old new)
+      by : (o : Option Round) → o ≡ Some (other script place within) → IfSome o (λ r. GoesOn command (turn_of script r) old new)
       by None e = absurd (cc)
       by (Some r) e =
           let same : other script place within ≡ r = ap (λ o. unwrap_or o (other script place within)) (sym e) in
-          subst (λ (t : Turn). IsOneMore command (codes "nextjob" ∷ []) t old new) (turn_is ∙ ap (turn_of script) same) more
+          subst (λ (t : Turn). GoesOn command t old new) (turn_is ∙ ap (turn_of script) same) more
 
-  -- a round of a script that was turned, behind the line before it
-  pub one_later : {E : Type 0} (r : Result ⊤ E) (front : Script) → front ≡ exchanged place script → (old mid new : Begun) → HasNext command old mid → OnOk r (IsOneMore command [] (first_turn front) mid new) → OnOk r (IsNext old new)
-  one_later {E = E} (Ok x) front is old mid new next more =
-      let one : IsOneMore command (codes "nextjob" ∷ []) (first_turn front) old new = behind_next {E = E} command (first_turn front) (Ok x) old mid new next more in
-      next_of old new (subst (λ (s : Script). IsOneMore command (codes "nextjob" ∷ []) (first_turn s) old new) is one)
-  one_later (Err e) front is old mid new next more = more
+  -- a round of a script that was turned
+  pub one_later : {T E : Type 0} (r : Result T E) (front : Script) → front ≡ exchanged place script → (old new : Begun) → OnOk r (GoesOn command (first_turn front) old new) → OnOk r (IsNext old new)
+  one_later (Ok x) front is old new goes = next_of old new (subst (λ (s : Script). GoesOn command (first_turn s) old new) is goes)
+  one_later (Err e) front is old new goes = goes
 
-  of_next : (old new : Begun) → IsNext old new → IsOneMore command (codes "nextjob" ∷ []) (turn_of script (other script place within)) old new
+  of_next : (old new : Begun) → IsNext old new → GoesOn command (turn_of script (other script place within)) old new
   of_next old new is = by (slice_get script.later place) (is_other script place within) is
     where
-      by : (o : Option Round) → o ≡ Some (other script place within) → IfSome o (λ r. IsOneMore command (codes "nextjob" ∷ []) (turn_of script r) old new)
-          → IsOneMore command (codes "nextjob" ∷ []) (turn_of script (other script place within)) old new
+      by : (o : Option Round) → o ≡ Some (other script place within) → IfSome o (λ r. GoesOn command (turn_of script r) old new)
+          → GoesOn command (turn_of script (other script place within)) old new
       by None e more = absurd (cc)
       by (Some r) e more =
           let same : r ≡ other script place within = ap (λ o. unwrap_or o (other script place within)) e in
-          subst (λ (t : Turn). IsOneMore command (codes "nextjob" ∷ []) t old new) (ap (turn_of script) same) more
+          subst (λ (t : Turn). GoesOn command t old new) (ap (turn_of script) same) more
 
   abbrev LeftOf : ℕ → Begun → Type 0
   LeftOf n begun = HasBegun command (tasks script) (turns script) (drop n (map (with_jobs_of script.task) script.later)) (drop n (map (turn_of script) script.later)) begun
 
   -- one round more of those that are left
-  pub turn_more : (old new : Begun) → LeftOf place old → old.spent ≡ false → IsNext old new → LeftOf (place + 1) new
+  turn_more : (old new : Begun) → LeftOf place old → old.spent ≡ false → IsNext old new → LeftOf (place + 1) new
   turn_more old new has calm is =
       let o : Round = other script place within in
       let later_ts : List Task = map (with_jobs_of script.task) script.later in
@@ -267,7 +277,20 @@ module _ (command : Command) (script : Script) (place : ℕ) (within : place < l
       (subst (λ (ts : List Task). H ts (drop place later_us)) (rest_at (with_jobs_of script.task) script.later place o (is_other script place within)) has) in
       let up : suc place ≡ place + 1 = omega arith in
       subst (λ (n : ℕ). LeftOf n new) up
-      (next_begun command (tasks script) (turns script) (turn_of script o) (drop (suc place) later_ts) (drop (suc place) later_us) old new first calm (of_next old new is))
+      (next_begun command (tasks script) (turns script) (turn_of script o) (drop (suc place) later_ts) (drop (suc place) later_us) old new first calm ((of_next old new is).one_more calm))
+
+  -- and what is begun behind it, or all that there will be
+  pub turn_goes : (old new : Begun) → (old.spent ≡ false → LeftOf place old) → (old.spent ≡ true → AreAll command (tasks script) (turns script) old) → IsNext old new
+      → (new.spent ≡ false → LeftOf (place + 1) new) × (new.spent ≡ true → AreAll command (tasks script) (turns script) new)
+  turn_goes old new calm ended is = by old.spent refl
+    where
+      by : (b : Bool) → old.spent ≡ b → (new.spent ≡ false → LeftOf (place + 1) new) × (new.spent ≡ true → AreAll command (tasks script) (turns script) new)
+      by true e =
+          let same : new ≡ old = (of_next old new is).spent e in
+          ((λ n. absurd (let clash = sym n ∙ ap (λ (b : Begun). b.spent) same ∙ e in cc)), λ n. subst (λ (b : Begun). AreAll command (tasks script) (turns script) b) (sym same) (ended e))
+      by false e =
+          let has : LeftOf (place + 1) new = turn_more old new (calm e) e is in
+          ((λ n. has), λ n. spent_begun command (tasks script) (turns script) (drop (place + 1) (map (with_jobs_of script.task) script.later)) (drop (place + 1) (map (turn_of script) script.later)) new has n)
 
 -- behind the last round
 pub turns_end : (command : Command) (script : Script) (place : ℕ) (begun : Begun) → length script.later ≤ place
@@ -276,3 +299,13 @@ turns_end command script place begun h has =
     all_begun command (tasks script) (turns script) begun
     (subst (λ (us : List Turn). HasBegun command (tasks script) (turns script) [] us begun) (rest_none (turn_of script) script.later place h)
     (subst (λ (ts : List Task). HasBegun command (tasks script) (turns script) ts (drop place (map (turn_of script) script.later)) begun) (rest_none (with_jobs_of script.task) script.later place h) has))
+
+-- so all are begun there, whether the budget is spent or not
+pub all_end : (command : Command) (script : Script) (place : ℕ) (begun : Begun) → length script.later ≤ place
+    → (begun.spent ≡ false → HasBegun command (tasks script) (turns script) (drop place (map (with_jobs_of script.task) script.later)) (drop place (map (turn_of script) script.later)) begun)
+    → (begun.spent ≡ true → AreAll command (tasks script) (turns script) begun) → AreAll command (tasks script) (turns script) begun
+all_end command script place begun h calm ended = by begun.spent refl
+  where
+    by : (b : Bool) → begun.spent ≡ b → AreAll command (tasks script) (turns script) begun
+    by true e = ended e
+    by false e = turns_end command script place begun h (calm e)

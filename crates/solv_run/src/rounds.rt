@@ -1,24 +1,24 @@
 //! The rounds of a script, answered in turn within one budget.
-ghost use Rattle.std.specs.Prelude.{◌≡◌, ◌<◌, ◌≤◌, ◌-◌, ◌++◌, ◌∷◌, [], ◌&&◌, None, Some, codes, false, true, length, map, slice_get, IfOk, IfSome, IfNone, OnOk};
+ghost use Rattle.std.specs.Prelude.{◌≡◌, ◌<◌, ◌≤◌, ◌+◌, ◌-◌, ◌++◌, ◌∷◌, [], ◌&&◌, None, Some, codes, false, true, length, map, slice_get, IfErr, IfOk, IfSome, OnOk};
 ghost use Rattle.std.specs.List.{All};
 ghost use Rattle.solv_io.specs.Lines.{ended_lines};
 ghost use Rattle.solv_pool.specs.Catalog.{catalog_of};
 ghost use Rattle.solv_pool.specs.HardRules.{hard_rules};
 ghost use Rattle.solv_pool.specs.TaskBelonging.{IsClosed};
 ghost use Rattle.solv_pool.specs.TaskForms.{HasForms};
-ghost use Rattle.solv_prov.specs.Index.{IsIndexOf};
-ghost use Rattle.solv_rules.specs.Books.{first_fault};
+ghost use Rattle.solv_rules.specs.Books.{IsDue, first_fault};
+ghost use Rattle.solv_rounds.specs.Inner.Fronts.{IsDueAt, IsLimitAt};
 ghost use Rattle.solv_answers.specs.Answers.{IsPrepared, first_limit, is_spent};
+ghost use Rattle.solv_answers.specs.Inner.Fronts.{MayGoOn};
 ghost use Rattle.solv_script.specs.Rounds.{tasks, turn_of, turns, with_jobs_of};
 ghost use Rattle.solv_script.specs.Inner.Turns.{first_turn};
 ghost use Rattle.solv_run.specs.Inner.Outcomes.{has_listed};
-ghost use Rattle.solv_run.specs.Inner.Rounds.{AreAll, HasBegun, HasNext, HasPrinted, HasTaken, IsOneMore};
+ghost use Rattle.solv_run.specs.Inner.Rounds.{AreAll, GoesOn, HasBegun, HasNext, HasPrinted, HasTaken, IsOneMore};
 ghost use Rattle.solv_run.specs.Texts.{is_as_wanted, round_lines};
 
 use crate::printing::round_said;
 use crate::reports::Reached;
-use solv_answers::{Answer, Answered, Prepared, answer, prepare};
-use solv_prov::Providers;
+use solv_answers::{Answer, Answered, Prepared, answer_in_turn, prepare_next};
 use solv_rules::BookFault;
 use solv_script::Script;
 use solv_words::Command;
@@ -90,17 +90,20 @@ pub(crate) fn answer_round(
     alloc: Global,
     command: &Command,
     script: &Script,
-    prepared: &Prepared<'_>,
+    prepared: &mut Prepared<'_>,
     begun: &mut Begun,
 ) -> Result<(), AllocError>
     requires closed { IsClosed script.now.task }
     requires forms { HasForms script.now.task }
-    requires prepared { IsPrepared script.now.task prepared.now }
+    requires prepared { IsPrepared script.now.task prepared.old }
+    requires goes_on { MayGoOn (catalog_of script.now.task) prepared.old }
     requires left { begun.old.left ≤ 1000000 }
     ensures one_more { OnOk result (IsOneMore command.now [] (first_turn script.now) begun.old begun.new) }
     ensures left { OnOk result (begun.new.left ≤ 1000000) }
+    ensures goes_on { MayGoOn (catalog_of script.now.task) prepared.new }
 {
-    let answered = answer(alloc, &script.task, prepared, begun.left)?;
+    let keeps = !script.later.is_empty();
+    let answered = answer_in_turn(alloc, &script.task, prepared, keeps, begun.left)?;
     if command.proves {
         return begun.take(answered);
     }
@@ -108,27 +111,25 @@ pub(crate) fn answer_round(
     begun.take(answered)
 }
 
-/// Makes the book of the first round of a script, whose clauses pass no limit, and answers it.
-fn prepare_round(
+/// Answers the first round of a script with what it was prepared with, and hands that on.
+pub(crate) fn answer_with<'a>(
     alloc: Global,
     command: &Command,
     script: &Script,
-    prov: &Providers,
+    mut prepared: Prepared<'a>,
     begun: &mut Begun,
-) -> Result<(), AllocError>
+) -> Result<Prepared<'a>, AllocError>
     requires closed { IsClosed script.now.task }
     requires forms { HasForms script.now.task }
-    requires index { IsIndexOf prov.now (catalog_of script.now.task) }
-    requires fits { first_fault (catalog_of script.now.task) 0 (hard_rules script.now.task) ≡ None }
+    requires prepared { IsPrepared script.now.task prepared }
+    requires goes_on { MayGoOn (catalog_of script.now.task) prepared }
     requires left { begun.old.left ≤ 1000000 }
     ensures one_more { OnOk result (IsOneMore command.now [] (first_turn script.now) begun.old begun.new) }
     ensures left { OnOk result (begun.new.left ≤ 1000000) }
+    ensures goes_on { IfOk result (MayGoOn (catalog_of script.now.task)) }
 {
-    match prepare(alloc, &script.task, prov) {
-        Ok(prepared) => answer_round(alloc, command, script, &prepared, begun),
-        Err(BookFault::Memory) => Err(AllocError),
-        Err(_) => unreachable!(),
-    }
+    answer_round(alloc, command, script, &mut prepared, begun)?;
+    Ok(prepared)
 }
 
 /// Puts the line before a later round at the end of the text, where no proofs are asked for.
@@ -141,54 +142,112 @@ fn print_next(command: &Command, begun: &mut Begun) -> Result<(), AllocError>
     Ok(())
 }
 
-/// Answers the later round at this place; the script is as before.
-fn later_round(
+/// Answers the first round of a script with the line before a later round, where the budget is not spent yet.
+fn answer_behind<'a>(
+    alloc: Global,
+    command: &Command,
+    script: &Script,
+    prepared: Prepared<'a>,
+    begun: &mut Begun,
+) -> Result<Prepared<'a>, AllocError>
+    requires closed { IsClosed script.now.task }
+    requires forms { HasForms script.now.task }
+    requires prepared { IsPrepared script.now.task prepared }
+    requires goes_on { MayGoOn (catalog_of script.now.task) prepared }
+    requires left { begun.old.left ≤ 1000000 }
+    ensures begun { OnOk result (GoesOn command.now (first_turn script.now) begun.old begun.new) }
+    ensures left { OnOk result (begun.new.left ≤ 1000000) }
+    ensures goes_on { IfOk result (MayGoOn (catalog_of script.now.task)) }
+{
+    if begun.spent {
+        return Ok(prepared);
+    }
+    print_next(command, begun)?;
+    answer_with(alloc, command, script, prepared, begun)
+}
+
+/// Prepares the first round of a script behind another, and answers it, where the budget is not spent yet; or tells the first limit that its
+/// clauses pass.
+fn next_round<'a>(
+    alloc: Global,
+    command: &Command,
+    script: &Script,
+    before: Prepared<'a>,
+    begun: &mut Begun,
+) -> Result<Prepared<'a>, BookFault>
+    requires closed { IsClosed script.now.task }
+    requires forms { HasForms script.now.task }
+    requires before { MayGoOn (catalog_of script.now.task) before }
+    requires left { begun.old.left ≤ 1000000 }
+    ensures begun { OnOk result (GoesOn command.now (first_turn script.now) begun.old begun.new) }
+    ensures left { OnOk result (begun.new.left ≤ 1000000) }
+    ensures goes_on { IfOk result (MayGoOn (catalog_of script.now.task)) }
+    ensures fits { OnOk result (first_fault (catalog_of script.now.task) 0 (hard_rules script.now.task) ≡ None) }
+    ensures fault { IfErr result (IsDue (first_fault (catalog_of script.now.task) 0 (hard_rules script.now.task))) }
+{
+    let prepared = match prepare_next(alloc, &script.task, before) {
+        Ok(prepared) => prepared,
+        Err(fault) => return Err(fault),
+    };
+    match answer_behind(alloc, command, script, prepared, begun) {
+        Ok(prepared) => Ok(prepared),
+        Err(_) => Err(BookFault::Memory),
+    }
+}
+
+/// Prepares the later round at this place, and answers it, where the budget is not spent yet; or tells the first limit that its clauses pass. The
+/// script is as before.
+fn later_round<'a>(
     alloc: Global,
     command: &Command,
     script: &mut Script,
-    prov: &Providers,
+    before: Prepared<'a>,
     place: usize,
     begun: &mut Begun,
-) -> Result<(), AllocError>
+) -> Result<Prepared<'a>, BookFault>
     requires place { place < length script.old.later }
     requires closed { All IsClosed (tasks script.old) }
     requires forms { All HasForms (tasks script.old) }
-    requires index { IsIndexOf prov.now (catalog_of script.old.task) }
-    requires fits { first_limit (tasks script.old) ≡ None }
+    requires before { MayGoOn (catalog_of script.old.task) before }
     requires left { begun.old.left ≤ 1000000 }
     ensures script { script.new ≡ script.old }
-    ensures one_more { OnOk result (IfSome (slice_get script.old.later place) (λ r. IsOneMore command.now (codes "nextjob" ∷ []) (turn_of script.old r) begun.old begun.new)) }
+    ensures begun { OnOk result (IfSome (slice_get script.old.later place) (λ r. GoesOn command.now (turn_of script.old r) begun.old begun.new)) }
     ensures left { OnOk result (begun.new.left ≤ 1000000) }
+    ensures goes_on { IfOk result (MayGoOn (catalog_of script.old.task)) }
+    ensures fits { OnOk result (IsLimitAt (tasks script.old) (place + 1) None) }
+    ensures fault { IfErr result (IsDueAt (tasks script.old) (place + 1)) }
 {
-    print_next(command, begun)?;
     script.turn(place);
-    let answered = prepare_round(alloc, command, script, prov, begun);
+    let prepared = next_round(alloc, command, script, before, begun);
     script.turn(place);
-    answered
+    prepared
 }
 
-/// Answers the later rounds of a script in turn, until one spends the budget; the script is as before.
+/// Prepares the later rounds of a script in turn, and answers them until one spends the budget; or tells the first limit that the clauses of one pass,
+/// whatever was answered before. The script is as before.
 pub(crate) fn later_rounds(
     alloc: Global,
     command: &Command,
     script: &mut Script,
-    prov: &Providers,
+    first: Prepared<'_>,
     begun: &mut Begun,
-) -> Result<(), AllocError>
+) -> Result<(), BookFault>
     requires closed { All IsClosed (tasks script.old) }
     requires forms { All HasForms (tasks script.old) }
-    requires index { IsIndexOf prov.now (catalog_of script.old.task) }
-    requires fits { first_limit (tasks script.old) ≡ None }
+    requires first { MayGoOn (catalog_of script.old.task) first }
     requires left { begun.old.left ≤ 1000000 }
     requires begun { HasBegun command.now (tasks script.old) (turns script.old) (map (with_jobs_of script.old.task) script.old.later) (map (turn_of script.old) script.old.later) begun.old }
     ensures script { script.new ≡ script.old }
     ensures all { OnOk result (AreAll command.now (tasks script.old) (turns script.old) begun.new) }
+    ensures fits { OnOk result (first_limit (map (with_jobs_of script.old.task) script.old.later) ≡ None) }
+    ensures fault { IfErr result (IsDue (first_limit (map (with_jobs_of script.old.task) script.old.later))) }
 {
+    let mut prepared = first;
     for place in 0..script.later.len() {
-        if begun.spent {
-            return Ok(());
-        }
-        later_round(alloc, command, script, prov, place, begun)?;
+        prepared = match later_round(alloc, command, script, prepared, place, begun) {
+            Ok(next) => next,
+            Err(fault) => return Err(fault),
+        };
     }
     Ok(())
 }

@@ -1,16 +1,16 @@
 //! What is due for a script that was read.
-ghost use Rattle.std.specs.Prelude.{◌≡◌, ◌≤◌, true, false, None, Some, IfOk, map};
+ghost use Rattle.std.specs.Prelude.{◌≡◌, ◌≤◌, [], true, false, None, Some, IfOk};
 ghost use Rattle.std.specs.List.{All};
 ghost use Rattle.solv_pool.specs.Catalog.{catalog_of};
 ghost use Rattle.solv_pool.specs.HardRules.{hard_rules};
 ghost use Rattle.solv_pool.specs.TaskBelonging.{IsClosed};
 ghost use Rattle.solv_pool.specs.TaskForms.{HasForms};
-ghost use Rattle.solv_prov.specs.Index.{IsIndexOf};
 ghost use Rattle.solv_rules.specs.Books.{first_fault};
 ghost use Rattle.solv_answers.specs.Answers.{IsPrepared, first_limit};
+ghost use Rattle.solv_answers.specs.Inner.Fronts.{MayGoOn};
 ghost use Rattle.solv_script.specs.Rounds.{tasks, turns};
 ghost use Rattle.solv_script.specs.Inner.Turns.{first_turn};
-ghost use Rattle.solv_run.specs.Cases.{IsDueFor};
+ghost use Rattle.solv_run.specs.Cases.{IsDueFor, nothing_reached};
 ghost use Rattle.solv_run.specs.Dues.{answers_due, answers_status};
 ghost use Rattle.solv_run.specs.Inner.Rounds.{AreAll};
 ghost use Rattle.solv_run.specs.Texts.{printed};
@@ -18,13 +18,12 @@ ghost use Rattle.solv_run.specs.Texts.{printed};
 use crate::checks::{append_false, are_true};
 use crate::dues::{Conclusion, PROGRAM, nothing_reached, status_of, unanswered};
 use crate::proving::proofs_due;
-use crate::rounds::{Begun, answer_round, later_rounds};
+use crate::rounds::{Begun, answer_with, later_rounds};
 use crate::texts::spent_text_where;
-use solv_answers::{Prepared, prepare};
+use solv_answers::{Prepared, prepare_first};
 use solv_io::Status;
 use solv_list::Bytes;
 use solv_prov::Providers;
-use solv_rounds::later_limit;
 use solv_rules::BookFault;
 use solv_said::{Due, limit_due};
 use solv_script::Script;
@@ -118,60 +117,6 @@ fn proofs_concluded(
     })
 }
 
-/// Answers all rounds of a script, of which the first is prepared.
-fn rounds_begun(
-    alloc: Global,
-    command: &Command,
-    script: &mut Script,
-    prov: &Providers,
-    first: Prepared<'_>,
-) -> Result<Begun, AllocError>
-    requires closed { All IsClosed (tasks script.old) }
-    requires forms { All HasForms (tasks script.old) }
-    requires index { IsIndexOf prov.now (catalog_of script.old.task) }
-    requires prepared { IsPrepared script.old.task first }
-    requires fits { first_limit (tasks script.old) ≡ None }
-    requires budget { command.now.budget ≤ 1000000 }
-    ensures script { script.new ≡ script.old }
-    ensures all { IfOk result (AreAll command.now (tasks script.old) (turns script.old)) }
-{
-    let mut begun = Begun {
-        reached: nothing_reached(alloc),
-        text: Vec::new(alloc),
-        as_wanted: true,
-        spent: false,
-        left: command.budget,
-    };
-    answer_round(alloc, command, script, &first, &mut begun)?;
-    drop(first);
-    later_rounds(alloc, command, script, prov, &mut begun)?;
-    Ok(begun)
-}
-
-/// Answers a script.
-fn answered_due(
-    alloc: Global,
-    command: &Command,
-    script: &mut Script,
-    prov: &Providers,
-    first: Prepared<'_>,
-) -> Result<Conclusion, AllocError>
-    requires closed { All IsClosed (tasks script.old) }
-    requires forms { All HasForms (tasks script.old) }
-    requires index { IsIndexOf prov.now (catalog_of script.old.task) }
-    requires prepared { IsPrepared script.old.task first }
-    requires fits { first_limit (tasks script.old) ≡ None }
-    requires budget { command.now.budget ≤ 1000000 }
-    ensures { IfOk result (λ conclusion. IsDueFor command.now script.old conclusion.due conclusion.reached) }
-{
-    let begun = rounds_begun(alloc, command, script, prov, first)?;
-    if command.proves {
-        proofs_concluded(alloc, command, script, begun)
-    } else {
-        answers_concluded(alloc, command, script, begun)
-    }
-}
-
 /// What is due for a limit that the clauses of a round pass.
 fn passed_due(
     alloc: Global,
@@ -187,24 +132,60 @@ fn passed_due(
     Ok(unanswered(alloc, due))
 }
 
-/// Tries the books of the later rounds, and answers a script whose first round is prepared.
-fn first_due(
+/// What the rounds of a script come to, of which all are answered.
+fn concluded(
+    alloc: Global,
+    command: &Command,
+    script: &Script,
+    begun: Begun,
+) -> Result<Conclusion, AllocError>
+    requires fits { first_limit (tasks script.now) ≡ None }
+    requires all { AreAll command.now (tasks script.now) (turns script.now) begun }
+    ensures { IfOk result (λ conclusion. IsDueFor command.now script.now conclusion.due conclusion.reached) }
+{
+    if command.proves {
+        proofs_concluded(alloc, command, script, begun)
+    } else {
+        answers_concluded(alloc, command, script, begun)
+    }
+}
+
+/// Nothing begun, and the whole budget left.
+fn none_begun(alloc: Global, budget: u32) -> Begun
+    ensures reached { result.reached ≡ nothing_reached }
+    ensures text { result.text.items ≡ [] }
+    ensures as_wanted { result.as_wanted ≡ true }
+    ensures left { result.left ≡ budget }
+{
+    Begun {
+        reached: nothing_reached(alloc),
+        text: Vec::new(alloc),
+        as_wanted: true,
+        spent: false,
+        left: budget,
+    }
+}
+
+/// Answers a script whose first round is prepared. A limit that the clauses of a later round pass is told, whatever was answered before.
+fn rounds_due(
     alloc: Global,
     command: &Command,
     script: &mut Script,
-    prov: &Providers,
     first: Prepared<'_>,
 ) -> Result<Conclusion, AllocError>
     requires closed { All IsClosed (tasks script.old) }
     requires forms { All HasForms (tasks script.old) }
-    requires index { IsIndexOf prov.now (catalog_of script.old.task) }
-    requires prepared { IsPrepared script.old.task first }
+    requires first { IsPrepared script.old.task first }
+    requires goes_on { MayGoOn (catalog_of script.old.task) first }
     requires budget { command.now.budget ≤ 1000000 }
     ensures { IfOk result (λ conclusion. IsDueFor command.now script.old conclusion.due conclusion.reached) }
 {
-    match later_limit(alloc, script, prov)? {
-        Some(fault) => passed_due(alloc, command, script, fault),
-        None => answered_due(alloc, command, script, prov, first),
+    let mut begun = none_begun(alloc, command.budget);
+    let first = answer_with(alloc, command, script, first, &mut begun)?;
+    match later_rounds(alloc, command, script, first, &mut begun) {
+        Ok(()) => concluded(alloc, command, script, begun),
+        Err(BookFault::Memory) => Err(AllocError),
+        Err(fault) => passed_due(alloc, command, script, fault),
     }
 }
 
@@ -220,8 +201,8 @@ pub(crate) fn script_due(
     ensures { IfOk result (λ conclusion. IsDueFor command.now script.old conclusion.due conclusion.reached) }
 {
     let prov = Providers::build(alloc, &script.task)?;
-    match prepare(alloc, &script.task, &prov) {
-        Ok(first) => first_due(alloc, command, script, &prov, first),
+    match prepare_first(alloc, &script.task, &prov) {
+        Ok(first) => rounds_due(alloc, command, script, first),
         Err(BookFault::Memory) => Err(AllocError),
         Err(fault) => passed_due(alloc, command, script, fault),
     }

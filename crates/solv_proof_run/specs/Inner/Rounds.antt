@@ -7,8 +7,8 @@ use Rattle.solv_pool.specs.TaskBelonging.{IsClosed}
 use Rattle.solv_pool.specs.TaskForms.{HasForms}
 use Rattle.solv_pool.specs.declared.tasks.Task.{Task}
 use Rattle.solv_proof.specs.declared.kinds.Proof.{Proof}
-use Rattle.solv_prov.specs.Index.{Index, IsIndexOf}
 use Rattle.solv_answers.specs.Answers.{first_limit}
+use Rattle.solv_answers.specs.Inner.Fronts.{MayGoOn}
 use Rattle.solv_rounds.specs.Inner.Fronts.{IsPreparedAt}
 use Rattle.solv_script.specs.Rounds.{tasks}
 use Rattle.solv_script.specs.declared.scripts.Script.{Script}
@@ -17,17 +17,17 @@ use Rattle.solv_verdicts.specs.declared.verdicts.Verdict.{Verdict}
 use Rattle.solv_verdicts.specs.declared.verdicts.Verdict.TheVariants.{Yes}
 use Rattle.solv_proof_run.specs.declared.judging.InHand.{InHand}
 
--- the clauses of no round pass a limit, and this is the index of the packages
-pub record IsReady (script : Script) (held : Index) : Type 0 where
+-- the clauses of no round pass a limit
+pub record IsReady (script : Script) : Type 0 where
   pub closed : All IsClosed (tasks script)
   pub forms : All HasForms (tasks script)
-  pub index : IsIndexOf held (catalog_of script.task)
   pub fits : first_limit (tasks script) ≡ None
 
--- the book in hand is that of the round at its place
+-- the book in hand is that of the round at its place, and another round's may take its place
 pub record IsHeldFor (script : Script) (hand : InHand) : Type 0 where
   pub within : hand.place ≤ length script.later
   pub prepared : IsPreparedAt (tasks script) hand.place hand.prepared
+  pub goes_on : MayGoOn (catalog_of script.task) hand.prepared
 
 -- the place of the round of this number
 pub record IsPlaceOf (script : Script) (round place : ℕ) : Type 0 where

@@ -52,6 +52,11 @@ pub record IsOneMore (command : Command) (before : List (List ℕ)) (turn : Turn
   pub spent : new.spent ≡ is_spent answer
   pub left : is_spent answer ≡ false → new.left ≡ old.left - length ledger.entries
 
+-- One round more behind others: where the budget is spent all is as before, and else it was begun, with the line before a later round.
+pub record GoesOn (command : Command) (turn : Turn) (old new : Begun) : Type 0 where
+  pub spent : old.spent ≡ true → new ≡ old
+  pub one_more : old.spent ≡ false → IsOneMore command (codes "nextjob" ∷ []) turn old new
+
 -- What was begun, and what is left of it: however the rounds that are left are answered, all are answered so. Where the budget is spent, none is left.
 pub record HasBegun (command : Command) (tasks : List Task) (turns : List Turn) (later_tasks : List Task) (later_turns : List Turn) (begun : Begun) : Type 0 where
   pub unspent : begun.spent ≡ false → (answers : List Answer) (ledgers : List Ledger) → AreAnswers begun.left later_tasks answers ledgers

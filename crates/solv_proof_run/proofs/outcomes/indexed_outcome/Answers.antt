@@ -14,8 +14,8 @@ returns-in-Err-clause-due g c = ok_map _ _ c.limit_outcome.result (λ outcome h.
 pub returns-in-Err-clause-wanting : goal.returns-in-Err-clause-wanting
 returns-in-Err-clause-wanting g c = if_wanting _ c.limit_outcome.result (not_asked refl)
 
-pub prepare-requires-clause-formed : goal.prepare-requires-clause-formed
-prepare-requires-clause-formed g c = asks_formed c.args.script.now.task (first_of HasForms c.args.script.now c.requires.forms)
+pub prepare_first-requires-clause-formed : goal.prepare_first-requires-clause-formed
+prepare_first-requires-clause-formed g c = asks_formed c.args.script.now.task (first_of HasForms c.args.script.now c.requires.forms)
 
-pub prepare-requires-clause-closed : goal.prepare-requires-clause-closed
-prepare-requires-clause-closed g c = first_closed c.args.script.now c.requires.closed
+pub prepare_first-requires-clause-closed : goal.prepare_first-requires-clause-closed
+prepare_first-requires-clause-closed g c = first_closed c.args.script.now c.requires.closed

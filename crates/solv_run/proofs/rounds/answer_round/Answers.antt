@@ -1,11 +1,17 @@
 use Rattle.solv_script.specs.Inner.Turns.{first_turn}
 use Rattle.solv_said.proofs.Forming.{asks_formed}
 use Rattle.solv_run.specs.Rounds.{IsGoodAnswer}
-use Rattle.solv_run.proofs.RoundByRound.{taken_behind}
+use Rattle.solv_run.proofs.RoundByRound.{taken_alone, taken_behind}
 use Rattle.solv_run.proofs.rounds.answer_round.Goals as goal
 
-pub answer-requires-clause-formed : goal.answer-requires-clause-formed
-answer-requires-clause-formed c = asks_formed c.args.script.now.task c.requires.forms
+pub answer_in_turn-requires-clause-formed : goal.answer_in_turn-requires-clause-formed
+answer_in_turn-requires-clause-formed c = asks_formed c.args.script.now.task c.requires.forms
+
+pub returns-then-command-clause-one_more : goal.returns-then-command-clause-one_more
+returns-then-command-clause-one_more c =
+    let answered = c.in_ok-answered.answered in
+    let good : IsGoodAnswer c.args.script.now.task c.args.begun.now.left answered.answer answered.ledger = record { is = c.in_ok-answered.ensures.good; direct = c.in_ok-answered.ensures.direct } in
+    taken_alone c.args.command.now (first_turn c.args.script.now) answered c.take.result c.args.begun.now c.take.new.self c.if-command.true good c.take.ensures.taken
 
 pub returns-clause-one_more : goal.returns-clause-one_more
 returns-clause-one_more c =

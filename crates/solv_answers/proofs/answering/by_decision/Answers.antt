@@ -1,0 +1,46 @@
+use Rattle.std.proofs.Common.{◌+◌, ◌∙◌, ℕ, ap, length, subst, sym}
+use Rattle.std.specs.Prelude.{◌==◌, IfOk}
+use Rattle.solv_pool.specs.declared.job_marks.Marks.{Marks}
+use Rattle.solv_core.specs.Inner.Running.{is_spent_verdict}
+use Rattle.solv_questions.specs.Questions.{request_of}
+use Rattle.solv_decide.specs.Inner.Deciding.{IsAskedFor}
+use Rattle.solv_answers.specs.Answers.{IsAnswered}
+use Rattle.solv_answers.proofs.Meeting.{bookable_agree}
+use Rattle.solv_answers.proofs.Remedied.{begun_made, core_is, made_for, spent_first}
+use Rattle.solv_answers.proofs.answering.by_decision.Goals as goal
+
+pub solved-requires-clause-agree : goal.solved-requires-clause-agree
+solved-requires-clause-agree c = bookable_agree c.args.task.now c.clauses_say_the_rule.ensures c.requires.prepared.bookable
+
+pub solved-requires-clause-begun : goal.solved-requires-clause-begun
+solved-requires-clause-begun c =
+    begun_made c.args.task.now c.args.prepared.now c.requires.prepared c.args.decided.ledger c.requires.decided.run c.requires.decided.good c.requires.decided.few
+
+pub solved-requires-clause-unspent : goal.solved-requires-clause-unspent
+solved-requires-clause-unspent c =
+    ap (λ n. length c.args.decided.ledger.entries == n + 1) c.requires.decided.budget_is ∙ sym c.requires.decided.spent ∙ ap is_spent_verdict c.in-Sat.is
+
+pub returns-in_ok-answered-in-Sat-clause-left : goal.returns-in_ok-answered-in-Sat-clause-left
+returns-in_ok-answered-in-Sat-clause-left c =
+    c.left_of-left.ensures c.args.task.now
+    (subst (λ (m : Marks). IsAskedFor (request_of c.args.task.now m) c.args.decided.phases c.args.decided.core.made) c.requires.prepared.marks c.requires.decided.asked)
+
+pub refuted-requires-clause-begun : goal.refuted-requires-clause-begun
+refuted-requires-clause-begun c =
+    begun_made c.args.task.now c.args.prepared.now c.requires.prepared c.args.decided.ledger c.requires.decided.run c.requires.decided.good c.requires.decided.few
+
+pub refuted-requires-clause-made : goal.refuted-requires-clause-made
+refuted-requires-clause-made c = made_for c.args.task.now c.args.prepared.now c.requires.prepared c.args.decided.phases c.args.decided.core.made c.requires.decided.asked c.requires.decided.core
+
+pub refuted-requires-clause-core : goal.refuted-requires-clause-core
+refuted-requires-clause-core c = core_is c.args.task.now c.args.prepared.now c.requires.prepared c.args.decided.core.made c.requires.decided.core
+
+pub returns-in-Unsat-clause-good : goal.returns-in-Unsat-clause-good
+returns-in-Unsat-clause-good c =
+    subst (λ (n : ℕ). IfOk c.refuted.result (λ given. IsAnswered c.args.task.now n given.answered.answer given.answered.ledger)) c.requires.decided.budget_is c.refuted.ensures.answered
+
+pub returns-in-Spent-clause-good : goal.returns-in-Spent-clause-good
+returns-in-Spent-clause-good c =
+    spent_first c.args.task.now c.args.budget c.args.decided.ledger
+    (begun_made c.args.task.now c.args.prepared.now c.requires.prepared c.args.decided.ledger c.requires.decided.run c.requires.decided.good c.requires.decided.few)
+    c.requires.decided.budget_is (sym (ap is_spent_verdict c.in-Spent.is) ∙ c.requires.decided.spent)

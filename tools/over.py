@@ -1,0 +1,81 @@
+#!/usr/bin/env python3
+"""Checks or builds one crate over the libraries that a gate left in another clone.
+
+    tools/over.py check CRATE CLONE [rattle's flags]     as `rt check` in the crate's folder, in seconds after the first time
+    tools/over.py library CRATE CLONE [rattle's flags]   builds its library in the place of CLONE's
+    tools/over.py program CRATE CLONE FILE               builds the program as LLVM makes it
+
+CLONE is another clone of this repository in which `rt ci` ran: it leaves the library of each crate that it proved in
+crates/NAME/out/rlib. A crate is taken from the repository in the current folder, so that one proof can be worked on while the
+other clone's gate goes on with what is below. A library that has changed has to be built before the crates above it are
+looked at, in the order of crates.txt's layers; copy CLONE's folders `out/rlib` first, where its gate may go on to use them. What
+was checked is kept in out/over beside the crate. None of it is a verdict: that is the gate's alone.
+"""
+import os
+import pathlib
+import subprocess
+import sys
+
+KIT = pathlib.Path(os.path.realpath(subprocess.run(["which", "rt"], capture_output=True, text=True).stdout.strip())).parent.parent
+RATTLE = KIT / "bin" / "rattle"
+
+
+def libraries():
+    """The libraries of each crate, as crates.txt lists them."""
+    made = {}
+    for line in pathlib.Path("crates.txt").read_text().splitlines():
+        line = line.partition("#")[0].strip()
+        if line:
+            name, _, uses = line.partition(":")
+            made[name.split()[0]] = uses.split()
+    return made
+
+
+def below(name, uses, seen):
+    """The repository's libraries below a crate, the lowest first."""
+    for lower in uses[name]:
+        if lower in uses and lower not in seen:
+            below(lower, uses, seen)
+            seen.append(lower)
+    return seen
+
+
+def words(command, crate, clone):
+    """The words of a call of rattle."""
+    uses = libraries()
+    folder = pathlib.Path("crates", crate)
+    root = "src/main.rt" if (folder / "src/main.rt").exists() else "src/lib.rt"
+    said = [RATTLE, command, "--crate-name", crate, root, "--extern", f"std={KIT}/rlibs/std.rlib", "-L", f"dependency={KIT}/rlibs"]
+    for name in uses[crate]:
+        place = f"{clone}/crates/{name}/out/rlib" if name in uses else f"{KIT}/rlibs"
+        said += ["--extern", f"{name}={place}/{name}.rlib"]
+    for name in below(crate, uses, []):
+        said += ["-L", f"dependency={clone}/crates/{name}/out/rlib"]
+    said += ["--antt-project", f"{KIT}/rattle/logic/antt-project.json", "--logic-built", f"{KIT}/logic_built", "--links", f"{crate}="]
+    return folder, said
+
+
+def call(folder, said):
+    return subprocess.call([str(word) for word in said], cwd=folder)
+
+
+def main():
+    if len(sys.argv) < 4 or sys.argv[1] not in ("check", "library", "program"):
+        sys.exit(__doc__)
+    kind, crate, clone, rest = sys.argv[1], sys.argv[2], os.path.realpath(sys.argv[3]), sys.argv[4:]
+    folder, said = words("check" if kind == "check" else "build", crate, clone)
+    if kind == "check":
+        kept = folder / "out/over"
+        kept.mkdir(parents=True, exist_ok=True)
+        sys.exit(call(folder, [*said, "--incremental", "out/over", "--progress", *rest]))
+    if kind == "library":
+        place = pathlib.Path(clone, "crates", crate, "out/rlib")
+        place.mkdir(parents=True, exist_ok=True)
+        sys.exit(call(folder, [*said, "--statements", "-o", place / f"{crate}.rlib", *rest]))
+    out = os.path.realpath(rest[0])
+    status = call(folder, [*said, "--toolchain", f"{KIT}/toolchain", "--backend", "llvm", "-o", f"{out}.o"])
+    link = [KIT / "bin/rattle-link", "--target", "x86_64-unknown-linux-gnu", "--toolchain", f"{KIT}/toolchain", "-o", out, f"{out}.o"]
+    sys.exit(status or call(".", [*link, KIT / "c/libos_c.a", KIT / "c/liblibc_c.a"]))
+
+
+main()
