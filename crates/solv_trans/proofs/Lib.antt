@@ -5,6 +5,9 @@ pub mod Marked
 pub mod Owned
 pub mod Apart
 pub mod Whole
+pub mod Places
+pub mod Embedded
+pub mod Parted
 mod Pairs
 mod Listing
 mod Greatest

@@ -23,7 +23,7 @@ use Rattle.solv_trans.specs.Edges.{is_met_already, brings, requires_some, coming
 use Rattle.solv_trans.specs.Inner.Readiness.{IsReady}
 use Rattle.solv_trans.specs.Inner.Joining.{Joins, turn_of, AreTurns, is_early_in, from_one, to_one, settles, unsettled, to_coming, from_going, owned_by}
 use Rattle.solv_trans.proofs.Lists.{in_filter, filter_in, all_members}
-use Rattle.solv_trans.specs.declared.edges.Edges.{Edges}
+use Rattle.solv_trans.specs.declared.edges.Link.{Link}
 use Rattle.solv_trans.proofs.Joined.{joins_by, joins_more}
 use Rattle.solv_trans.proofs.Asking.{brings_is, serves_is, settled_is, comes_pack, goes_pack, in_members, packages_bound, late_is, early_is, not_both}
 use Rattle.solv_list.proofs.Booleans.{and_false, false_of_not, or_cases, or_false, same_truth}
@@ -156,7 +156,7 @@ module _ (catalog : Catalog) (set : ℕ → Bool) where
             (and_from (late_of turns b) (eqb p a && eqb b b) (late_is catalog set turns are b ∙ four.0) (and_from (eqb p a) (eqb b b) two.0 (eq-eqb b b refl)))))
 
   -- the edges of a requirement by the operands of its dependency
-  module _ (need : Need) (x : ℕ) (old mid new : Edges) where
+  module _ (need : Need) (x : ℕ) (old mid new : List Link) where
     abbrev at : ℕ → Need
     at d = record need { dep = d }
 

@@ -9,15 +9,14 @@ use Rattle.solv_pool.specs.Words.{passes, is_among}
 use Rattle.solv_pool.specs.Catalog.{Catalog, package_at, dependency}
 use Rattle.solv_pool.specs.declared.packages.Package.{Package}
 use Rattle.solv_pool.specs.declared.packages.Need.{Need}
-use Rattle.solv_graph.specs.Inner.Graphs.{edge_to}
 use Rattle.solv_graph.specs.Inner.Orders.{part_of, late_of}
 use Rattle.solv_graph.specs.declared.orders.Turn.{Turn}
 use Rattle.solv_trans.specs.Moving.{comes, goes, is_part}
 use Rattle.solv_trans.specs.Edges.{brings, requires_some, coming_edge, going_edge, edge, pre_edge}
 use Rattle.solv_trans.specs.Orders.{IsOrdered}
-use Rattle.solv_trans.specs.Inner.Joining.{is_marked, AreTurns, AreEdges}
+use Rattle.solv_trans.specs.Inner.Joining.{is_marked, linked, pre_linked, AreTurns, AreEdges}
 use Rattle.solv_trans.specs.declared.ordering.Ordered.{Ordered}
-use Rattle.solv_trans.specs.declared.edges.Edges.{Edges}
+use Rattle.solv_trans.specs.declared.edges.Link.{Link}
 use Rattle.solv_trans.proofs.Asking.{part_is, late_is}
 use Rattle.solv_list.proofs.Booleans.{or_cases}
 use Rattle.solv_pool.proofs.Among.{among_passes}
@@ -75,29 +74,29 @@ module _ (catalog : Catalog) (set : ℕ → Bool) where
             (or_right (comes catalog set a) (goes catalog set a) two.0, or_right (comes catalog set b) (goes catalog set b) three.0)
       ]
 
-  module _ (turns : List Turn) (are : AreTurns catalog set turns) (edges : Edges) (tell : AreEdges catalog set edges) where
-    pub within : (a b : ℕ) → edge_to edges.pre a b ≡ true → edge_to edges.all a b ≡ true
+  module _ (turns : List Turn) (are : AreTurns catalog set turns) (links : List Link) (tell : AreEdges catalog set links) where
+    pub within : (a b : ℕ) → pre_linked links a b ≡ true → linked links a b ≡ true
     within a b h = tell.all a b ∙ pre_within a b (sym (tell.pre a b) ∙ h)
 
-    pub starts : (a b : ℕ) → edge_to edges.all a b ≡ true → part_of turns a ≡ true
+    pub starts : (a b : ℕ) → linked links a b ≡ true → part_of turns a ≡ true
     starts a b h = part_is catalog set turns are a ∙ (joins_parts a b (sym (tell.all a b) ∙ h)).0
 
-    pub ends : (a b : ℕ) → edge_to edges.all a b ≡ true → part_of turns b ≡ true
+    pub ends : (a b : ℕ) → linked links a b ≡ true → part_of turns b ≡ true
     ends a b h = part_is catalog set turns are b ∙ (joins_parts a b (sym (tell.all a b) ∙ h)).1
 
-    -- the order by the graphs is that of the set
-    pub ordered : (made : Ordered) → IsOrdered (length edges.all) (part_of turns) (late_of turns) (edge_to edges.all) (edge_to edges.pre) made
+    -- the order by the list is that of the set
+    pub ordered : (made : Ordered) → IsOrdered (length turns) (part_of turns) (late_of turns) (linked links) (pre_linked links) made
         → IsOrdered (length catalog.universe.packages + 1) (is_part catalog set) (goes catalog set) (edge catalog set) (pre_edge catalog set) made
     ordered made h =
         let parts : part_of turns ≡ is_part catalog set = fun_ext (λ p. part_is catalog set turns are p) in
         let late : late_of turns ≡ goes catalog set = fun_ext (λ p. late_is catalog set turns are p) in
-        let all : edge_to edges.all ≡ edge catalog set = fun_ext (λ a. fun_ext (λ b. tell.all a b)) in
-        let pre : edge_to edges.pre ≡ pre_edge catalog set = fun_ext (λ a. fun_ext (λ b. tell.pre a b)) in
+        let all : linked links ≡ edge catalog set = fun_ext (λ a. fun_ext (λ b. tell.all a b)) in
+        let pre : pre_linked links ≡ pre_edge catalog set = fun_ext (λ a. fun_ext (λ b. tell.pre a b)) in
         subst (λ (f : ℕ → ℕ → Bool). IsOrdered (length catalog.universe.packages + 1) (is_part catalog set) (goes catalog set) (edge catalog set) f made) pre
-        (subst (λ (f : ℕ → ℕ → Bool). IsOrdered (length catalog.universe.packages + 1) (is_part catalog set) (goes catalog set) f (edge_to edges.pre) made) all
-        (subst (λ (f : ℕ → Bool). IsOrdered (length catalog.universe.packages + 1) (is_part catalog set) f (edge_to edges.all) (edge_to edges.pre) made) late
-        (subst (λ (f : ℕ → Bool). IsOrdered (length catalog.universe.packages + 1) f (late_of turns) (edge_to edges.all) (edge_to edges.pre) made) parts
-        (subst (λ (n : ℕ). IsOrdered n (part_of turns) (late_of turns) (edge_to edges.all) (edge_to edges.pre) made) tell.size h))))
+        (subst (λ (f : ℕ → ℕ → Bool). IsOrdered (length catalog.universe.packages + 1) (is_part catalog set) (goes catalog set) f (pre_linked links) made) all
+        (subst (λ (f : ℕ → Bool). IsOrdered (length catalog.universe.packages + 1) (is_part catalog set) f (linked links) (pre_linked links) made) late
+        (subst (λ (f : ℕ → Bool). IsOrdered (length catalog.universe.packages + 1) f (late_of turns) (linked links) (pre_linked links) made) parts
+        (subst (λ (n : ℕ). IsOrdered n (part_of turns) (late_of turns) (linked links) (pre_linked links) made) are.size h))))
 
 -- a table of a set is the set
 past_table : (table : List Bool) (p : ℕ) → length table ≤ p → is_marked table p ≡ false

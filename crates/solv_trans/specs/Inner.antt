@@ -2,3 +2,4 @@
 pub mod Order
 pub mod Joining
 pub mod Readiness
+pub mod Parting

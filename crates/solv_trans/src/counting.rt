@@ -4,7 +4,7 @@ ghost use Rattle.solv_graph.specs.Inner.Graphs.{edge_to};
 ghost use Rattle.solv_graph.specs.Graphs.{is_in};
 ghost use Rattle.solv_trans.specs.Inner.Joining.{Adds, apart};
 
-use crate::edges::Edges;
+use crate::parting::Edges;
 use solv_graph::{Classes, Graph};
 use std::alloc::{AllocError, Global};
 

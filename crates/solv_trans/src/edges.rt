@@ -1,41 +1,38 @@
 //! Which parts come before which.
 ghost use Rattle.std.specs.Prelude.{ℕ, Bool, ◌≡◌, ◌≤◌, ◌<◌, ◌+◌, ◌∷◌, [], ◌||◌, ◌&&◌, ◌==◌, true, length, nat_le, nat_lt, IfOk, OnOk};
 ghost use Rattle.std.specs.List.{list_any, list_all};
-ghost use Rattle.solv_graph.specs.Inner.Graphs.{edge_to};
 ghost use Rattle.solv_pool.specs.Catalog.{catalog_of, dependency, members, packages};
 ghost use Rattle.solv_pool.specs.Holding.{package_meets};
 ghost use Rattle.solv_prov.specs.Index.{IsIndexOf};
 ghost use Rattle.solv_trans.specs.Moving.{comes, goes};
 ghost use Rattle.solv_trans.specs.Inner.Readiness.{IsReady};
-ghost use Rattle.solv_trans.specs.Inner.Joining.{is_marked, AreTurns, Joins, from_one, to_one, settles, unsettled, to_coming, from_going, owned_by, AreEdges};
+ghost use Rattle.solv_trans.specs.Inner.Joining.{is_marked, linked, pre_linked, AreTurns, Joins, from_one, to_one, settles, unsettled, to_coming, from_going, owned_by, AreEdges};
 
 use solv_base::DepId;
-use solv_graph::{Graph, Turn};
+use solv_graph::Turn;
 use solv_pool::{Need, PackNo, Task};
 use solv_prov::{Parts, Providers, parts_of};
 use std::alloc::{AllocError, Global};
 
-/// All edges, and the pre edges among them.
-#[derive(Drop)]
-pub(crate) struct Edges {
-    pub(crate) all: Graph,
-    pub(crate) pre: Graph,
+/// An edge from a package to another one.
+#[derive(Clone, Copy)]
+pub(crate) struct Link {
+    pub(crate) from: u32,
+    pub(crate) to: u32,
+    /// Whether it is by a pre-requirement.
+    pub(crate) pre: bool,
 }
 
 /// Puts an edge to the others.
-fn put_edge(edges: &mut Edges, from: PackNo, to: PackNo, pre: bool) -> Result<(), AllocError>
-    requires from { from < length edges.old.all }
-    requires to { to < length edges.old.all }
-    requires same { length edges.old.pre ≡ length edges.old.all }
-    ensures size { length edges.new.all ≡ length edges.old.all }
-    ensures pre_size { length edges.new.pre ≡ length edges.old.pre }
-    ensures all { OnOk result ((a b : ℕ) → edge_to edges.new.all a b ≡ (edge_to edges.old.all a b || (from == a && to == b))) }
-    ensures pre { OnOk result ((a b : ℕ) → edge_to edges.new.pre a b ≡ (edge_to edges.old.pre a b || (pre && (from == a && to == b)))) }
+fn put_link(links: &mut Vec<Link>, from: PackNo, to: PackNo, pre: bool) -> Result<(), AllocError>
+    ensures all { OnOk result ((a b : ℕ) → linked links.new.items a b ≡ (linked links.old.items a b || (from == a && to == b))) }
+    ensures pre { OnOk result ((a b : ℕ) → pre_linked links.new.items a b ≡ (pre_linked links.old.items a b || (pre && (from == a && to == b)))) }
 {
-    edges.all.join(from.0, to.0)?;
-    if pre {
-        edges.pre.join(from.0, to.0)?;
-    }
+    links.push(Link {
+        from: from.0,
+        to: to.0,
+        pre,
+    })?;
     Ok(())
 }
 
@@ -81,17 +78,15 @@ fn join_from(
     pack: PackNo,
     need: &Need,
     other: PackNo,
-    edges: &mut Edges,
+    links: &mut Vec<Link>,
 ) -> Result<(), AllocError>
-    requires size { length edges.old.all ≡ length turns.now }
-    requires pre_size { length edges.old.pre ≡ length turns.now }
     requires pack { pack < length turns.now }
     requires other { other < length turns.now }
-    ensures { OnOk result (Joins (from_one turns.now pack need.now) (other ∷ []) edges.old edges.new) }
+    ensures { OnOk result (Joins (from_one turns.now pack need.now) (other ∷ []) links.old.items links.new.items) }
 {
     match turns[other.0 as usize] {
         Turn::Early => {
-            put_edge(edges, other, pack, need.pre)?;
+            put_link(links, other, pack, need.pre)?;
             Ok(())
         }
         Turn::Late => Ok(()),
@@ -106,16 +101,14 @@ fn join_all_from(
     pack: PackNo,
     need: &Need,
     providers: &[PackNo],
-    edges: &mut Edges,
+    links: &mut Vec<Link>,
 ) -> Result<(), AllocError>
-    requires size { length edges.old.all ≡ length turns.now }
-    requires pre_size { length edges.old.pre ≡ length turns.now }
     requires pack { pack < length turns.now }
     requires held { list_all (λ p. nat_lt p (length turns.now)) providers.now ≡ true }
-    ensures { OnOk result (Joins (from_one turns.now pack need.now) providers.now edges.old edges.new) }
+    ensures { OnOk result (Joins (from_one turns.now pack need.now) providers.now links.old.items links.new.items) }
 {
     for other in providers {
-        join_from(turns, pack, need, *other, edges)?;
+        join_from(turns, pack, need, *other, links)?;
     }
     Ok(())
 }
@@ -128,20 +121,18 @@ fn join_brought(
     pack: PackNo,
     need: &Need,
     providers: &[PackNo],
-    edges: &mut Edges,
+    links: &mut Vec<Link>,
 ) -> Result<(), AllocError>
     requires in_set { length in_set.now ≡ length task.now.universe.packages + 1 }
     requires turns { length turns.now ≡ length task.now.universe.packages + 1 }
-    requires size { length edges.old.all ≡ length turns.now }
-    requires pre_size { length edges.old.pre ≡ length turns.now }
     requires pack { pack < length turns.now }
     requires held { list_all (λ p. nat_lt p (length turns.now)) providers.now ≡ true }
-    ensures { OnOk result (Joins (from_one turns.now pack need.now) (unsettled (catalog_of task.now) (is_marked in_set.now) pack providers.now) edges.old edges.new) }
+    ensures { OnOk result (Joins (from_one turns.now pack need.now) (unsettled (catalog_of task.now) (is_marked in_set.now) pack providers.now) links.old.items links.new.items) }
 {
     if is_settled(task, in_set, pack, providers) {
         return Ok(());
     }
-    join_all_from(turns, pack, need, providers, edges)?;
+    join_all_from(turns, pack, need, providers, links)?;
     Ok(())
 }
 
@@ -153,30 +144,28 @@ fn join_need_coming(
     turns: &[Turn],
     pack: PackNo,
     need: Need,
-    edges: &mut Edges,
+    links: &mut Vec<Link>,
 ) -> Result<(), AllocError>
     requires index { IsIndexOf prov.now (catalog_of task.now) }
     requires in_set { length in_set.now ≡ length task.now.universe.packages + 1 }
     requires turns { AreTurns (catalog_of task.now) (is_marked in_set.now) turns.now }
-    requires size { length edges.old.all ≡ length turns.now }
-    requires pre_size { length edges.old.pre ≡ length turns.now }
     requires pack { pack < length turns.now }
     requires comes { comes (catalog_of task.now) (is_marked in_set.now) pack ≡ true }
     requires held { need.dep < length task.now.pool.nodes }
-    ensures { OnOk result (Joins (to_coming (catalog_of task.now) (is_marked in_set.now) pack) (need ∷ []) edges.old edges.new) }
+    ensures { OnOk result (Joins (to_coming (catalog_of task.now) (is_marked in_set.now) pack) (need ∷ []) links.old.items links.new.items) }
 {
     match parts_of(&task.pool, need.dep) {
         Parts::Itself => {
-            join_brought(task, in_set, turns, pack, &need, prov.of(need.dep), edges)?;
+            join_brought(task, in_set, turns, pack, &need, prov.of(need.dep), links)?;
             Ok(())
         }
         Parts::Of(operand) => {
-            join_need_coming(task, prov, in_set, turns, pack, by(need, operand), edges)?;
+            join_need_coming(task, prov, in_set, turns, pack, by(need, operand), links)?;
             Ok(())
         }
         Parts::OfBoth(first, second) => {
-            join_need_coming(task, prov, in_set, turns, pack, by(need, first), edges)?;
-            join_need_coming(task, prov, in_set, turns, pack, by(need, second), edges)?;
+            join_need_coming(task, prov, in_set, turns, pack, by(need, first), links)?;
+            join_need_coming(task, prov, in_set, turns, pack, by(need, second), links)?;
             Ok(())
         }
     }
@@ -189,20 +178,18 @@ fn join_coming(
     in_set: &[bool],
     turns: &[Turn],
     pack: PackNo,
-    edges: &mut Edges,
+    links: &mut Vec<Link>,
 ) -> Result<(), AllocError>
     requires ready { IsReady task.now prov.now }
     requires in_set { length in_set.now ≡ length task.now.universe.packages + 1 }
     requires turns { AreTurns (catalog_of task.now) (is_marked in_set.now) turns.now }
-    requires size { length edges.old.all ≡ length turns.now }
-    requires pre_size { length edges.old.pre ≡ length turns.now }
     requires a_package { 0 < pack }
     requires held { pack ≤ length task.now.universe.packages }
     requires comes { comes (catalog_of task.now) (is_marked in_set.now) pack ≡ true }
-    ensures { OnOk result (Joins (owned_by (catalog_of task.now) (is_marked in_set.now)) (pack ∷ []) edges.old edges.new) }
+    ensures { OnOk result (Joins (owned_by (catalog_of task.now) (is_marked in_set.now)) (pack ∷ []) links.old.items links.new.items) }
 {
     for need in task.universe.package(pack).requires_.held() {
-        join_need_coming(task, prov, in_set, turns, pack, *need, edges)?;
+        join_need_coming(task, prov, in_set, turns, pack, *need, links)?;
     }
     Ok(())
 }
@@ -213,13 +200,11 @@ fn join_to(
     pack: PackNo,
     need: &Need,
     other: PackNo,
-    edges: &mut Edges,
+    links: &mut Vec<Link>,
 ) -> Result<(), AllocError>
-    requires size { length edges.old.all ≡ length turns.now }
-    requires pre_size { length edges.old.pre ≡ length turns.now }
     requires pack { pack < length turns.now }
     requires other { other < length turns.now }
-    ensures { OnOk result (Joins (to_one turns.now pack need.now) (other ∷ []) edges.old edges.new) }
+    ensures { OnOk result (Joins (to_one turns.now pack need.now) (other ∷ []) links.old.items links.new.items) }
 {
     if pack == other {
         return Ok(());
@@ -227,7 +212,7 @@ fn join_to(
     match turns[other.0 as usize] {
         Turn::Early => Ok(()),
         Turn::Late => {
-            put_edge(edges, pack, other, need.pre)?;
+            put_link(links, pack, other, need.pre)?;
             Ok(())
         }
         Turn::Never => Ok(()),
@@ -241,16 +226,14 @@ fn join_all_to(
     pack: PackNo,
     need: &Need,
     providers: &[PackNo],
-    edges: &mut Edges,
+    links: &mut Vec<Link>,
 ) -> Result<(), AllocError>
-    requires size { length edges.old.all ≡ length turns.now }
-    requires pre_size { length edges.old.pre ≡ length turns.now }
     requires pack { pack < length turns.now }
     requires held { list_all (λ p. nat_lt p (length turns.now)) providers.now ≡ true }
-    ensures { OnOk result (Joins (to_one turns.now pack need.now) providers.now edges.old edges.new) }
+    ensures { OnOk result (Joins (to_one turns.now pack need.now) providers.now links.old.items links.new.items) }
 {
     for other in providers {
-        join_to(turns, pack, need, *other, edges)?;
+        join_to(turns, pack, need, *other, links)?;
     }
     Ok(())
 }
@@ -262,30 +245,26 @@ fn join_need_going(
     turns: &[Turn],
     pack: PackNo,
     need: Need,
-    edges: &mut Edges,
+    links: &mut Vec<Link>,
 ) -> Result<(), AllocError>
     requires index { IsIndexOf prov.now (catalog_of task.now) }
     requires turns { length turns.now ≡ length task.now.universe.packages + 1 }
-    requires size { length edges.old.all ≡ length turns.now }
-    requires pre_size { length edges.old.pre ≡ length turns.now }
     requires pack { pack < length turns.now }
     requires held { need.dep < length task.now.pool.nodes }
-    ensures size { OnOk result (length edges.new.all ≡ length edges.old.all) }
-    ensures pre_size { OnOk result (length edges.new.pre ≡ length edges.old.pre) }
-    ensures joined { (set : ℕ → Bool) → AreTurns (catalog_of task.now) set turns.now → OnOk result (Joins (from_going (catalog_of task.now) set pack) (need ∷ []) edges.old edges.new) }
+    ensures { (set : ℕ → Bool) → AreTurns (catalog_of task.now) set turns.now → OnOk result (Joins (from_going (catalog_of task.now) set pack) (need ∷ []) links.old.items links.new.items) }
 {
     match parts_of(&task.pool, need.dep) {
         Parts::Itself => {
-            join_all_to(turns, pack, &need, prov.of(need.dep), edges)?;
+            join_all_to(turns, pack, &need, prov.of(need.dep), links)?;
             Ok(())
         }
         Parts::Of(operand) => {
-            join_need_going(task, prov, turns, pack, by(need, operand), edges)?;
+            join_need_going(task, prov, turns, pack, by(need, operand), links)?;
             Ok(())
         }
         Parts::OfBoth(first, second) => {
-            join_need_going(task, prov, turns, pack, by(need, first), edges)?;
-            join_need_going(task, prov, turns, pack, by(need, second), edges)?;
+            join_need_going(task, prov, turns, pack, by(need, first), links)?;
+            join_need_going(task, prov, turns, pack, by(need, second), links)?;
             Ok(())
         }
     }
@@ -297,18 +276,16 @@ fn join_going(
     prov: &Providers,
     turns: &[Turn],
     pack: PackNo,
-    edges: &mut Edges,
+    links: &mut Vec<Link>,
 ) -> Result<(), AllocError>
     requires ready { IsReady task.now prov.now }
     requires turns { length turns.now ≡ length task.now.universe.packages + 1 }
-    requires size { length edges.old.all ≡ length turns.now }
-    requires pre_size { length edges.old.pre ≡ length turns.now }
     requires a_package { 0 < pack }
     requires held { pack ≤ length task.now.universe.packages }
-    ensures { (set : ℕ → Bool) → AreTurns (catalog_of task.now) set turns.now → goes (catalog_of task.now) set pack ≡ true → OnOk result (Joins (owned_by (catalog_of task.now) set) (pack ∷ []) edges.old edges.new) }
+    ensures { (set : ℕ → Bool) → AreTurns (catalog_of task.now) set turns.now → goes (catalog_of task.now) set pack ≡ true → OnOk result (Joins (owned_by (catalog_of task.now) set) (pack ∷ []) links.old.items links.new.items) }
 {
     for need in task.universe.package(pack).requires_.held() {
-        join_need_going(task, prov, turns, pack, *need, edges)?;
+        join_need_going(task, prov, turns, pack, *need, links)?;
     }
     Ok(())
 }
@@ -320,24 +297,22 @@ fn join_package(
     in_set: &[bool],
     turns: &[Turn],
     pack: PackNo,
-    edges: &mut Edges,
+    links: &mut Vec<Link>,
 ) -> Result<(), AllocError>
     requires ready { IsReady task.now prov.now }
     requires in_set { length in_set.now ≡ length task.now.universe.packages + 1 }
     requires turns { AreTurns (catalog_of task.now) (is_marked in_set.now) turns.now }
-    requires size { length edges.old.all ≡ length turns.now }
-    requires pre_size { length edges.old.pre ≡ length turns.now }
     requires a_package { 0 < pack }
     requires held { pack ≤ length task.now.universe.packages }
-    ensures { OnOk result (Joins (owned_by (catalog_of task.now) (is_marked in_set.now)) (pack ∷ []) edges.old edges.new) }
+    ensures { OnOk result (Joins (owned_by (catalog_of task.now) (is_marked in_set.now)) (pack ∷ []) links.old.items links.new.items) }
 {
     match turns[pack.0 as usize] {
         Turn::Early => {
-            join_coming(task, prov, in_set, turns, pack, edges)?;
+            join_coming(task, prov, in_set, turns, pack, links)?;
             Ok(())
         }
         Turn::Late => {
-            join_going(task, prov, turns, pack, edges)?;
+            join_going(task, prov, turns, pack, links)?;
             Ok(())
         }
         Turn::Never => Ok(()),
@@ -350,39 +325,33 @@ fn join_packages(
     prov: &Providers,
     in_set: &[bool],
     turns: &[Turn],
-    edges: &mut Edges,
+    links: &mut Vec<Link>,
 ) -> Result<(), AllocError>
     requires ready { IsReady task.now prov.now }
     requires in_set { length in_set.now ≡ length task.now.universe.packages + 1 }
     requires turns { AreTurns (catalog_of task.now) (is_marked in_set.now) turns.now }
-    requires size { length edges.old.all ≡ length turns.now }
-    requires pre_size { length edges.old.pre ≡ length turns.now }
-    ensures { OnOk result (Joins (owned_by (catalog_of task.now) (is_marked in_set.now)) (packages (catalog_of task.now)) edges.old edges.new) }
+    ensures { OnOk result (Joins (owned_by (catalog_of task.now) (is_marked in_set.now)) (packages (catalog_of task.now)) links.old.items links.new.items) }
 {
     for before in 0..task.universe.count() {
-        join_package(task, prov, in_set, turns, PackNo(before + 1), edges)?;
+        join_package(task, prov, in_set, turns, PackNo(before + 1), links)?;
     }
     Ok(())
 }
 
 /// The edges between the parts.
-pub(crate) fn edges_of(
+pub(crate) fn links_of(
     alloc: Global,
     task: &Task,
     prov: &Providers,
     in_set: &[bool],
     turns: &[Turn],
-) -> Result<Edges, AllocError>
+) -> Result<Vec<Link>, AllocError>
     requires ready { IsReady task.now prov.now }
     requires in_set { length in_set.now ≡ length task.now.universe.packages + 1 }
     requires turns { AreTurns (catalog_of task.now) (is_marked in_set.now) turns.now }
-    ensures { IfOk result (λ edges. AreEdges (catalog_of task.now) (is_marked in_set.now) edges) }
+    ensures { IfOk result (λ links. AreEdges (catalog_of task.now) (is_marked in_set.now) links.items) }
 {
-    task.universe.marks_each();
-    let count = task.universe.count() + 1;
-    let all = Graph::new(alloc, count)?;
-    let pre = Graph::new(alloc, count)?;
-    let mut edges = Edges { all, pre };
-    join_packages(task, prov, in_set, turns, &mut edges)?;
-    Ok(edges)
+    let mut links = Vec::new(alloc);
+    join_packages(task, prov, in_set, turns, &mut links)?;
+    Ok(links)
 }

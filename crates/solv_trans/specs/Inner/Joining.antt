@@ -11,7 +11,7 @@ use Rattle.solv_graph.specs.declared.orders.Turn.{Turn}
 use Rattle.solv_graph.specs.declared.orders.Turn.TheVariants.{Never, Early, Late}
 use Rattle.solv_trans.specs.Moving.{comes, goes, is_kept}
 use Rattle.solv_trans.specs.Edges.{brings, requires_some, edge, pre_edge}
-use Rattle.solv_trans.specs.declared.edges.Edges.{Edges}
+use Rattle.solv_trans.specs.declared.edges.Link.{Link}
 
 -- which numbers a table marks
 abbrev pub is_marked : List Bool → ℕ → Bool
@@ -29,15 +29,26 @@ pub record AreTurns (catalog : Catalog) (set : ℕ → Bool) (turns : List Turn)
   pub size : length turns ≡ length catalog.universe.packages + 1
   pub each : (p : ℕ) → p ≤ length catalog.universe.packages → turn_at turns p ≡ turn_of catalog set p
 
+-- the edges that a list tells, and the pre edges among them
+abbrev pub linked : List Link → ℕ → ℕ → Bool
+linked links a b = list_any (λ (link : Link). link.from == a && link.to == b) links
+
+abbrev pub pre_linked : List Link → ℕ → ℕ → Bool
+pre_linked links a b = list_any (λ (link : Link). link.pre && (link.from == a && link.to == b)) links
+
+-- there are besides the edges that each of these asks for
+abbrev pub Extends : {X : Type 0} → (X → ℕ → ℕ → Bool) → List X → (ℕ → ℕ → Bool) → (ℕ → ℕ → Bool) → Type 0
+Extends asks xs old new = (a b : ℕ) → new a b ≡ (old a b || list_any (λ x. asks x a b) xs)
+
 -- each of these puts the edges that it asks for into a graph
 pub record Adds {X : Type 0} (asks : X → ℕ → ℕ → Bool) (xs : List X) (old new : List (List ℕ)) : Type 0 where
   pub size : length new ≡ length old
-  pub edges : (a b : ℕ) → edge_to new a b ≡ (edge_to old a b || list_any (λ x. asks x a b) xs)
+  pub edges : Extends asks xs (edge_to old) (edge_to new)
 
--- and those of pre-requirements into another one
-pub record Joins {X : Type 0} (asks : (Need → Bool) → X → ℕ → ℕ → Bool) (xs : List X) (old new : Edges) : Type 0 where
-  pub all : Adds (asks (λ need. true)) xs old.all new.all
-  pub pre : Adds (asks (λ need. need.pre)) xs old.pre new.pre
+-- each of these puts the edges that it asks for into a list, by the requirements and by the pre-requirements
+pub record Joins {X : Type 0} (asks : (Need → Bool) → X → ℕ → ℕ → Bool) (xs : List X) (old new : List Link) : Type 0 where
+  pub all : Extends (asks (λ need. true)) xs (linked old) (linked new)
+  pub pre : Extends (asks (λ need. need.pre)) xs (pre_linked old) (pre_linked new)
 
 abbrev pub is_early_in : List Turn → ℕ → Bool
 is_early_in turns q = part_of turns q && not (late_of turns q)
@@ -69,12 +80,10 @@ owned_by catalog set these p a b =
     (p == b && (comes catalog set a && (comes catalog set p && requires_some catalog set these (brings catalog set a p) p)))
     || (p == a && (not (p == b) && (goes catalog set b && (goes catalog set p && requires_some catalog set these (serves catalog b) p))))
 
--- both graphs tell the edges of a set
-pub record AreEdges (catalog : Catalog) (set : ℕ → Bool) (edges : Edges) : Type 0 where
-  pub size : length edges.all ≡ length catalog.universe.packages + 1
-  pub pre_size : length edges.pre ≡ length catalog.universe.packages + 1
-  pub all : (a b : ℕ) → edge_to edges.all a b ≡ edge catalog set a b
-  pub pre : (a b : ℕ) → edge_to edges.pre a b ≡ pre_edge catalog set a b
+-- a list tells the edges of a set
+pub record AreEdges (catalog : Catalog) (set : ℕ → Bool) (links : List Link) : Type 0 where
+  pub all : (a b : ℕ) → linked links a b ≡ edge catalog set a b
+  pub pre : (a b : ℕ) → pre_linked links a b ≡ pre_edge catalog set a b
 
 -- the edges between what has different numbers
 abbrev pub apart : List ℕ → List (List ℕ) → ℕ → ℕ → Bool

@@ -23,10 +23,10 @@ returns-in_ok-join_brought-in-Itself t c =
     let set = is_marked c.args.in_set.now in
     let exact = c.of.ensures.exact catalog c.requires.index in
     let itself : parts (dependency catalog c.args.need.dep) ≡ dependency catalog c.args.need.dep ∷ [] = rw c.in-Itself.is at c.parts_of.ensures in
-    let step : Joins (from_one c.args.turns.now c.args.pack c.args.need) (unsettled catalog set c.args.pack (filter (package_meets catalog (dependency catalog c.args.need.dep)) (members catalog))) c.args.edges.now c.join_brought.new.edges =
+    let step : Joins (from_one c.args.turns.now c.args.pack c.args.need) (unsettled catalog set c.args.pack (filter (package_meets catalog (dependency catalog c.args.need.dep)) (members catalog))) c.args.links.now.items c.join_brought.new.links.items =
     rw exact at c.in_ok-join_brought-in-Itself.ensures in
     joins_same (from_one c.args.turns.now c.args.pack c.args.need) (to_coming catalog set c.args.pack)
-    (unsettled catalog set c.args.pack (filter (package_meets catalog (dependency catalog c.args.need.dep)) (members catalog))) (c.args.need ∷ []) c.args.edges.now c.join_brought.new.edges
+    (unsettled catalog set c.args.pack (filter (package_meets catalog (dependency catalog c.args.need.dep)) (members catalog))) (c.args.need ∷ []) c.args.links.now.items c.join_brought.new.links.items
     (λ these a b. coming_same catalog set c.args.turns.now c.requires.turns c.args.need itself these a b c.args.pack (comes_pack catalog set c.args.pack c.requires.comes)) step
 
 pub returns-in_ok-join_need_coming-in-Of : goal.returns-in_ok-join_need_coming-in-Of
@@ -34,14 +34,14 @@ returns-in_ok-join_need_coming-in-Of t c =
     let catalog : Catalog = catalog_of c.args.task.now in
     let set = is_marked c.args.in_set.now in
     let same : (c.in-Of.operand < c.args.need.dep) × (parts (dependency catalog c.args.need.dep) ≡ parts (dependency catalog c.in-Of.operand)) = rw c.in-Of.is at c.parts_of.ensures in
-    let put : Joins (to_coming catalog set c.args.pack) (record c.args.need { dep = c.in-Of.operand } ∷ []) c.args.edges.now c.join_need_coming.new.edges = rw c.by.ensures at c.in_ok-join_need_coming-in-Of.ensures in
-    coming_operand catalog set c.args.need c.args.pack c.args.edges.now c.args.edges.now c.join_need_coming.new.edges c.in-Of.operand same.1 put
+    let put : Joins (to_coming catalog set c.args.pack) (record c.args.need { dep = c.in-Of.operand } ∷ []) c.args.links.now.items c.join_need_coming.new.links.items = rw c.by.ensures at c.in_ok-join_need_coming-in-Of.ensures in
+    coming_operand catalog set c.args.need c.args.pack c.args.links.now.items c.args.links.now.items c.join_need_coming.new.links.items c.in-Of.operand same.1 put
 
 pub returns-in_ok-join_need_coming-in-OfBoth-2 : goal.returns-in_ok-join_need_coming-in-OfBoth-2
 returns-in_ok-join_need_coming-in-OfBoth-2 t c =
     let catalog : Catalog = catalog_of c.args.task.now in
     let set = is_marked c.args.in_set.now in
     let same : (c.in-OfBoth.first < c.args.need.dep) × ((c.in-OfBoth.second < c.args.need.dep) × (parts (dependency catalog c.args.need.dep) ≡ parts (dependency catalog c.in-OfBoth.first) ++ parts (dependency catalog c.in-OfBoth.second))) = rw c.in-OfBoth.is at c.parts_of.ensures in
-    let own : Joins (to_coming catalog set c.args.pack) (record c.args.need { dep = c.in-OfBoth.first } ∷ []) c.args.edges.now c.join_need_coming-in-OfBoth.new.edges = rw c.by-in-OfBoth.ensures at c.in_ok-join_need_coming-in-OfBoth.ensures in
-    let other : Joins (to_coming catalog set c.args.pack) (record c.args.need { dep = c.in-OfBoth.second } ∷ []) c.join_need_coming-in-OfBoth.new.edges c.join_need_coming-in-OfBoth-2.new.edges = rw c.by-in-OfBoth-2.ensures at c.in_ok-join_need_coming-in-OfBoth-2.ensures in
-    coming_both catalog set c.args.need c.args.pack c.args.edges.now c.join_need_coming-in-OfBoth.new.edges c.join_need_coming-in-OfBoth-2.new.edges c.in-OfBoth.first c.in-OfBoth.second same.1.1 own other
+    let own : Joins (to_coming catalog set c.args.pack) (record c.args.need { dep = c.in-OfBoth.first } ∷ []) c.args.links.now.items c.join_need_coming-in-OfBoth.new.links.items = rw c.by-in-OfBoth.ensures at c.in_ok-join_need_coming-in-OfBoth.ensures in
+    let other : Joins (to_coming catalog set c.args.pack) (record c.args.need { dep = c.in-OfBoth.second } ∷ []) c.join_need_coming-in-OfBoth.new.links.items c.join_need_coming-in-OfBoth-2.new.links.items = rw c.by-in-OfBoth-2.ensures at c.in_ok-join_need_coming-in-OfBoth-2.ensures in
+    coming_both catalog set c.args.need c.args.pack c.args.links.now.items c.join_need_coming-in-OfBoth.new.links.items c.join_need_coming-in-OfBoth-2.new.links.items c.in-OfBoth.first c.in-OfBoth.second same.1.1 own other

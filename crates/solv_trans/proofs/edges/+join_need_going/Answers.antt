@@ -16,28 +16,28 @@ join_all_to-requires-clause-held t c =
     subst (λ (qs : List ℕ). list_all (λ q. nat_lt q (length c.args.turns.now)) qs ≡ true) (sym exact)
     (providers_below catalog (λ q. true) (package_meets catalog (dependency catalog c.args.need.dep)) (length c.args.turns.now) c.requires.turns)
 
-pub returns-in_ok-join_all_to-in-Itself-clause-joined : goal.returns-in_ok-join_all_to-in-Itself-clause-joined
-returns-in_ok-join_all_to-in-Itself-clause-joined t c = λ set are.
+pub returns-in_ok-join_all_to-in-Itself : goal.returns-in_ok-join_all_to-in-Itself
+returns-in_ok-join_all_to-in-Itself t c = λ set are.
     let catalog : Catalog = catalog_of c.args.task.now in
     let exact = c.of.ensures.exact catalog c.requires.index in
     let itself : parts (dependency catalog c.args.need.dep) ≡ dependency catalog c.args.need.dep ∷ [] = rw c.in-Itself.is at c.parts_of.ensures in
-    let step : Joins (to_one c.args.turns.now c.args.pack c.args.need) (filter (package_meets catalog (dependency catalog c.args.need.dep)) (members catalog)) c.args.edges.now c.join_all_to.new.edges =
+    let step : Joins (to_one c.args.turns.now c.args.pack c.args.need) (filter (package_meets catalog (dependency catalog c.args.need.dep)) (members catalog)) c.args.links.now.items c.join_all_to.new.links.items =
     rw exact at c.in_ok-join_all_to-in-Itself.ensures in
     joins_same (to_one c.args.turns.now c.args.pack c.args.need) (from_going catalog set c.args.pack)
-    (filter (package_meets catalog (dependency catalog c.args.need.dep)) (members catalog)) (c.args.need ∷ []) c.args.edges.now c.join_all_to.new.edges
+    (filter (package_meets catalog (dependency catalog c.args.need.dep)) (members catalog)) (c.args.need ∷ []) c.args.links.now.items c.join_all_to.new.links.items
     (λ these a b. going_same catalog set c.args.turns.now are c.args.need itself these a b c.args.pack) step
 
-pub returns-in_ok-join_need_going-in-Of-clause-joined : goal.returns-in_ok-join_need_going-in-Of-clause-joined
-returns-in_ok-join_need_going-in-Of-clause-joined t c = λ set are.
+pub returns-in_ok-join_need_going-in-Of : goal.returns-in_ok-join_need_going-in-Of
+returns-in_ok-join_need_going-in-Of t c = λ set are.
     let catalog : Catalog = catalog_of c.args.task.now in
     let same : (c.in-Of.operand < c.args.need.dep) × (parts (dependency catalog c.args.need.dep) ≡ parts (dependency catalog c.in-Of.operand)) = rw c.in-Of.is at c.parts_of.ensures in
-    let put : Joins (from_going catalog set c.args.pack) (record c.args.need { dep = c.in-Of.operand } ∷ []) c.args.edges.now c.join_need_going.new.edges = rw c.by.ensures at (c.in_ok-join_need_going-in-Of.ensures.joined set are) in
-    going_operand catalog set c.args.need c.args.pack c.args.edges.now c.args.edges.now c.join_need_going.new.edges c.in-Of.operand same.1 put
+    let put : Joins (from_going catalog set c.args.pack) (record c.args.need { dep = c.in-Of.operand } ∷ []) c.args.links.now.items c.join_need_going.new.links.items = rw c.by.ensures at (c.in_ok-join_need_going-in-Of.ensures set are) in
+    going_operand catalog set c.args.need c.args.pack c.args.links.now.items c.args.links.now.items c.join_need_going.new.links.items c.in-Of.operand same.1 put
 
-pub returns-in_ok-join_need_going-in-OfBoth-2-clause-joined : goal.returns-in_ok-join_need_going-in-OfBoth-2-clause-joined
-returns-in_ok-join_need_going-in-OfBoth-2-clause-joined t c = λ set are.
+pub returns-in_ok-join_need_going-in-OfBoth-2 : goal.returns-in_ok-join_need_going-in-OfBoth-2
+returns-in_ok-join_need_going-in-OfBoth-2 t c = λ set are.
     let catalog : Catalog = catalog_of c.args.task.now in
     let same : (c.in-OfBoth.first < c.args.need.dep) × ((c.in-OfBoth.second < c.args.need.dep) × (parts (dependency catalog c.args.need.dep) ≡ parts (dependency catalog c.in-OfBoth.first) ++ parts (dependency catalog c.in-OfBoth.second))) = rw c.in-OfBoth.is at c.parts_of.ensures in
-    let own : Joins (from_going catalog set c.args.pack) (record c.args.need { dep = c.in-OfBoth.first } ∷ []) c.args.edges.now c.join_need_going-in-OfBoth.new.edges = rw c.by-in-OfBoth.ensures at (c.in_ok-join_need_going-in-OfBoth.ensures.joined set are) in
-    let other : Joins (from_going catalog set c.args.pack) (record c.args.need { dep = c.in-OfBoth.second } ∷ []) c.join_need_going-in-OfBoth.new.edges c.join_need_going-in-OfBoth-2.new.edges = rw c.by-in-OfBoth-2.ensures at (c.in_ok-join_need_going-in-OfBoth-2.ensures.joined set are) in
-    going_both catalog set c.args.need c.args.pack c.args.edges.now c.join_need_going-in-OfBoth.new.edges c.join_need_going-in-OfBoth-2.new.edges c.in-OfBoth.first c.in-OfBoth.second same.1.1 own other
+    let own : Joins (from_going catalog set c.args.pack) (record c.args.need { dep = c.in-OfBoth.first } ∷ []) c.args.links.now.items c.join_need_going-in-OfBoth.new.links.items = rw c.by-in-OfBoth.ensures at (c.in_ok-join_need_going-in-OfBoth.ensures set are) in
+    let other : Joins (from_going catalog set c.args.pack) (record c.args.need { dep = c.in-OfBoth.second } ∷ []) c.join_need_going-in-OfBoth.new.links.items c.join_need_going-in-OfBoth-2.new.links.items = rw c.by-in-OfBoth-2.ensures at (c.in_ok-join_need_going-in-OfBoth-2.ensures set are) in
+    going_both catalog set c.args.need c.args.pack c.args.links.now.items c.join_need_going-in-OfBoth.new.links.items c.join_need_going-in-OfBoth-2.new.links.items c.in-OfBoth.first c.in-OfBoth.second same.1.1 own other

@@ -3,4 +3,4 @@ use Rattle.solv_trans.specs.Inner.Joining.{Joins, from_one}
 use Rattle.solv_trans.proofs.edges.join_all_from.Given as goal
 
 abbrev pub invariant-loop-other : goal.invariant-loop-other
-invariant-loop-other l = Joins (from_one l.turns l.pack l.need) (take l.other-index l.providers) l.initial.edges l.edges
+invariant-loop-other l = Joins (from_one l.turns l.pack l.need) (take l.other-index l.providers) l.initial.links.items l.links.items

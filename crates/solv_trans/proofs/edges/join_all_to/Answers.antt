@@ -8,4 +8,4 @@ pub loop-other-preserved : goal.loop-other-preserved
 loop-other-preserved c =
     let lt : c.loop-other.other-index < length c.args.providers.now = omega arith in
     rw (take_next c.args.providers.now c.loop-other.other-index c.other-item.result lt c.other-item.is)
-    (joins_more (to_one c.args.turns.now c.args.pack c.args.need.now) (take c.loop-other.other-index c.args.providers.now) (c.other-item.result ∷ []) c.args.edges.now c.loop-other.edges c.join_to.new.edges c.loop-other.invariant c.in_ok-join_to.ensures)
+    (joins_more (to_one c.args.turns.now c.args.pack c.args.need.now) (take c.loop-other.other-index c.args.providers.now) (c.other-item.result ∷ []) c.args.links.now.items c.loop-other.links.items c.join_to.new.links.items c.loop-other.invariant c.in_ok-join_to.ensures)

@@ -16,24 +16,19 @@ join_need_going-requires-clause-held c =
     need_below c.args.task.now c.args.prov.now (c.args.pack - 1) c.package.result.now c.requires.ready c.package.ensures c.loop-need.need-index c.need-item.result lt is
 
 pub loop-need-init : goal.loop-need-init
-loop-need-init c = record { size = c.requires.size; pre_size = c.requires.pre_size; joined = λ set are. joins_none (from_going (catalog_of c.args.task.now) set c.args.pack) c.args.edges.now }
+loop-need-init c = λ set are. joins_none (from_going (catalog_of c.args.task.now) set c.args.pack) c.args.links.now.items
 
 pub loop-need-preserved : goal.loop-need-preserved
-loop-need-preserved c =
+loop-need-preserved c = λ set are.
     let inside : c.loop-need.need-index < length c.held-need-items.result.now = omega arith in
-    record {
-      size = c.in_ok-join_need_going.ensures.size ∙ c.loop-need.invariant.size;
-      pre_size = c.in_ok-join_need_going.ensures.pre_size ∙ c.loop-need.invariant.pre_size;
-      joined = λ set are.
-          rw (take_next c.held-need-items.result.now c.loop-need.need-index c.need-item.result inside c.need-item.is)
-          (joins_more (from_going (catalog_of c.args.task.now) set c.args.pack) (take c.loop-need.need-index c.held-need-items.result.now) (c.need-item.result ∷ []) c.args.edges.now c.loop-need.edges c.join_need_going.new.edges (c.loop-need.invariant.joined set are)
-          (c.in_ok-join_need_going.ensures.joined set are));
-    }
+    rw (take_next c.held-need-items.result.now c.loop-need.need-index c.need-item.result inside c.need-item.is)
+    (joins_more (from_going (catalog_of c.args.task.now) set c.args.pack) (take c.loop-need.need-index c.held-need-items.result.now) (c.need-item.result ∷ []) c.args.links.now.items c.loop-need.links.items c.join_need_going.new.links.items (c.loop-need.invariant set are)
+    (c.in_ok-join_need_going.ensures set are))
 
 pub returns : goal.returns
 returns c = λ set are goes.
     let items = c.held-need-items.ensures in
     let whole = take_all c.loop-need.need-index c.held-need-items.result.now (omega arith) ∙ items in
     let at = package_is (catalog_of c.args.task.now) set c.args.pack c.package.result.now c.requires.a_package c.package.ensures in
-    joins_same (from_going (catalog_of c.args.task.now) set c.args.pack) (owned_by (catalog_of c.args.task.now) set) c.package.result.now.requires_ (c.args.pack ∷ []) c.args.edges.now c.loop-need.edges
-    (λ these a b. going_owned (catalog_of c.args.task.now) set c.args.pack c.package.result.now at these a b goes) (rw whole at (c.loop-need.invariant.joined set are))
+    joins_same (from_going (catalog_of c.args.task.now) set c.args.pack) (owned_by (catalog_of c.args.task.now) set) c.package.result.now.requires_ (c.args.pack ∷ []) c.args.links.now.items c.loop-need.links.items
+    (λ these a b. going_owned (catalog_of c.args.task.now) set c.args.pack c.package.result.now at these a b goes) (rw whole at (c.loop-need.invariant set are))

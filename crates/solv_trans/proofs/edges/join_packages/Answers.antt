@@ -7,7 +7,7 @@ use Rattle.solv_trans.proofs.edges.join_packages.Goals as goal
 use Rattle.solv_list.proofs.Lists.{range_more}
 
 pub loop-before-init : goal.loop-before-init
-loop-before-init c = joins_none (owned_by (catalog_of c.args.task.now) (is_marked c.args.in_set.now)) c.args.edges.now
+loop-before-init c = joins_none (owned_by (catalog_of c.args.task.now) (is_marked c.args.in_set.now)) c.args.links.now.items
 
 pub loop-before-preserved : goal.loop-before-preserved
 loop-before-preserved c =
@@ -15,7 +15,7 @@ loop-before-preserved c =
     let range : range_with_len 1 (c.loop-before.before + 1) ≡ range_with_len 1 c.loop-before.before ++ (c.loop-before.before + 1) ∷ [] =
     ap (range_with_len 1) (add-one c.loop-before.before) ∙ range_more 1 c.loop-before.before ∙ ap (λ k. range_with_len 1 c.loop-before.before ++ k ∷ []) next in
     rw range
-    (joins_more (owned_by (catalog_of c.args.task.now) (is_marked c.args.in_set.now)) (range_with_len 1 c.loop-before.before) ((c.loop-before.before + 1) ∷ []) c.args.edges.now c.loop-before.edges c.join_package.new.edges c.loop-before.invariant c.in_ok-join_package.ensures)
+    (joins_more (owned_by (catalog_of c.args.task.now) (is_marked c.args.in_set.now)) (range_with_len 1 c.loop-before.before) ((c.loop-before.before + 1) ∷ []) c.args.links.now.items c.loop-before.links.items c.join_package.new.links.items c.loop-before.invariant c.in_ok-join_package.ensures)
 
 pub returns : goal.returns
 returns c =
