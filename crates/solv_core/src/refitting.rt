@@ -30,32 +30,13 @@ pub fn copy_of(alloc: Global, memory: &RuleMem) -> Result<RuleMem, AllocError>
     Ok(copy)
 }
 
-/// Lets the rules from a place on go.
-fn keep_first(alloc: Global, rules: &mut RuleMem, place: usize) -> Result<(), AllocError>
-    ensures { OnOk result (rules.new.rules ≡ take place rules.old.rules) }
-{
-    let count = rules.len();
-    if count <= place {
-        return Ok(());
-    }
-    let mut keep = vec![in alloc; true; place]?;
-    keep.resize(count, false)?;
-    rules.keep_only(&keep);
-    Ok(())
-}
-
 /// Lets a memory hold the rules of another, of which so many are its first ones.
-fn become_like(
-    alloc: Global,
-    rules: &mut RuleMem,
-    memory: &RuleMem,
-    shared: usize,
-) -> Result<(), AllocError>
+fn become_like(rules: &mut RuleMem, memory: &RuleMem, shared: usize) -> Result<(), AllocError>
     requires { take shared rules.old.rules ≡ take shared memory.now.rules }
     ensures { OnOk result (rules.new.rules ≡ memory.now.rules) }
 {
     let place = shared.min(memory.len());
-    keep_first(alloc, rules, place)?;
+    rules.truncate(place);
     append_from(rules, memory, place as u32)
 }
 
@@ -102,7 +83,7 @@ pub fn refit_parts(
     ensures chained { OnOk result (AreChained packages memory.now.rules parts.new.watches.book.heads.items parts.new.book.links parts.new.watches.book.watched.items) }
     ensures narrow { OnOk result (AreNarrow memory.now.rules parts.new.watches.narrow.items) }
 {
-    become_like(alloc, &mut parts.book, memory, shared)?;
+    become_like(&mut parts.book, memory, shared)?;
     parts.watches.book.hang_anew(&mut parts.book, packages)?;
     note_narrow(&mut parts.watches.narrow, &parts.book)?;
     parts.learnt = RuleMem::new(alloc);

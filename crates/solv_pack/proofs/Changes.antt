@@ -117,7 +117,7 @@ module _ {X : Type 0} (old new : List (List X)) (q : Place) (ys : List X) (c : H
           omega (arith, same at, k.1 (sym at ∙ e))
 
 -- a place is behind those before it
-behind_at : (b s : ℕ) (ps : List Place) (k : ℕ) (d : Place) → AreBehind b s ps → k < length ps → (b ≤ (get_or ps k d).block) × (b ≡ (get_or ps k d).block → s ≤ (get_or ps k d).start)
+pub behind_at : (b s : ℕ) (ps : List Place) (k : ℕ) (d : Place) → AreBehind b s ps → k < length ps → (b ≤ (get_or ps k d).block) × (b ≡ (get_or ps k d).block → s ≤ (get_or ps k d).start)
 behind_at b s [] k d h lt = absurd (omega arith)
 behind_at b s (p ∷ ps) zero d h lt = (h.0, h.1)
 behind_at b s (p ∷ ps) (suc k) d h lt =

@@ -1,22 +1,18 @@
 -- The first rules of a list: their clauses, owners, spans and faults stand first.
-use Rattle.std.proofs.Common.{◌≡◌, ◌+◌, ◌≤◌, ℕ, zero, suc, ℤ, Bool, true, false, List, [], ◌∷◌, ◌++◌, length, map, replicate, Option, Some, None, refl, sym, ap, subst, ◌∙◌, append_assoc, length-append, arith}
-use Rattle.std.specs.Prelude.{nat_lt, flat_map, take, drop}
-use Rattle.std.proofs.lemmas.Bool.Decides.{nat_tests}
+use Rattle.std.proofs.Common.{◌≡◌, ◌+◌, ◌≤◌, ℕ, zero, suc, ℤ, Bool, true, List, [], ◌∷◌, ◌++◌, length, map, replicate, Option, Some, None, refl, sym, ap, subst, ◌∙◌, append_assoc, length-append, arith}
+use Rattle.std.specs.Prelude.{flat_map, take, drop}
 use Rattle.std.specs.List.{list_all}
 use Rattle.std.proofs.lemmas.List.{drop-map, length-replicate, length-take-le}
 use Rattle.std.proofs.Math.Seq.{drop-append_seam}
-use Rattle.std.proofs.lemmas.List.Sums.{sum_by-cons}
 use Rattle.solv_list.proofs.Booleans.{second_of_both}
-use Rattle.solv_pack.specs.Inner.Packing.{kept}
 use Rattle.solv_pool.specs.Catalog.{Catalog}
-use Rattle.solv_pool.specs.Clauses.{rule_clauses, words, words_of_all}
-use Rattle.solv_pool.specs.RuleMeaning.{HardRule, shape_of}
+use Rattle.solv_pool.specs.Clauses.{rule_clauses, words_of_all}
+use Rattle.solv_pool.specs.RuleMeaning.{HardRule}
 use Rattle.solv_pool.specs.declared.hard_rules.Rule.{Rule}
-use Rattle.solv_rules.specs.Books.{most_words, overrun, or_else, rich_fault, rule_fault, first_fault, owners_from, spans_from}
+use Rattle.solv_rules.specs.Books.{or_else, rule_fault, first_fault, owners_from, spans_from}
 use Rattle.solv_rules.specs.Inner.Drafting.{HasRules, IsBegun, IsDraft, IsFront, clauses_before}
 use Rattle.solv_rules.specs.declared.drafts.Draft.{Draft}
 use Rattle.solv_rules.specs.declared.fault.BookFault.{BookFault}
-use Rattle.solv_rules.specs.declared.fault.BookFault.TheVariants.{TooManyWords}
 use Rattle.solv_rules.proofs.Bookkeeping.{AreLeft}
 use Rattle.solv_rules.proofs.Taking.{words_append}
 
@@ -29,14 +25,9 @@ both_parts zero xs = refl
 both_parts (suc n) [] = refl
 both_parts (suc n) (x ∷ xs) = ap (λ t. x ∷ t) (both_parts n xs)
 
--- the first ones are kept
-pub kept_first : {A : Type 0} (n m : ℕ) (xs : List A) → length xs ≡ n + m → kept (replicate n true ++ replicate m false) xs ≡ take n xs
-kept_first zero zero [] h = refl
-kept_first zero (suc m) [] h = absurd (omega (arith, h))
-kept_first zero zero (x ∷ xs) h = absurd (omega (arith, h))
-kept_first zero (suc m) (x ∷ xs) h = kept_first zero m xs (omega (arith, h))
-kept_first (suc n) m [] h = absurd (omega (arith, h))
-kept_first (suc n) m (x ∷ xs) h = ap (λ t. x ∷ t) (kept_first n m xs (omega (arith, h)))
+-- the words of both parts
+pub words_parts : (n : ℕ) (cs : List (List ℤ)) → words_of_all cs ≡ words_of_all (take n cs) + words_of_all (drop n cs)
+words_parts n cs = ap words_of_all (sym (both_parts n cs)) ∙ words_append (take n cs) (drop n cs)
 
 -- what holds of all holds of the last ones
 pub all_dropped : {A : Type 0} (test : A → Bool) (n : ℕ) (xs : List A) → list_all test xs ≡ true → list_all test (drop n xs) ≡ true
@@ -90,32 +81,6 @@ module _ (catalog : Catalog) where
       let two = clause_of_both (rule_fault catalog before r) (first_fault catalog (before + own) (front ++ rest)) fits in
       ap (λ o. or_else o (first_fault catalog (before + own) front)) two.0 ∙ front_fits (before + own) front rest two.1
 
-  -- where nothing is too much there are not too many words
-  overrun_within : (before : ℕ) (cs : List (List ℤ)) → before ≤ most_words → overrun before cs ≡ None → before + words_of_all cs ≤ most_words
-  overrun_within before [] low fits = omega (arith, low)
-  overrun_within before (c ∷ cs) low fits = by (nat_lt most_words (before + words c)) refl (λ l f. overrun_within (before + words c) cs l f)
-    where
-      long : words_of_all (c ∷ cs) ≡ words c + words_of_all cs
-      long = sum_by-cons words c cs
-
-      by : (b : Bool) → nat_lt most_words (before + words c) ≡ b → (before + words c ≤ most_words → overrun (before + words c) cs ≡ None → before + words c + words_of_all cs ≤ most_words)
-          → before + words_of_all (c ∷ cs) ≤ most_words
-      by true e again = absurd (let clash : overrun before (c ∷ cs) ≡ Some (TooManyWords (before + words c)) = rw e refl in let no = sym clash ∙ fits in cc)
-      by false e again =
-          let next : overrun before (c ∷ cs) ≡ overrun (before + words c) cs = rw e refl in
-          let here : before + words c ≤ most_words = grind (arith, nat_tests) in
-          let rest = again here (sym next ∙ fits) in
-          omega (arith, long, rest)
-
-  pub few_words : (before : ℕ) (rules : List HardRule) → before ≤ most_words → first_fault catalog before rules ≡ None → before + words_of_all (clauses_of rules) ≤ most_words
-  few_words before [] low fits = omega (arith, low)
-  few_words before (r ∷ rules) low fits =
-      let own : ℕ = words_of_all (rule_clauses catalog r) in
-      let two = clause_of_both (rule_fault catalog before r) (first_fault catalog (before + own) rules) fits in
-      let long : words_of_all (clauses_of (r ∷ rules)) ≡ own + words_of_all (clauses_of rules) = words_append (rule_clauses catalog r) (clauses_of rules) in
-      let here : before + own ≤ most_words = overrun_within before (rule_clauses catalog r) low (clause_of_both (rich_fault catalog (shape_of r)) (overrun before (rule_clauses catalog r)) two.0).1 in
-      omega (arith, few_words (before + own) rules here two.1, long)
-
   -- what stands behind the clauses of the first rules
   pub left_behind : (front rest all : List HardRule) (draft : Draft) → all ≡ front ++ rest → HasRules catalog front draft → IsDraft draft → AreLeft catalog rest all (length front) draft
   left_behind front rest all draft is has counted =
@@ -168,10 +133,10 @@ module _ (catalog : Catalog) where
   pub cut_front : (rules : List HardRule) (n : ℕ) (clauses : List (List ℤ)) (owners : List ℕ) (spans : List (ℕ × ℕ)) (draft : Draft) → n ≤ length rules
       → clauses ≡ clauses_of rules → owners ≡ owners_from catalog 0 rules → spans ≡ spans_from catalog 0 rules → first_fault catalog 0 rules ≡ None
       → draft.memory.rules ≡ take (clauses_before spans n (length clauses)) clauses → draft.owners.items ≡ take (clauses_before spans n (length clauses)) owners → draft.spans.items ≡ take n spans
-      → draft.words ≡ words_of_all draft.memory.rules → IsFront catalog (take n rules) draft
-  cut_front rules n clauses owners spans draft low of_clauses of_owners of_spans fits memory_is owners_is spans_is words_is = record {
+      → IsDraft draft → IsFront catalog (take n rules) draft
+  cut_front rules n clauses owners spans draft low of_clauses of_owners of_spans fits memory_is owners_is spans_is counted = record {
     has = record { clauses = kept_clauses; owners = kept_owners; spans = kept_spans; fits = kept_fits };
-    counted = record { exact = words_is; within = omega (arith, words_is, kept_words, few) };
+    counted = counted;
   }
     where
       front : List HardRule
@@ -221,9 +186,3 @@ module _ (catalog : Catalog) where
 
       kept_fits : first_fault catalog 0 front ≡ None
       kept_fits = front_fits 0 front (drop n rules) (ap (first_fault catalog 0) both ∙ fits)
-
-      kept_words : words_of_all draft.memory.rules ≡ words_of_all (clauses_of front)
-      kept_words = ap words_of_all kept_clauses
-
-      few : 0 + words_of_all (clauses_of front) ≤ most_words
-      few = few_words 0 front (omega arith) kept_fits

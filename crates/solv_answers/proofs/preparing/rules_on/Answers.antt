@@ -7,12 +7,12 @@ use Rattle.solv_answers.proofs.preparing.rules_on.Goals as goal
 
 pub add_rest-requires-clause-front : goal.add_rest-requires-clause-front
 add_rest-requires-clause-front c =
-    reads_first (front_rules (catalog_of c.args.task.now) c.args.task.now.flags c.args.marks.now) c.args.book.rules c.in_ok-first.first c.args.front c.requires.front c.in_ok-first.ensures.list c.in_ok-first.ensures.sets
+    reads_first (front_rules (catalog_of c.args.task.now) c.args.task.now.flags c.args.marks.now) c.args.book.rules c.front-first.result.0 c.args.front c.requires.front c.front-first.ensures.list c.front-first.ensures.sets
 
 pub returns-clause-front : goal.returns-clause-front
 returns-clause-front c =
-    front_again (front_rules (catalog_of c.args.task.now) c.args.task.now.flags c.args.marks.now) c.args.book.rules c.in_ok-first.first c.in_ok-rules.rules c.args.front c.requires.front
-    c.in_ok-first.ensures.list c.in_ok-first.ensures.sets c.in_ok-rules.ensures.list c.in_ok-rules.ensures.sets
+    front_again (front_rules (catalog_of c.args.task.now) c.args.task.now.flags c.args.marks.now) c.args.book.rules c.front-first.result.0 c.in_ok-rules.rules c.args.front c.requires.front
+    c.front-first.ensures.list c.front-first.ensures.sets c.in_ok-rules.ensures.list c.in_ok-rules.ensures.sets
 
 pub returns-clause-begun : goal.returns-clause-begun
 returns-clause-begun c =
@@ -20,6 +20,6 @@ returns-clause-begun c =
     let flags = c.args.task.now.flags in
     let marks = c.args.marks.now in
     let made = front_rules catalog flags marks in
-    begun_by catalog made (other_rules catalog flags c.args.task.now.jobs marks) (read_rules c.args.book.rules) c.args.front.rules (read_rules c.in_ok-rules.rules) c.in_ok-first.draft
+    begun_by catalog made (other_rules catalog flags c.args.task.now.jobs marks) (read_rules c.args.book.rules) c.args.front.rules (read_rules c.in_ok-rules.rules) c.front-first.result.1
     (front_read made c.args.book.rules c.args.front c.requires.front) (c.in_ok-rules.ensures.made ∙ front_first catalog flags c.args.task.now.jobs marks)
-    (c.in_ok-first.ensures.clauses catalog c.requires.book c.requires.fits)
+    (c.front-first.ensures.clauses catalog c.requires.book c.requires.fits)

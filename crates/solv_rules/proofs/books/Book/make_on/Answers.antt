@@ -11,4 +11,4 @@ returns-in-Err-clause-fault c = rw c.held-list.ensures at (rw c.held-sets.ensure
 pub invariant_of-result : goal.invariant_of-result
 invariant_of-result c =
     let spans : c.add_rules.new.draft.spans.items ≡ spans_from (catalog_of c.args.task.now) 0 (map (rule_with c.args.rules.sets) c.args.rules.list) = rw c.held-list.ensures at (rw c.held-sets.ensures at c.in-Ok.ensures.ok.spans) in
-    spans_each (catalog_of c.args.task.now) c.args.rules.list c.args.rules.sets c.add_rules.new.draft.spans.items spans
+    (spans_each (catalog_of c.args.task.now) c.args.rules.list c.args.rules.sets c.add_rules.new.draft.spans.items spans, c.in-Ok.ensures.counted)
