@@ -1,7 +1,8 @@
 -- Lines of scripts as commands: what the words of a line say by themselves, or the first cause for which they say nothing.
-use Rattle.std.specs.Prelude.{ℕ, ℤ, ◌-◌, ◌==◌, not, ◌&&◌, ◌||◌, Bool, true, false, List, [], ◌∷◌, ◌++◌, codes, length, take, drop, flat_map, nat_le, Option, Some, None, Result, Ok, Err, if◌then◌else◌}
+use Rattle.std.specs.Prelude.{ℕ, ℤ, ◌-◌, ◌==◌, not, ◌&&◌, ◌||◌, Bool, true, false, List, [], ◌∷◌, ◌++◌, codes, length, take, drop, nat_le, Option, Some, None, Result, Ok, Err, if◌then◌else◌}
 use Rattle.std.specs.List.{list_any}
 use Rattle.std.specs.Str.{bytes_eq}
+use Rattle.solv_io.specs.JoinedWords.{joined}
 use Rattle.solv_base.specs.declared.comparison.Cmp.{Cmp}
 use Rattle.solv_deps.specs.Grammar.{comparison, is_namespace}
 use Rattle.solv_pool.specs.declared.jobs.Action.{Action}
@@ -39,11 +40,6 @@ and_then (Err cause) next = Err cause
 abbrev pub or_cause : {A : Type 0} → Cause → Option A → Result A Cause
 or_cause cause None = Err cause
 or_cause cause (Some x) = Ok x
-
--- words joined by one space
-abbrev pub joined : List (List ℕ) → List ℕ
-joined [] = []
-joined (word ∷ others) = word ++ flat_map (λ other. 32 ∷ other) others
 
 -- may so many words stand behind the type of a repository?
 abbrev pub fits_type : List ℕ → ℕ → Bool

@@ -9,3 +9,6 @@ pub mod Readable
 pub mod RoundTrip
 pub mod HeldEntered
 pub mod Sound
+pub mod OneLine
+pub mod PartHeld
+pub mod PartEntered

@@ -1,5 +1,6 @@
 -- Laws of dependency text, and how its examples are said.
 use Rattle.std.specs.Prelude.{ℕ, ◌≡◌, ◌<◌, ◌≤◌, Bool, true, List, length, Ok}
+use Rattle.solv_io.specs.JoinedWords.{is_line}
 use Rattle.solv_base.specs.Dependency.{Dep, operators}
 use Rattle.solv_base.specs.Pool.{Held, IsPool, Grows, text_tree}
 use Rattle.solv_deps.specs.Grammar.{Expr, expr_right, expr_operators, expr_depth, expr_words, expr_sense}
@@ -30,6 +31,10 @@ PrintedIsReadAgain = (place : Place) (t : List ℕ) (d : Dep (List ℕ)) → dep
 -- and so it is whatever table says what may stand
 abbrev pub PrintedIsReadAgainByAnyTable : Type 0
 PrintedIsReadAgainByAnyTable = (fits : Dep (List ℕ) → Bool) (t : List ℕ) (d : Dep (List ℕ)) → dependency_by fits t ≡ Ok d → dependency_by fits (text d) ≡ Ok d
+
+-- the canonical text of what a line is read as is one line
+abbrev pub PrintedIsOneLine : Type 0
+PrintedIsOneLine = (place : Place) (t : List ℕ) (d : Dep (List ℕ)) → is_line t ≡ true → dependency place t ≡ Ok d → is_line (text d) ≡ true
 
 -- what is read has at most 64 operators
 abbrev pub ReadHasFewOperators : Type 0

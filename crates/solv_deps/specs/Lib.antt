@@ -5,4 +5,5 @@ pub mod Entering
 pub mod Reading
 pub mod Canonical
 pub mod Laws
+pub mod Parts
 pub mod Inner

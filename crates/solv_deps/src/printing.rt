@@ -84,8 +84,8 @@ fn wants_space(pool: &Pool, dep: DepId) -> bool
     }
 }
 
-/// The sign of a comparison.
-fn comparison_sign(cmp: Cmp) -> &'static [u8]
+/// The sign of a comparison, as it is printed: `<`, `<=`, `<>` and so on. It takes no memory.
+pub fn comparison_sign(cmp: Cmp) -> &'static [u8]
     ensures { result.now ≡ comparison_text cmp }
 {
     if cmp.less {

@@ -4,3 +4,4 @@ pub mod Pieces
 pub mod WrittenLines
 pub mod WordRuns
 pub mod ByteCuts
+pub mod WordsAgain
