@@ -1,27 +1,26 @@
 -- What a reader has read as a script with all its rounds.
-use Rattle.std.proofs.Common.{◌≡◌, ℕ, zero, suc, ◌<◌, ◌≤◌, ◌-◌, Bool, true, List, [], ◌∷◌, ◌++◌, map, length, take, drop, Some, None, refl, sym, ap, subst, ◌∙◌, arith}
-use Rattle.std.specs.Prelude.{slice_get, slice_set, slice_index_or, unwrap_or, IfOk}
+use Rattle.std.proofs.Common.{◌≡◌, ℕ, zero, suc, ◌<◌, ◌≤◌, ◌-◌, true, List, [], ◌∷◌, ◌++◌, map, length, take, drop, Some, refl, sym, ap, subst, ◌∙◌, arith}
+use Rattle.std.specs.Prelude.{slice_get, slice_set, unwrap_or}
 use Rattle.std.specs.List.{All, list_all}
 use Rattle.std.proofs.lemmas.Bool.{and_from}
 use Rattle.std.proofs.lemmas.List.{map-append}
-use Rattle.solv_base.specs.Pool.{Held, IsPool}
-use Rattle.solv_pool.specs.Catalog.{catalog_of}
-use Rattle.solv_pool.specs.TaskBelonging.{IsClosed, choice_fits}
+use Rattle.solv_base.specs.Pool.{IsPool}
+use Rattle.solv_pool.specs.TaskBelonging.{IsClosed}
 use Rattle.solv_pool.specs.TaskForms.{HasForms}
-use Rattle.solv_pool.specs.Written.{WrittenJob, WrittenTask, written_job, written_task}
+use Rattle.solv_pool.specs.Written.{WrittenJob, written_job, written_task}
 use Rattle.solv_pool.specs.declared.jobs.Job.{Job}
 use Rattle.solv_pool.specs.declared.tasks.Task.{Task}
-use Rattle.solv_script.specs.Inner.Readings.{AreEarlier, IsReader, state_of, written_check}
+use Rattle.solv_script.specs.Inner.Readings.{IsReader, state_of}
 use Rattle.solv_script.specs.Inner.WrittenForms.{HasWrittenForms, is_written_choice}
-use Rattle.solv_script.specs.Reads.{WrittenRound, WrittenScript, written_round, written_script}
-use Rattle.solv_script.specs.Rounds.{first_round, rounds, tasks, with_jobs_of}
+use Rattle.solv_script.specs.Reads.{written_round}
+use Rattle.solv_script.specs.Rounds.{first_round, tasks, with_jobs_of}
 use Rattle.solv_script.specs.Inner.Turns.{exchanged, with_front}
 use Rattle.solv_script.specs.ScriptsOf.{IsScriptOf}
-use Rattle.solv_script.specs.States.{State, rounds_given, script_given, with_rounds}
+use Rattle.solv_script.specs.States.{with_rounds}
 use Rattle.solv_script.specs.declared.scripts.Round.{Round}
 use Rattle.solv_script.specs.declared.scripts.Script.{Script}
 use Rattle.solv_script.specs.declared.whole.reader.Reader.{Reader}
-use Rattle.solv_script.proofs.EarlierRounds.{fits, is_formed, round_fits, of_mapped, round_formed, to_mapped}
+use Rattle.solv_script.proofs.EarlierRounds.{round_fits, of_mapped, round_formed, to_mapped}
 use Rattle.solv_script.proofs.RowForms.{task_forms}
 use Rattle.solv_list.proofs.Booleans.{first_of_both, second_of_both}
 use Rattle.solv_list.proofs.Lists.{list_all_join}
