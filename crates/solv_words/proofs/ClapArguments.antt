@@ -1,5 +1,5 @@
 -- What `clap` holds of arguments that were given, and what it makes of one more.
-use Rattle.std.proofs.Common.{◌≡◌, ◌∙◌, ◌&&◌, ◌||◌, ◌^◌, ℕ, Bool, true, false, not, refl, sym, ap, ap₂, arith, List, [], ◌∷◌, ◌++◌, map, length, codes, Option, Some, None, true≢false, inl, inr, append-nil, append_assoc}
+use Rattle.std.proofs.Common.{◌≡◌, ◌∙◌, ◌&&◌, ◌||◌, ℕ, Bool, true, false, not, refl, sym, ap, ap₂, arith, List, [], ◌∷◌, ◌++◌, true≢false, append-nil}
 use Rattle.std.proofs.lemmas.List.{map-append}
 use Rattle.std.specs.Prelude.{pos, if◌then◌else◌}
 use Rattle.std.specs.List.{list_any}
@@ -11,10 +11,9 @@ use Rattle.clap.specs.Walk.{Row, Rule, Text, at_row, has_row, more_values, used,
 use Rattle.clap.specs.Simple.{filled, with_index}
 use Rattle.clap.specs.declared.error.kind.ErrorKind.TheVariants as kind
 use Rattle.clap.specs.declared.parser.matches.ValueSource.TheVariants.{CommandLine}
-use Rattle.solv_words.specs.CommandLine.{Argument, Kind, argument, budget, file, is_in_range, is_same, lines, proofs, seed}
+use Rattle.solv_words.specs.CommandLine.{Argument, Kind, argument, budget, file, is_in_range, is_same, lines, proofs, seed, written}
 use Rattle.solv_words.specs.Inner.Clap.{id_of, reading_of_kind, row_of, rows_by, rules, told_of, values_of}
 use Rattle.solv_words.proofs.ClapNumbers.{number_is}
-use Rattle.solv_list.proofs.Booleans.{and_true, true_or_false}
 
 -- ---- the rule of each kind of argument
 
@@ -22,10 +21,11 @@ abbrev pub rule_by : Kind → Rule
 rule_by lines = filled (told_of lines)
 rule_by budget = filled (told_of budget)
 rule_by proofs = filled (told_of proofs)
+rule_by written = filled (told_of written)
 rule_by seed = filled (told_of seed)
 rule_by file = with_index 1 (filled (told_of file))
 
-pub rules_are : rules ≡ rule_by lines ∷ rule_by budget ∷ rule_by proofs ∷ rule_by seed ∷ rule_by file ∷ []
+pub rules_are : rules ≡ rule_by lines ∷ rule_by budget ∷ rule_by proofs ∷ rule_by written ∷ rule_by seed ∷ rule_by file ∷ []
 rules_are = refl
 
 -- what a use has behind its name
@@ -33,6 +33,7 @@ abbrev pub raw_of : Kind → List ℕ → List Text
 raw_of lines value = []
 raw_of budget value = value ∷ []
 raw_of proofs value = []
+raw_of written value = []
 raw_of seed value = value ∷ []
 raw_of file value = value ∷ []
 
@@ -40,26 +41,37 @@ same_id : (a k : Kind) → bytes_eq (id_of a) (id_of k) ≡ is_same k a
 same_id lines lines = refl
 same_id lines budget = refl
 same_id lines proofs = refl
+same_id lines written = refl
 same_id lines seed = refl
 same_id lines file = refl
 same_id budget lines = refl
 same_id budget budget = refl
 same_id budget proofs = refl
+same_id budget written = refl
 same_id budget seed = refl
 same_id budget file = refl
 same_id proofs lines = refl
 same_id proofs budget = refl
 same_id proofs proofs = refl
+same_id proofs written = refl
 same_id proofs seed = refl
 same_id proofs file = refl
+same_id written lines = refl
+same_id written budget = refl
+same_id written proofs = refl
+same_id written written = refl
+same_id written seed = refl
+same_id written file = refl
 same_id seed lines = refl
 same_id seed budget = refl
 same_id seed proofs = refl
+same_id seed written = refl
 same_id seed seed = refl
 same_id seed file = refl
 same_id file lines = refl
 same_id file budget = refl
 same_id file proofs = refl
+same_id file written = refl
 same_id file seed = refl
 same_id file file = refl
 
@@ -96,6 +108,7 @@ use_is args budget value =
     number_use (has_row (id_of budget) (rows_by args)) (is_signed_in (pos 0) (pos 1000000) value)
     ∙ ap₂ (λ b c. not b && c) (has_is budget args) (number_is 1000000 (omega arith) value)
 use_is args proofs value = flag_use (has_row (id_of proofs) (rows_by args)) ∙ ap (λ b. not b && true) (has_is proofs args)
+use_is args written value = flag_use (has_row (id_of written) (rows_by args)) ∙ ap (λ b. not b && true) (has_is written args)
 use_is args seed value =
     number_use (has_row (id_of seed) (rows_by args)) (is_signed_in (pos 0) (pos 4294967295) value)
     ∙ ap₂ (λ b c. not b && c) (has_is seed args) (number_is 4294967295 (omega arith) value)
@@ -132,5 +145,6 @@ used_is args k value h = by k (has_is k args ∙ h)
     by lines m = add lines m
     by budget m = add budget m
     by proofs m = add proofs m
+    by written m = add written m
     by seed m = add seed m
     by file m = add file m

@@ -1,9 +1,8 @@
 -- What `clap` says of a command line: the command that the definition gives, or a fault where it gives none.
-use Rattle.std.proofs.Common.{◌≡◌, ◌∙◌, ◌&&◌, ◌||◌, ◌<◌, ◌≤◌, ◌^◌, ℕ, Bool, true, false, not, refl, sym, ap, ap₂, subst, arith, List, [], ◌∷◌, ◌++◌, map, drop, codes, cond, Option, Some, None, Result, true≢false, inl, inr, find}
-use Rattle.std.specs.Prelude.{IfSome, nat_le, fold, slice_get, is_some, option_map, option_and_then, unwrap_or, if◌then◌else◌}
+use Rattle.std.proofs.Common.{◌≡◌, ◌∙◌, ◌&&◌, ◌||◌, ◌≤◌, ℕ, Bool, true, false, not, refl, sym, ap, ap₂, subst, arith, List, [], ◌∷◌, ◌++◌, map, drop, codes, cond, Option, Some, None, true≢false, inl, inr, find}
+use Rattle.std.specs.Prelude.{IfSome, nat_le, slice_get, is_some, option_map, option_and_then, unwrap_or, if◌then◌else◌}
 use Rattle.std.specs.List.{list_all, list_any}
-use Rattle.std.specs.Str.{IsUtf8, bytes_eq}
-use Rattle.std.proofs.lemmas.List.{map-append}
+use Rattle.std.specs.Str.{bytes_eq}
 use Rattle.clap.specs.Faults.{default_fault, defaults_fault, fault_of, settle_fault, walk_fault}
 use Rattle.std.proofs.lemmas.Str.{IsUtf8-string_bytes}
 use Rattle.std.proofs.Common.{String, Global}
@@ -11,19 +10,20 @@ use Rattle.std.specs.Prelude.{string_bytes}
 use Rattle.clap.specs.declared.error.kind.ErrorKind.{ErrorKind}
 use Rattle.clap.specs.Kinds.{IsAmong, Kinds, or_else}
 use Rattle.clap.specs.Lexer.{without_minus}
-use Rattle.clap.specs.Walk.{Row, Text, finished, first_of, has_row, idle, more_values, nothing_held, one_of, row_text, settled, walk, with_default}
+use Rattle.clap.specs.Walk.{Row, Text, first_of, has_row, idle, more_values, nothing_held, one_of, row_text, settled, walk, with_default}
 use Rattle.clap.specs.Simple.{matches_of}
 use Rattle.clap.specs.Simple as simple
 use Rattle.clap.specs.declared.builder.value_parser.Reading.TheVariants.{AsWritten}
 use Rattle.clap.specs.declared.parser.matches.ValueSource.TheVariants.{DefaultValue}
 use Rattle.clap.proofs.FaultLemmas.{leaf_fault}
-use Rattle.solv_words.specs.CommandLine.{Argument, Kind, argument, arguments_from, budget, command_by, command_from, command_if_accepted, command_of, file, is_accepted, is_each_once, is_given, is_in_range, is_number, is_same, lines, number_by, number_of, proofs, seed, source_of, value_of}
-use Rattle.solv_words.specs.Inner.Clap.{form, id_of, row_of, rows_by, rows_with_flags, rules}
+use Rattle.solv_words.specs.CommandLine.{Argument, Kind, argument, arguments_from, budget, command_by, command_for, command_from, command_if_accepted, command_of, file, is_accepted, is_each_once, is_given, is_in_range, is_same, lines, number_by, number_of, output_of, proofs, seed, source_of, value_of, written}
+use Rattle.solv_words.specs.Inner.Clap.{form, id_of, rows_by, rows_with_flags, rules}
 use Rattle.std.proofs.lemmas.Bool.{leb-true}
 use Rattle.solv_words.specs.declared.command_line.Command.{Command}
+use Rattle.solv_words.specs.declared.command_line.Output.{Output}
 use Rattle.solv_words.specs.declared.command_line.Source.{Source}
 use Rattle.solv_words.proofs.ClapArguments.{at_missing, fits, has_is, is_calm, rule_by}
-use Rattle.solv_words.proofs.ClapWalk.{Agrees, AllText, Right, accepted, checked, end_fault, end_rows, shape, then_none, walk_by, walk_is}
+use Rattle.solv_words.proofs.ClapWalk.{AllText, Right, accepted, checked, end_fault, end_rows, shape, then_none, walk_by, walk_is}
 use Rattle.solv_words.proofs.ClapWords.{is_option, nothing}
 use Rattle.solv_list.proofs.Booleans.{and_false, first_of_both, or_assoc, or_false, second_of_both, true_or_false}
 
@@ -39,6 +39,8 @@ no_default_fault k rows = by k (has_row (id_of k) rows) refl
     by budget false e = rw e refl
     by proofs true e = rw e refl
     by proofs false e = rw e refl
+    by written true e = rw e refl
+    by written false e = rw e refl
     by seed true e = rw e refl
     by seed false e = rw e refl
     by file true e = rw e refl
@@ -50,14 +52,16 @@ no_defaults_fault rows =
     let one = with_default rows (rule_by lines) in
     let two = with_default one (rule_by budget) in
     let three = with_default two (rule_by proofs) in
-    let four = with_default three (rule_by seed) in
-    rw (no_default_fault lines rows, no_default_fault budget one, no_default_fault proofs two, no_default_fault seed three, no_default_fault file four) refl
+    let four = with_default three (rule_by written) in
+    let five = with_default four (rule_by seed) in
+    rw (no_default_fault lines rows, no_default_fault budget one, no_default_fault proofs two, no_default_fault written three, no_default_fault seed four, no_default_fault file five) refl
 
 -- an argument with a value, which has no default
 abbrev is_valued : Kind → Bool
 is_valued lines = false
 is_valued budget = true
 is_valued proofs = false
+is_valued written = false
 is_valued seed = true
 is_valued file = true
 
@@ -67,6 +71,7 @@ no_default k rows h = by k (has_row (id_of k) rows) refl h
     by : (k : Kind) (b : Bool) → has_row (id_of k) rows ≡ b → is_valued k ≡ true → with_default rows (rule_by k) ≡ rows
     by lines b e h = absurd (true≢false (sym h))
     by proofs b e h = absurd (true≢false (sym h))
+    by written b e h = absurd (true≢false (sym h))
     by budget true e h = rw e refl
     by budget false e h = rw e refl
     by seed true e h = rw e refl
@@ -90,13 +95,13 @@ whole_fault words =
 
 -- the flags that are not given are added
 abbrev with_flags : List Row → List Row
-with_flags rows = with_default (with_default rows (rule_by lines)) (rule_by proofs)
+with_flags rows = with_default (with_default (with_default rows (rule_by lines)) (rule_by proofs)) (rule_by written)
 
 whole_rows : (words : List Text) → matches_of form words ≡ with_flags (end_rows (walk_by [] nothing false false idle) (drop 1 words))
 whole_rows words =
     let first = with_default (end_rows (walk_by [] nothing false false idle) (drop 1 words)) (rule_by lines) in
-    let rows = with_default first (rule_by proofs) in
-    ap (λ r. with_default (with_default (with_default r (rule_by proofs)) (rule_by seed)) (rule_by file)) (no_default budget first refl)
+    let rows = with_default (with_default first (rule_by proofs)) (rule_by written) in
+    ap (λ r. with_default (with_default (with_default (with_default r (rule_by proofs)) (rule_by written)) (rule_by seed)) (rule_by file)) (no_default budget first refl)
     ∙ ap (λ r. with_default r (rule_by file)) (no_default seed rows refl)
     ∙ no_default file rows refl
 
@@ -113,26 +118,37 @@ same_turned : (a b : Kind) → is_same a b ≡ is_same b a
 same_turned lines lines = refl
 same_turned lines budget = refl
 same_turned lines proofs = refl
+same_turned lines written = refl
 same_turned lines seed = refl
 same_turned lines file = refl
 same_turned budget lines = refl
 same_turned budget budget = refl
 same_turned budget proofs = refl
+same_turned budget written = refl
 same_turned budget seed = refl
 same_turned budget file = refl
 same_turned proofs lines = refl
 same_turned proofs budget = refl
 same_turned proofs proofs = refl
+same_turned proofs written = refl
 same_turned proofs seed = refl
 same_turned proofs file = refl
+same_turned written lines = refl
+same_turned written budget = refl
+same_turned written proofs = refl
+same_turned written written = refl
+same_turned written seed = refl
+same_turned written file = refl
 same_turned seed lines = refl
 same_turned seed budget = refl
 same_turned seed proofs = refl
+same_turned seed written = refl
 same_turned seed seed = refl
 same_turned seed file = refl
 same_turned file lines = refl
 same_turned file budget = refl
 same_turned file proofs = refl
+same_turned file written = refl
 same_turned file seed = refl
 same_turned file file = refl
 
@@ -224,6 +240,7 @@ defaulted : (k : Kind) (rows : List Row) → is_flag k ≡ true → has_row (id_
 defaulted lines rows f h = rw h (at_missing (id_of lines) (more_values DefaultValue (codes "false" ∷ [])) (default_row lines ∷ []) rows h)
 defaulted budget rows f h = absurd (true≢false (sym f))
 defaulted proofs rows f h = rw h (at_missing (id_of proofs) (more_values DefaultValue (codes "false" ∷ [])) (default_row proofs ∷ []) rows h)
+defaulted written rows f h = rw h (at_missing (id_of written) (more_values DefaultValue (codes "false" ∷ [])) (default_row written ∷ []) rows h)
 defaulted seed rows f h = absurd (true≢false (sym f))
 defaulted file rows f h = absurd (true≢false (sym f))
 
@@ -231,6 +248,7 @@ present : (k : Kind) (rows : List Row) → has_row (id_of k) rows ≡ true → w
 present lines rows h = rw h refl
 present budget rows h = rw h refl
 present proofs rows h = rw h refl
+present written rows h = rw h refl
 present seed rows h = rw h refl
 present file rows h = rw h refl
 
@@ -258,20 +276,29 @@ other_id flag k f h = by flag k f h
     by lines lines f h = absurd (true≢false (sym h))
     by lines budget f h = refl
     by lines proofs f h = absurd (true≢false (sym h))
+    by lines written f h = absurd (true≢false (sym h))
     by lines seed f h = refl
     by lines file f h = refl
     by proofs lines f h = absurd (true≢false (sym h))
     by proofs budget f h = refl
     by proofs proofs f h = absurd (true≢false (sym h))
+    by proofs written f h = absurd (true≢false (sym h))
     by proofs seed f h = refl
     by proofs file f h = refl
+    by written lines f h = absurd (true≢false (sym h))
+    by written budget f h = refl
+    by written proofs f h = absurd (true≢false (sym h))
+    by written written f h = absurd (true≢false (sym h))
+    by written seed f h = refl
+    by written file f h = refl
     by budget k f h = absurd (true≢false (sym f))
     by seed k f h = absurd (true≢false (sym f))
     by file k f h = absurd (true≢false (sym f))
 
 found_past_flags : (k : Kind) (rows : List Row) → is_valued k ≡ true → found k (with_flags rows) ≡ found k rows
 found_past_flags k rows h =
-    found_past proofs k (with_default rows (rule_by lines)) refl (other_id proofs k refl h)
+    found_past written k (with_default (with_default rows (rule_by lines)) (rule_by proofs)) refl (other_id written k refl h)
+    ∙ found_past proofs k (with_default rows (rule_by lines)) refl (other_id proofs k refl h)
     ∙ found_past lines k rows refl (other_id lines k refl h)
 
 abbrev first_value_of : Option Row → Option Text
@@ -288,17 +315,21 @@ valued k h (a ∷ args) = by k a.kind h (valued k h args)
     by budget lines h i = i
     by budget budget h i = refl
     by budget proofs h i = i
+    by budget written h i = i
     by budget seed h i = i
     by budget file h i = i
     by proofs kind h i = absurd (true≢false (sym h))
+    by written kind h i = absurd (true≢false (sym h))
     by seed lines h i = i
     by seed budget h i = i
     by seed proofs h i = i
+    by seed written h i = i
     by seed seed h i = refl
     by seed file h i = i
     by file lines h i = i
     by file budget h i = i
     by file proofs h i = i
+    by file written h i = i
     by file seed h i = i
     by file file h i = refl
 
@@ -316,12 +347,15 @@ numbered k h (a ∷ args) = by k a.kind h (numbered k h args)
     by budget lines h i = i
     by budget budget h i = refl
     by budget proofs h i = i
+    by budget written h i = i
     by budget seed h i = i
     by budget file h i = i
     by proofs kind h i = absurd (true≢false (sym h))
+    by written kind h i = absurd (true≢false (sym h))
     by seed lines h i = i
     by seed budget h i = i
     by seed proofs h i = i
+    by seed written h i = i
     by seed seed h i = refl
     by seed file h i = i
     by file kind h i = absurd (true≢false (sym h))
@@ -330,6 +364,7 @@ option_valued : (k : Kind) → is_option k ≡ true → is_valued k ≡ true
 option_valued lines h = absurd (true≢false (sym h))
 option_valued budget h = refl
 option_valued proofs h = absurd (true≢false (sym h))
+option_valued written h = absurd (true≢false (sym h))
 option_valued seed h = refl
 option_valued file h = refl
 
@@ -347,14 +382,22 @@ flagged k f (a ∷ args) h = by k a.kind f h (flagged k f args)
     by lines lines f h i = refl
     by lines budget f h i = i h
     by lines proofs f h i = i h
+    by lines written f h i = i h
     by lines seed f h i = i h
     by lines file f h i = i h
     by budget kind f h i = absurd (true≢false (sym f))
     by proofs lines f h i = i h
     by proofs budget f h i = i h
     by proofs proofs f h i = refl
+    by proofs written f h i = i h
     by proofs seed f h i = i h
     by proofs file f h i = i h
+    by written lines f h i = i h
+    by written budget f h i = i h
+    by written proofs f h i = i h
+    by written written f h i = refl
+    by written seed f h i = i h
+    by written file f h i = i h
     by seed kind f h i = absurd (true≢false (sym f))
     by file kind f h i = absurd (true≢false (sym f))
 
@@ -362,6 +405,7 @@ same_flag : (k : Kind) → bytes_eq (id_of k) (id_of k) ≡ true
 same_flag lines = refl
 same_flag budget = refl
 same_flag proofs = refl
+same_flag written = refl
 same_flag seed = refl
 same_flag file = refl
 
@@ -400,36 +444,59 @@ flag_read k f rows args has same = by (has_row (id_of k) (rows_by args)) refl
         ∙ ap (λ b. Some (if b then codes "true" else codes "false")) (sym e ∙ given)
 
 pub lines_flag_is : (args : List Argument) → one_of (id_of lines) (rows_with_flags args) ≡ Some (if is_given lines args then codes "true" else codes "false")
-lines_flag_is args = ap (option_and_then row_text) (found_past proofs lines (with_default (rows_by args) (rule_by lines)) refl refl) ∙ flag_read lines refl (rows_by args) args refl refl
+lines_flag_is args =
+    let first = with_default (rows_by args) (rule_by lines) in
+    ap (option_and_then row_text) (found_past written lines (with_default first (rule_by proofs)) refl refl ∙ found_past proofs lines first refl refl)
+    ∙ flag_read lines refl (rows_by args) args refl refl
 
 pub proofs_flag_is : (args : List Argument) → one_of (id_of proofs) (rows_with_flags args) ≡ Some (if is_given proofs args then codes "true" else codes "false")
 proofs_flag_is args =
-    flag_read proofs refl (with_default (rows_by args) (rule_by lines)) args (has_past lines proofs (rows_by args) refl refl) (found_past lines proofs (rows_by args) refl refl)
+    let first = with_default (rows_by args) (rule_by lines) in
+    ap (option_and_then row_text) (found_past written proofs (with_default first (rule_by proofs)) refl refl)
+    ∙ flag_read proofs refl first args (has_past lines proofs (rows_by args) refl refl) (found_past lines proofs (rows_by args) refl refl)
+
+pub written_flag_is : (args : List Argument) → one_of (id_of written) (rows_with_flags args) ≡ Some (if is_given written args then codes "true" else codes "false")
+written_flag_is args =
+    let first = with_default (rows_by args) (rule_by lines) in
+    flag_read written refl (with_default first (rule_by proofs)) args
+    (has_past proofs written first refl refl ∙ has_past lines written (rows_by args) refl refl)
+    (found_past proofs written first refl refl ∙ found_past lines written (rows_by args) refl refl)
 
 same_kind : (a b : Kind) → is_same a b ≡ true → a ≡ b
 same_kind lines lines h = refl
 same_kind lines budget h = absurd (true≢false (sym h))
 same_kind lines proofs h = absurd (true≢false (sym h))
+same_kind lines written h = absurd (true≢false (sym h))
 same_kind lines seed h = absurd (true≢false (sym h))
 same_kind lines file h = absurd (true≢false (sym h))
 same_kind budget lines h = absurd (true≢false (sym h))
 same_kind budget budget h = refl
 same_kind budget proofs h = absurd (true≢false (sym h))
+same_kind budget written h = absurd (true≢false (sym h))
 same_kind budget seed h = absurd (true≢false (sym h))
 same_kind budget file h = absurd (true≢false (sym h))
 same_kind proofs lines h = absurd (true≢false (sym h))
 same_kind proofs budget h = absurd (true≢false (sym h))
 same_kind proofs proofs h = refl
+same_kind proofs written h = absurd (true≢false (sym h))
 same_kind proofs seed h = absurd (true≢false (sym h))
 same_kind proofs file h = absurd (true≢false (sym h))
+same_kind written lines h = absurd (true≢false (sym h))
+same_kind written budget h = absurd (true≢false (sym h))
+same_kind written proofs h = absurd (true≢false (sym h))
+same_kind written written h = refl
+same_kind written seed h = absurd (true≢false (sym h))
+same_kind written file h = absurd (true≢false (sym h))
 same_kind seed lines h = absurd (true≢false (sym h))
 same_kind seed budget h = absurd (true≢false (sym h))
 same_kind seed proofs h = absurd (true≢false (sym h))
+same_kind seed written h = absurd (true≢false (sym h))
 same_kind seed seed h = refl
 same_kind seed file h = absurd (true≢false (sym h))
 same_kind file lines h = absurd (true≢false (sym h))
 same_kind file budget h = absurd (true≢false (sym h))
 same_kind file proofs h = absurd (true≢false (sym h))
+same_kind file written h = absurd (true≢false (sym h))
 same_kind file seed h = absurd (true≢false (sym h))
 same_kind file file h = refl
 
@@ -487,7 +554,7 @@ among k (x ∷ xs) h = refl
 
 -- the budget of arguments that are accepted is in its range
 pub small_budget : (args : List Argument) (command : Option Command) → is_accepted args ≡ true → command ≡ command_by args → IfSome command (λ said. said.budget ≤ 1000000)
-small_budget args command h e = let P : Option Command → Type 0 = λ o. IfSome o (λ said. said.budget ≤ 1000000) in subst P (sym e) (by (source_of (is_given proofs args) (value_of file args) (number_by seed args)))
+small_budget args command h e = let P : Option Command → Type 0 = λ o. IfSome o (λ said. said.budget ≤ 1000000) in subst P (sym e) (printed (output_of (is_given proofs args) (is_given written args)))
   where
     number : (o : Option (List ℕ)) → value_of budget args ≡ o → unwrap_or (option_map number_of o) 100000 ≤ 1000000
     number None is = omega arith
@@ -495,6 +562,10 @@ small_budget args command h e = let P : Option Command → Type 0 = λ o. IfSome
         let passed = in_range budget args v (second_of_both (is_each_once args) (list_all is_in_range args) h) is in
         leb-true (number_of v) 1000000 (first_of_both (nat_le (number_of v) 1000000) _ (second_of_both _ _ passed))
 
-    by : (o : Option Source) → IfSome (option_map (command_from args) o) (λ (said : Command). said.budget ≤ 1000000)
-    by None = tt
-    by (Some source) = number (value_of budget args) refl
+    by : (output : Output) (o : Option Source) → IfSome (option_map (command_from args output) o) (λ (said : Command). said.budget ≤ 1000000)
+    by output None = tt
+    by output (Some source) = number (value_of budget args) refl
+
+    printed : (o : Option Output) → IfSome (option_and_then (command_for args) o) (λ (said : Command). said.budget ≤ 1000000)
+    printed None = tt
+    printed (Some output) = by output (source_of output (value_of file args) (number_by seed args))

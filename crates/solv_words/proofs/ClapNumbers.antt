@@ -1,7 +1,7 @@
 -- The numbers that `clap` takes, and what is read of them.
-use Rattle.std.proofs.Common.{◌≡◌, ◌∙◌, ◌<◌, ◌≤◌, ◌&&◌, ◌||◌, ◌==◌, ◌+◌, ◌^◌, ℕ, ℤ, zero, suc, Bool, cond, true, false, not, refl, sym, ap, subst, arith, List, [], ◌∷◌, drop, nat_lt, Option, Some, None, Result, Ok, Err, true≢false, inl, inr, lt-ltb, le-leb}
-use Rattle.std.specs.Prelude.{pos, negsuc, nat_le, int_le, neg_ℤ, unwrap_or}
-use Rattle.std.specs.Str.Parse.{IsNumeral, ParsesUnsigned, digits_value, signed_digits_value, starts_with_minus, without_leading_plus, without_leading_sign}
+use Rattle.std.proofs.Common.{◌≡◌, ◌∙◌, ◌<◌, ◌≤◌, ◌&&◌, ◌||◌, ◌==◌, ◌^◌, ℕ, zero, suc, Bool, cond, true, false, not, refl, sym, ap, subst, arith, List, [], ◌∷◌, drop, nat_lt, Option, Some, None, Result, Ok, Err, inl, inr, lt-ltb, le-leb}
+use Rattle.std.specs.Prelude.{pos, nat_le, int_le, neg_ℤ, unwrap_or}
+use Rattle.std.specs.Str.Parse.{IsNumeral, ParsesUnsigned, digits_value, starts_with_minus, without_leading_plus, without_leading_sign}
 use Rattle.std.proofs.lemmas.Bool.{leb-true, ne_eqb}
 use Rattle.std.proofs.lemmas.Str.Parse.{digit_from_value}
 use Rattle.std.proofs.lemmas.Int.{ints}

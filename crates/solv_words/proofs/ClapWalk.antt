@@ -1,21 +1,20 @@
 -- The walk of `clap` over the words gives their arguments.
-use Rattle.std.proofs.Common.{◌≡◌, ◌∙◌, ◌&&◌, ◌||◌, ◌+◌, ℕ, zero, suc, Bool, true, false, not, refl, sym, ap, ap₂, subst, arith, List, [], ◌∷◌, ◌++◌, map, codes, Option, Some, None, true≢false, inl, inr, append-nil, append_assoc}
+use Rattle.std.proofs.Common.{◌≡◌, ◌∙◌, ◌&&◌, ◌||◌, ℕ, Bool, true, false, refl, sym, ap, subst, List, [], ◌∷◌, ◌++◌, map, codes, Option, Some, None, true≢false, inl, inr, append-nil, append_assoc}
 use Rattle.std.specs.Prelude.{fold, if◌then◌else◌}
 use Rattle.std.specs.List.{list_any}
-use Rattle.std.specs.Str.{IsUtf8, bytes_eq}
+use Rattle.std.specs.Str.{IsUtf8}
 use Rattle.std.proofs.lemmas.Bool.{or_right}
-use Rattle.clap.specs.Lexer.{long_of, short_of}
-use Rattle.clap.specs.Faults.{flag_word_fault, positional_fault, settle_fault, turn_fault, use_fault, walk_fault}
+use Rattle.clap.specs.Faults.{positional_fault, settle_fault, turn_fault, use_fault, walk_fault}
 use Rattle.clap.specs.Kinds.{Kinds, or_else}
 use Rattle.clap.specs.Walk.{Row, Text, Waiting, Walk, idle, option, positional_held, settled_rows, used, walked}
 use Rattle.clap.specs.Simple.{Shape}
 use Rattle.clap.specs.Simple as simple
 use Rattle.clap.proofs.OnLiterals.{clap_on_literals}
-use Rattle.solv_words.specs.CommandLine.{Argument, Kind, argument, arguments_from, budget, file, is_same, is_value, lines, proofs, seed, with_argument}
+use Rattle.solv_words.specs.CommandLine.{Argument, Kind, argument, arguments_from, budget, file, is_same, is_value, lines, proofs, seed, with_argument, written}
 use Rattle.solv_words.specs.Inner.Clap.{form, id_of, rows_by, rules}
 use Rattle.solv_words.proofs.ClapArguments.{fits, is_calm, raw_of, rule_by, use_is, used_is}
-use Rattle.solv_words.proofs.ClapWords.{Class, IsPlain, IsStrange, Pend, classify, got, held_by, is_end, is_flag, is_given, is_name, is_option, is_plain, is_proof, is_strange, name_of, nothing, pending_by, waits}
-use Rattle.solv_list.proofs.Booleans.{and_true, first_of_both, second_of_both, false_of_not, true_or_false}
+use Rattle.solv_words.proofs.ClapWords.{IsPlain, IsStrange, Pend, classify, got, held_by, is_end, is_flag, is_given, is_name, is_option, is_plain, is_proof, is_strange, is_write, name_of, nothing, pending_by, waits}
+use Rattle.solv_list.proofs.Booleans.{first_of_both, false_of_not, true_or_false}
 
 abbrev pub shape : Shape
 shape = (simple.built form).top
@@ -77,6 +76,7 @@ got_fault : (args : List Argument) (k : Kind) (value : List ℕ) → settle_faul
 got_fault args lines value = refl
 got_fault args budget value = refl
 got_fault args proofs value = refl
+got_fault args written value = refl
 got_fault args seed value = refl
 got_fault args file value = refl
 
@@ -84,6 +84,7 @@ got_rows : (args : List Argument) (k : Kind) (value : List ℕ) → settled_rows
 got_rows args lines value = refl
 got_rows args budget value = refl
 got_rows args proofs value = refl
+got_rows args written value = refl
 got_rows args seed value = refl
 got_rows args file value = refl
 
@@ -114,6 +115,7 @@ waits_fault : (args : List Argument) (k : Kind) → is_option k ≡ true → is_
 waits_fault args lines h = absurd (true≢false (sym h))
 waits_fault args budget h = refl
 waits_fault args proofs h = absurd (true≢false (sym h))
+waits_fault args written h = absurd (true≢false (sym h))
 waits_fault args seed h = refl
 waits_fault args file h = absurd (true≢false (sym h))
 
@@ -189,6 +191,7 @@ file_turn args (waits k) is_trailing waiting word ready = absurd (true≢false (
 file_turn args (got lines value) is_trailing waiting word ready = refl
 file_turn args (got budget value) is_trailing waiting word ready = refl
 file_turn args (got proofs value) is_trailing waiting word ready = refl
+file_turn args (got written value) is_trailing waiting word ready = refl
 file_turn args (got seed value) is_trailing waiting word ready = refl
 file_turn args (got file value) is_trailing waiting word ready = refl
 
@@ -199,6 +202,7 @@ file_held args (waits k) word ready = absurd (true≢false (sym ready))
 file_held args (got lines value) word ready = refl
 file_held args (got budget value) word ready = refl
 file_held args (got proofs value) word ready = refl
+file_held args (got written value) word ready = refl
 file_held args (got seed value) word ready = refl
 file_held args (got file value) word ready = refl
 
@@ -245,6 +249,7 @@ trail_waits (word ∷ rest) args k true waiting h = give_up (walk_by args (waits
 trail_waits (word ∷ rest) args lines false waiting h = absurd (true≢false (sym h))
 trail_waits (word ∷ rest) args budget false waiting h = give_up (walk_by args (waits budget) false true waiting) word rest None refl refl
 trail_waits (word ∷ rest) args proofs false waiting h = absurd (true≢false (sym h))
+trail_waits (word ∷ rest) args written false waiting h = absurd (true≢false (sym h))
 trail_waits (word ∷ rest) args seed false waiting h = give_up (walk_by args (waits seed) false true waiting) word rest None refl refl
 trail_waits (word ∷ rest) args file false waiting h = absurd (true≢false (sym h))
 
@@ -329,6 +334,14 @@ proof_ready rest later args p has_file ready has =
     after_use (codes "--proof") rest later args p has_file proofs [] ready has
     (then_none _) refl refl
 
+-- `--write`
+write_ready : (rest : List Text) (later : Claims rest) (args : List Argument) (p : Pend) (has_file : Bool) → is_ready p ≡ true → HasFile has_file args p
+    → Right (walk_by args p has_file false idle) (codes "--write" ∷ rest) (accepted args (behind p (arguments_from None (codes "--write" ∷ rest))))
+unfolding used_walk clap_on_literals
+write_ready rest later args p has_file ready has =
+    after_use (codes "--write") rest later args p has_file written [] ready has
+    (then_none _) refl refl
+
 -- `--budget=N` and `--grow=SEED`
 given_ready : (rest : List Text) (later : Claims rest) (args : List Argument) (p : Pend) (has_file : Bool) (k : Kind) (value : List ℕ) → is_option k ≡ true → is_ready p ≡ true → HasFile has_file args p
     → Right (walk_by args p has_file false idle) ((45 ∷ 45 ∷ (name_of k ++ 61 ∷ value)) ∷ rest) (accepted args (behind p (arguments_from None ((45 ∷ 45 ∷ (name_of k ++ 61 ∷ value)) ∷ rest))))
@@ -336,6 +349,7 @@ unfolding used_walk clap_on_literals
 given_ready rest later args p has_file lines value o ready has = absurd (true≢false (sym o))
 given_ready rest later args p has_file budget value o ready has = after_use (45 ∷ 45 ∷ (name_of budget ++ 61 ∷ value)) rest later args p has_file budget value ready has (then_none _) refl refl
 given_ready rest later args p has_file proofs value o ready has = absurd (true≢false (sym o))
+given_ready rest later args p has_file written value o ready has = absurd (true≢false (sym o))
 given_ready rest later args p has_file seed value o ready has = after_use (45 ∷ 45 ∷ (name_of seed ++ 61 ∷ value)) rest later args p has_file seed value ready has (then_none _) refl refl
 given_ready rest later args p has_file file value o ready has = absurd (true≢false (sym o))
 
@@ -371,6 +385,7 @@ unfolding option_word clap_on_literals
 name_ready rest later args p has_file lines o ready has = absurd (true≢false (sym o))
 name_ready rest later args p has_file budget o ready has = after_name rest later args p has_file budget o ready has (then_none _) refl
 name_ready rest later args p has_file proofs o ready has = absurd (true≢false (sym o))
+name_ready rest later args p has_file written o ready has = absurd (true≢false (sym o))
 name_ready rest later args p has_file seed o ready has = after_name rest later args p has_file seed o ready has (then_none _) refl
 name_ready rest later args p has_file file o ready has = absurd (true≢false (sym o))
 
@@ -441,6 +456,7 @@ word_ready word rest later text args p has_file ready has =
       | is_end e ↦ subst P (sym e) (end_ready rest args p has_file ready has)
       | is_flag e ↦ subst P (sym e) (flag_ready rest later args p has_file ready has)
       | is_proof e ↦ subst P (sym e) (proof_ready rest later args p has_file ready has)
+      | is_write e ↦ subst P (sym e) (write_ready rest later args p has_file ready has)
       | is_name k o e ↦ subst P (sym e) (name_ready rest later args p has_file k o ready has)
       | is_given k value o e ↦ subst P (sym e) (given_ready rest later args p has_file k value o ready has)
       | is_plain w ↦ file_ready word rest later args p has_file w ready has
@@ -457,6 +473,7 @@ unfolding walked
 value_walked args lines has_file word o w = absurd (true≢false (sym o))
 value_walked args budget has_file word o w = rw (w.no_end, w.no_long, w.no_short) refl
 value_walked args proofs has_file word o w = absurd (true≢false (sym o))
+value_walked args written has_file word o w = absurd (true≢false (sym o))
 value_walked args seed has_file word o w = rw (w.no_end, w.no_long, w.no_short) refl
 value_walked args file has_file word o w = absurd (true≢false (sym o))
 
@@ -482,6 +499,7 @@ unfolding clap_on_literals
 flag_waits args lines has_file o = absurd (true≢false (sym o))
 flag_waits args budget has_file o = refl
 flag_waits args proofs has_file o = absurd (true≢false (sym o))
+flag_waits args written has_file o = absurd (true≢false (sym o))
 flag_waits args seed has_file o = refl
 flag_waits args file has_file o = absurd (true≢false (sym o))
 
@@ -490,22 +508,35 @@ unfolding clap_on_literals
 proof_waits args lines has_file o = absurd (true≢false (sym o))
 proof_waits args budget has_file o = refl
 proof_waits args proofs has_file o = absurd (true≢false (sym o))
+proof_waits args written has_file o = absurd (true≢false (sym o))
 proof_waits args seed has_file o = refl
 proof_waits args file has_file o = absurd (true≢false (sym o))
+
+write_waits : (args : List Argument) (k : Kind) (has_file : Bool) → is_option k ≡ true → is_calm (turn_fault shape [] (walk_by args (waits k) has_file false (option (id_of k))) (codes "--write")) ≡ false
+unfolding clap_on_literals
+write_waits args lines has_file o = absurd (true≢false (sym o))
+write_waits args budget has_file o = refl
+write_waits args proofs has_file o = absurd (true≢false (sym o))
+write_waits args written has_file o = absurd (true≢false (sym o))
+write_waits args seed has_file o = refl
+write_waits args file has_file o = absurd (true≢false (sym o))
 
 name_waits : (args : List Argument) (k other : Kind) (has_file : Bool) → is_option k ≡ true → is_option other ≡ true
     → is_calm (turn_fault shape [] (walk_by args (waits k) has_file false (option (id_of k))) (45 ∷ 45 ∷ name_of other)) ≡ false
 name_waits args lines other has_file o h = absurd (true≢false (sym o))
 name_waits args proofs other has_file o h = absurd (true≢false (sym o))
+name_waits args written other has_file o h = absurd (true≢false (sym o))
 name_waits args file other has_file o h = absurd (true≢false (sym o))
 name_waits args budget lines has_file o h = absurd (true≢false (sym h))
 name_waits args budget budget has_file o h = refl
 name_waits args budget proofs has_file o h = absurd (true≢false (sym h))
+name_waits args budget written has_file o h = absurd (true≢false (sym h))
 name_waits args budget seed has_file o h = refl
 name_waits args budget file has_file o h = absurd (true≢false (sym h))
 name_waits args seed lines has_file o h = absurd (true≢false (sym h))
 name_waits args seed budget has_file o h = refl
 name_waits args seed proofs has_file o h = absurd (true≢false (sym h))
+name_waits args seed written has_file o h = absurd (true≢false (sym h))
 name_waits args seed seed has_file o h = refl
 name_waits args seed file has_file o h = absurd (true≢false (sym h))
 
@@ -513,15 +544,18 @@ given_waits : (args : List Argument) (k other : Kind) (value : List ℕ) (has_fi
     → is_calm (turn_fault shape [] (walk_by args (waits k) has_file false (option (id_of k))) (45 ∷ 45 ∷ (name_of other ++ 61 ∷ value))) ≡ false
 given_waits args lines other value has_file o h = absurd (true≢false (sym o))
 given_waits args proofs other value has_file o h = absurd (true≢false (sym o))
+given_waits args written other value has_file o h = absurd (true≢false (sym o))
 given_waits args file other value has_file o h = absurd (true≢false (sym o))
 given_waits args budget lines value has_file o h = absurd (true≢false (sym h))
 given_waits args budget budget value has_file o h = refl
 given_waits args budget proofs value has_file o h = absurd (true≢false (sym h))
+given_waits args budget written value has_file o h = absurd (true≢false (sym h))
 given_waits args budget seed value has_file o h = refl
 given_waits args budget file value has_file o h = absurd (true≢false (sym h))
 given_waits args seed lines value has_file o h = absurd (true≢false (sym h))
 given_waits args seed budget value has_file o h = refl
 given_waits args seed proofs value has_file o h = absurd (true≢false (sym h))
+given_waits args seed written value has_file o h = absurd (true≢false (sym h))
 given_waits args seed seed value has_file o h = refl
 given_waits args seed file value has_file o h = absurd (true≢false (sym h))
 
@@ -536,6 +570,7 @@ word_waits word rest later text args k has_file o has =
       | is_end e ↦ subst P (sym e) (go_on _ _ (codes "--") rest None refl (end_waits args k has_file) (trail_waits rest args k has_file (option (id_of k)) o))
       | is_flag e ↦ subst P (sym e) (give_up _ (codes "-r") rest _ (flag_waits args k has_file o) refl)
       | is_proof e ↦ subst P (sym e) (give_up _ (codes "--proof") rest _ (proof_waits args k has_file o) refl)
+      | is_write e ↦ subst P (sym e) (give_up _ (codes "--write") rest _ (write_waits args k has_file o) refl)
       | is_name other h e ↦ subst P (sym e) (give_up _ _ rest _ (name_waits args k other has_file o h) refl)
       | is_given other value h e ↦ subst P (sym e) (give_up _ _ rest _ (given_waits args k other value has_file o h) refl)
       | is_plain w ↦ value_waits word rest later args k has_file o has w

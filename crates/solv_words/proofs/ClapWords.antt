@@ -1,22 +1,22 @@
 -- What a word of a command line is, to `clap` and by the definition.
-use Rattle.std.proofs.Common.{◌≡◌, ◌∙◌, ◌&&◌, ◌||◌, ◌+◌, ◌<◌, ◌==◌, ◌⊎◌, ℕ, zero, suc, Bool, true, false, not, refl, sym, ap, ap₂, subst, arith, List, [], ◌∷◌, ◌++◌, map, take, drop, length, codes, Option, Some, None, true≢false, inl, inr}
-use Rattle.std.specs.Prelude.{option_map, slice_get, slice_index, encode_utf8, if◌then◌else◌}
-use Rattle.std.specs.List.{list_any, before_first, after_first, position_or_len}
+use Rattle.std.proofs.Common.{◌≡◌, ◌∙◌, ◌+◌, ◌==◌, ◌⊎◌, ℕ, suc, Bool, true, false, refl, sym, ap, ap₂, subst, arith, List, [], ◌∷◌, ◌++◌, take, drop, length, codes, Option, Some, None, true≢false, inl, inr}
+use Rattle.std.specs.Prelude.{slice_index, encode_utf8, if◌then◌else◌}
+use Rattle.std.specs.List.{before_first, after_first, position_or_len}
 use Rattle.std.specs.Option.{option_map_or}
 use Rattle.std.specs.Str.{IsUtf8, bytes_eq, chars, encode_utf8_all, all_scalars}
 use Rattle.std.proofs.lemmas.Bool.{eqb-true, eq-eqb, ne_eqb}
 use Rattle.std.proofs.lemmas.Str.{IsUtf8-past_char, chars-encodes}
 use Rattle.std.proofs.lemmas.List.{take-append-drop}
 use Rattle.clap.specs.Lexer.{long_of, short_of}
-use Rattle.clap.specs.Faults.{bundle_fault, flag_word_fault, flags_fault, react_fault, short_fault, use_fault}
+use Rattle.clap.specs.Faults.{bundle_fault, flag_word_fault, flags_fault, react_fault, short_fault}
 use Rattle.clap.specs.Kinds.{Kinds, or_else}
-use Rattle.clap.specs.Walk.{Held, Row, Rule, Text, Waiting, arg_by_long, arg_by_short, at_row, has_row, idle, is_empty, option, more_values, reacted, settled_rows, used, with_values, without}
+use Rattle.clap.specs.Walk.{Held, Row, Text, arg_by_short, has_row, more_values, reacted, settled_rows, with_values, without}
 use Rattle.clap.specs.declared.builder.value_parser.Reading.{Reading}
 use Rattle.clap.specs.declared.builder.value_parser.Reading.TheVariants.{AsWritten}
 use Rattle.clap.specs.declared.parser.matches.ValueSource.{ValueSource}
 use Rattle.clap.specs.declared.parser.matches.ValueSource.TheVariants.{CommandLine}
 use Rattle.clap.proofs.OnLiterals.{clap_on_literals}
-use Rattle.solv_words.specs.CommandLine.{Argument, Kind, Word, argument, budget, file, is_value, lines, proofs, seed, unknown, whole, word_of}
+use Rattle.solv_words.specs.CommandLine.{Argument, Kind, argument, budget, file, is_value, lines, proofs, seed, unknown, whole, word_of, written}
 use Rattle.solv_words.specs.Inner.Clap.{id_of, rows_by, rules}
 use Rattle.solv_words.proofs.ClapArguments.{is_calm, raw_of, rule_by}
 use Rattle.solv_list.proofs.Booleans.{true_or_false}
@@ -42,6 +42,7 @@ abbrev pub is_option : Kind → Bool
 is_option lines = false
 is_option budget = true
 is_option proofs = false
+is_option written = false
 is_option seed = true
 is_option file = false
 
@@ -49,6 +50,7 @@ abbrev pub name_of : Kind → List ℕ
 name_of lines = []
 name_of budget = codes "budget"
 name_of proofs = codes "proof"
+name_of written = codes "write"
 name_of seed = codes "grow"
 name_of file = []
 
@@ -71,6 +73,7 @@ pub data Class (word : Text) : Type 0 where
   is_end : word ≡ codes "--" → Class word
   is_flag : word ≡ codes "-r" → Class word
   is_proof : word ≡ codes "--proof" → Class word
+  is_write : word ≡ codes "--write" → Class word
   is_name : (k : Kind) → is_option k ≡ true → word ≡ 45 ∷ 45 ∷ name_of k → Class word
   is_given : (k : Kind) (value : List ℕ) → is_option k ≡ true → word ≡ 45 ∷ 45 ∷ (name_of k ++ 61 ∷ value) → Class word
   is_plain : IsPlain word → Class word
@@ -97,7 +100,7 @@ cut (x ∷ xs) = by (x == 61) refl (cut xs)
         let behind : drop (n + 1) xs ≡ drop (1 + n + 1) (x ∷ xs) = sym (ap (λ m. drop m (x ∷ xs)) more ∙ drop_one_more (n + 1) x xs) in
         inr (rw e (ap (λ l. x ∷ l) h ∙ ap₂ (λ f t. f ++ 61 ∷ t) (sym (take_one_more n x xs)) behind))
 
--- a name before `=` that is none of the three
+-- a name before `=` that is none of the four
 no_name : (w name : List ℕ) → bytes_eq w name ≡ false → ((v : List ℕ) → w ≡ name ++ 61 ∷ v → ⊥) → bytes_eq name (before w) ≡ false
 no_name w name e h = elim (true_or_false (bytes_eq name (before w))) [
   | inl t ↦ let is = same_bytes name (before w) t in elim (cut w) [
@@ -117,28 +120,30 @@ proof_given w other e args p =
     let P : List ℕ → Type 0 = λ l. is_calm (flag_word_fault rules false (long_of (45 ∷ 45 ∷ l)) (45 ∷ 45 ∷ l) (held_by args p)) ≡ false in
     subst P (sym (begun 6 w (codes "proof=") e)) refl
 
--- a word that is none of the three, with a value or without
-other_class : (x : ℕ) (xs : List ℕ) → bytes_eq (x ∷ xs) (codes "proof") ≡ false → bytes_eq (x ∷ xs) (codes "budget") ≡ false → bytes_eq (x ∷ xs) (codes "grow") ≡ false
-    → bytes_eq (take 7 (x ∷ xs)) (codes "budget=") ≡ false → bytes_eq (take 5 (x ∷ xs)) (codes "grow=") ≡ false → Class (45 ∷ 45 ∷ x ∷ xs)
-other_class x xs not_proof not_budget not_grow no_budget no_grow =
+-- `--write` has no value
+write_given : (w : List ℕ) → bytes_eq w (codes "write") ≡ false → bytes_eq (take 6 w) (codes "write=") ≡ true → (args : List Argument) (p : Pend)
+    → is_calm (flag_word_fault rules false (long_of (45 ∷ 45 ∷ w)) (45 ∷ 45 ∷ w) (held_by args p)) ≡ false
+write_given w other e args p =
+    let P : List ℕ → Type 0 = λ l. is_calm (flag_word_fault rules false (long_of (45 ∷ 45 ∷ l)) (45 ∷ 45 ∷ l) (held_by args p)) ≡ false in
+    subst P (sym (begun 6 w (codes "write=") e)) refl
+
+-- a word that is none of the four, with a value or without
+other_class : (x : ℕ) (xs : List ℕ) → bytes_eq (x ∷ xs) (codes "proof") ≡ false → bytes_eq (x ∷ xs) (codes "write") ≡ false → bytes_eq (x ∷ xs) (codes "budget") ≡ false
+    → bytes_eq (x ∷ xs) (codes "grow") ≡ false → bytes_eq (take 7 (x ∷ xs)) (codes "budget=") ≡ false → bytes_eq (take 5 (x ∷ xs)) (codes "grow=") ≡ false → Class (45 ∷ 45 ∷ x ∷ xs)
+other_class x xs not_proof not_write not_budget not_grow no_budget no_grow =
     let w : List ℕ = x ∷ xs in
+    let is : word_of (45 ∷ 45 ∷ w) ≡ unknown = rw (not_proof, not_write, not_budget, not_grow, no_budget, no_grow) refl in
     elim (true_or_false (bytes_eq (take 6 w) (codes "proof="))) [
-      | inl e ↦ is_strange (record {
-        is = rw (not_proof, not_budget, not_grow, no_budget, no_grow) refl;
-        value = refl;
-        no_end = refl;
-        fault = proof_given w not_proof e;
-      })
-      | inr no_proof ↦
-          let one = no_name w (codes "budget") not_budget (λ v is. true≢false (sym (ap (λ l. bytes_eq (take 7 l) (codes "budget=")) is) ∙ no_budget)) in
-          let two = no_name w (codes "grow") not_grow (λ v is. true≢false (sym (ap (λ l. bytes_eq (take 5 l) (codes "grow=")) is) ∙ no_grow)) in
-          let three = no_name w (codes "proof") not_proof (λ v is. true≢false (sym (ap (λ l. bytes_eq (take 6 l) (codes "proof=")) is) ∙ no_proof)) in
-          is_strange (record {
-            is = rw (not_proof, not_budget, not_grow, no_budget, no_grow) refl;
-            value = refl;
-            no_end = refl;
-            fault = λ args p. rw (one, two, three) refl;
-          })
+      | inl e ↦ is_strange (record { is = is; value = refl; no_end = refl; fault = proof_given w not_proof e })
+      | inr no_proof ↦ elim (true_or_false (bytes_eq (take 6 w) (codes "write="))) [
+        | inl e ↦ is_strange (record { is = is; value = refl; no_end = refl; fault = write_given w not_write e })
+        | inr no_write ↦
+            let one = no_name w (codes "budget") not_budget (λ v is. true≢false (sym (ap (λ l. bytes_eq (take 7 l) (codes "budget=")) is) ∙ no_budget)) in
+            let two = no_name w (codes "grow") not_grow (λ v is. true≢false (sym (ap (λ l. bytes_eq (take 5 l) (codes "grow=")) is) ∙ no_grow)) in
+            let three = no_name w (codes "proof") not_proof (λ v is. true≢false (sym (ap (λ l. bytes_eq (take 6 l) (codes "proof=")) is) ∙ no_proof)) in
+            let four = no_name w (codes "write") not_write (λ v is. true≢false (sym (ap (λ l. bytes_eq (take 6 l) (codes "write=")) is) ∙ no_write)) in
+            is_strange (record { is = is; value = refl; no_end = refl; fault = λ args p. rw (one, two, three, four) refl })
+      ]
     ]
 
 pub long_class : (x : ℕ) (xs : List ℕ) → Class (45 ∷ 45 ∷ x ∷ xs)
@@ -146,15 +151,18 @@ long_class x xs =
     let w : List ℕ = x ∷ xs in
     elim (true_or_false (bytes_eq w (codes "proof"))) [
       | inl e ↦ is_proof (ap (λ l. 45 ∷ 45 ∷ l) (same_bytes w (codes "proof") e))
-      | inr not_proof ↦ elim (true_or_false (bytes_eq w (codes "budget"))) [
-        | inl e ↦ is_name budget refl (ap (λ l. 45 ∷ 45 ∷ l) (same_bytes w (codes "budget") e))
-        | inr not_budget ↦ elim (true_or_false (bytes_eq w (codes "grow"))) [
-          | inl e ↦ is_name seed refl (ap (λ l. 45 ∷ 45 ∷ l) (same_bytes w (codes "grow") e))
-          | inr not_grow ↦ elim (true_or_false (bytes_eq (take 7 w) (codes "budget="))) [
-            | inl e ↦ is_given budget (drop 7 w) refl (ap (λ l. 45 ∷ 45 ∷ l) (begun 7 w (codes "budget=") e))
-            | inr no_budget ↦ elim (true_or_false (bytes_eq (take 5 w) (codes "grow="))) [
-              | inl e ↦ is_given seed (drop 5 w) refl (ap (λ l. 45 ∷ 45 ∷ l) (begun 5 w (codes "grow=") e))
-              | inr no_grow ↦ other_class x xs not_proof not_budget not_grow no_budget no_grow
+      | inr not_proof ↦ elim (true_or_false (bytes_eq w (codes "write"))) [
+        | inl e ↦ is_write (ap (λ l. 45 ∷ 45 ∷ l) (same_bytes w (codes "write") e))
+        | inr not_write ↦ elim (true_or_false (bytes_eq w (codes "budget"))) [
+          | inl e ↦ is_name budget refl (ap (λ l. 45 ∷ 45 ∷ l) (same_bytes w (codes "budget") e))
+          | inr not_budget ↦ elim (true_or_false (bytes_eq w (codes "grow"))) [
+            | inl e ↦ is_name seed refl (ap (λ l. 45 ∷ 45 ∷ l) (same_bytes w (codes "grow") e))
+            | inr not_grow ↦ elim (true_or_false (bytes_eq (take 7 w) (codes "budget="))) [
+              | inl e ↦ is_given budget (drop 7 w) refl (ap (λ l. 45 ∷ 45 ∷ l) (begun 7 w (codes "budget=") e))
+              | inr no_budget ↦ elim (true_or_false (bytes_eq (take 5 w) (codes "grow="))) [
+                | inl e ↦ is_given seed (drop 5 w) refl (ap (λ l. 45 ∷ 45 ∷ l) (begun 5 w (codes "grow=") e))
+                | inr no_grow ↦ other_class x xs not_proof not_write not_budget not_grow no_budget no_grow
+              ]
             ]
           ]
         ]

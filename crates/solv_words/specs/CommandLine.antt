@@ -1,18 +1,21 @@
--- The words of a command line: `testsolv [-r] [--budget N] [--proof] [--grow SEED] FILE`.
+-- The words of a command line: `testsolv [-r] [--budget N] [--proof] [--write] [--grow SEED] FILE`.
 use Rattle.std.specs.Prelude.{ℕ, ◌==◌, ◌&&◌, ◌||◌, not, Bool, true, false, List, [], ◌∷◌, map, take, drop, length, find, codes, nat_lt, nat_le, Option, Some, None, is_some, option_map, option_and_then, unwrap_or, if◌then◌else◌}
 use Rattle.std.specs.Char.{digit_value}
 use Rattle.std.specs.List.{list_all, list_any}
 use Rattle.std.specs.Str.{bytes_eq}
 use Rattle.std.specs.Str.Parse.{digits_value, starts_with_minus, without_leading_sign}
 use Rattle.solv_words.specs.declared.command_line.Command.{Command}
+use Rattle.solv_words.specs.declared.command_line.Output.{Output}
+use Rattle.solv_words.specs.declared.command_line.Output.TheVariants.{Lines, Proofs, Script}
 use Rattle.solv_words.specs.declared.command_line.Source.{Source}
 use Rattle.solv_words.specs.declared.command_line.Source.TheVariants.{File, Seed}
 
--- what an argument gives: `-r` asks for the result lines and `--proof` for proofs; `--budget N` and `--grow SEED` have a number; FILE names a script
+-- what an argument gives: `-r` asks for the result lines, `--proof` for proofs and `--write` for the script; `--budget N` and `--grow SEED` have a number; FILE names a script
 pub data Kind : Type 0 where
   lines : Kind
   budget : Kind
   proofs : Kind
+  written : Kind
   seed : Kind
   file : Kind
 
@@ -20,11 +23,12 @@ abbrev pub is_same : Kind → Kind → Bool
 is_same lines lines = true
 is_same budget budget = true
 is_same proofs proofs = true
+is_same written written = true
 is_same seed seed = true
 is_same file file = true
 is_same a b = false
 
--- an argument with its value, which is empty for `-r` and `--proof`
+-- an argument with its value, which is empty for `-r`, `--proof` and `--write`
 pub record Argument : Type 0 where
   pub kind : Kind
   pub value : List ℕ
@@ -59,9 +63,10 @@ word_of word =
     if bytes_eq word (codes "--") then end_of_options
     else (if bytes_eq word (codes "-r") then whole (argument lines [])
     else (if bytes_eq word (codes "--proof") then whole (argument proofs [])
+    else (if bytes_eq word (codes "--write") then whole (argument written [])
     else (if bytes_eq word (codes "--budget") then option budget
     else (if bytes_eq word (codes "--grow") then option seed
-    else with_attached word))))
+    else with_attached word)))))
 
 abbrev pub with_argument : Argument → Option (List Argument) → Option (List Argument)
 with_argument a = option_map (λ behind. a ∷ behind)
@@ -94,6 +99,7 @@ is_in_range a = elim a.kind [
   | lines ↦ true
   | budget ↦ is_number 1000000 a.value
   | proofs ↦ true
+  | written ↦ true
   | seed ↦ is_number 4294967295 a.value
   | file ↦ true
 ]
@@ -107,11 +113,18 @@ is_each_once (a ∷ behind) = not (list_any (λ b. is_same a.kind b.kind) behind
 abbrev pub value_of : Kind → List Argument → Option (List ℕ)
 value_of kind arguments = option_map (λ a. a.value) (find (λ a. is_same kind a.kind) arguments)
 
--- either a FILE, or a seed of which no proofs are asked for
-abbrev pub source_of : Bool → Option (List ℕ) → Option ℕ → Option Source
-source_of proves (Some name) None = Some (File name)
-source_of false None (Some number) = Some (Seed number)
-source_of proves named grown = None
+-- what is printed: result lines, or proofs where `--proof` is given, or the script where `--write` is; not both
+abbrev pub output_of : Bool → Bool → Option Output
+output_of false false = Some Lines
+output_of true false = Some Proofs
+output_of false true = Some Script
+output_of true true = None
+
+-- either a FILE, or a seed, of which lines alone are printed
+abbrev pub source_of : Output → Option (List ℕ) → Option ℕ → Option Source
+source_of output (Some name) None = Some (File name)
+source_of Lines None (Some number) = Some (Seed number)
+source_of output named grown = None
 
 abbrev pub is_given : Kind → List Argument → Bool
 is_given kind arguments = is_some (value_of kind arguments)
@@ -123,22 +136,26 @@ number_by kind arguments = option_map number_of (value_of kind arguments)
 abbrev pub is_accepted : List Argument → Bool
 is_accepted arguments = is_each_once arguments && list_all is_in_range arguments
 
--- the command of arguments that name this source
-abbrev pub command_from : List Argument → Source → Command
-command_from arguments source = record {
+-- the command of arguments that ask for this output and name this source
+abbrev pub command_from : List Argument → Output → Source → Command
+command_from arguments output source = record {
   shows = is_given lines arguments;
   budget = unwrap_or (number_by budget arguments) 100000;
-  proves = is_given proofs arguments;
+  output = output;
   source = source;
 }
 
+-- the command of arguments that ask for this output
+abbrev pub command_for : List Argument → Output → Option Command
+command_for arguments output = option_map (command_from arguments output) (source_of output (value_of file arguments) (number_by seed arguments))
+
 abbrev pub command_by : List Argument → Option Command
-command_by arguments = option_map (command_from arguments) (source_of (is_given proofs arguments) (value_of file arguments) (number_by seed arguments))
+command_by arguments = option_and_then (command_for arguments) (output_of (is_given proofs arguments) (is_given written arguments))
 
 abbrev pub command_if_accepted : List Argument → Option Command
 command_if_accepted arguments = if is_accepted arguments then command_by arguments else None
 
 -- What the words say, the first of which is the program's name. Each argument is given at most once, in any order, with a number in its range; and either FILE
--- or a seed, with which `--proof` does not stand. Without `--budget` the budget is 100000.
+-- or a seed. Of `--proof`, `--write` and a seed only one stands. Without `--budget` the budget is 100000.
 abbrev pub command_of : List (List ℕ) → Option Command
 command_of words = option_and_then command_if_accepted (arguments_from None (drop 1 words))

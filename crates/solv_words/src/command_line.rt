@@ -3,13 +3,24 @@ ghost use Rattle.std.specs.Prelude.{◌≡◌, ◌≤◌, ℕ, true, List, Optio
 ghost use Rattle.std.specs.List.{list_all};
 ghost use Rattle.std.specs.Option.{option_copied};
 ghost use Rattle.clap.specs.Words.{app_of};
-ghost use Rattle.solv_words.specs.CommandLine.{Argument, budget, command_by, command_of, file, is_accepted, is_given, is_in_range, lines, number_by, proofs, seed, source_of, value_of};
+ghost use Rattle.solv_words.specs.CommandLine.{Argument, budget, command_by, command_of, file, is_accepted, is_given, is_in_range, lines, number_by, output_of, proofs, seed, source_of, value_of, written};
 ghost use Rattle.solv_words.specs.Inner.Clap.{HasRows, form};
 
 use clap::error::ErrorKind;
 use clap::{Arg, ArgAction, ArgMatches, value_parser};
 use solv_list::Text;
 use std::alloc::{AllocError, Global};
+
+/// What is printed.
+#[derive(Clone, Copy, PartialEq, Eq, Debug)]
+pub enum Output {
+    /// Result lines.
+    Lines,
+    /// Proofs of the problems, in place of all lines.
+    Proofs,
+    /// The script itself, as one text.
+    Script,
+}
 
 /// What is solved: the script in a file, or the one that a seed gives.
 #[derive(Drop)]
@@ -19,13 +30,12 @@ pub enum Source {
 }
 
 /// What a command line says: whether the result lines are printed also where a script says which it expects, how many rules
-/// may be learnt, whether proofs of the problems are printed in place of all lines, and what is solved. Of the script of a
-/// seed no proofs are printed.
+/// may be learnt, what is printed, and what is solved. Of the script of a seed result lines alone are printed.
 #[derive(Drop)]
 pub struct Command {
     pub shows: bool,
     pub budget: u32,
-    pub proves: bool,
+    pub output: Output,
     pub source: Source,
 }
 
@@ -45,6 +55,9 @@ fn form<'a>(alloc: Global) -> Result<clap::Command<'a>, AllocError>
     let proofs = Arg::new(alloc, "proof")
         .long("proof")
         .action(ArgAction::SetTrue);
+    let written = Arg::new(alloc, "write")
+        .long("write")
+        .action(ArgAction::SetTrue);
     let seed = Arg::new(alloc, "grow")
         .long("grow")
         .value_parser(value_parser!(u32));
@@ -54,6 +67,7 @@ fn form<'a>(alloc: Global) -> Result<clap::Command<'a>, AllocError>
         .arg(lines)?
         .arg(budget)?
         .arg(proofs)?
+        .arg(written)?
         .arg(seed)?
         .arg(file)
 }
@@ -79,6 +93,13 @@ fn proves_in(matches: &ArgMatches) -> bool
     matches.get_flag("proof")
 }
 
+/// Whether `--write` is given.
+fn writes_in(matches: &ArgMatches) -> bool
+    ensures { (arguments : List Argument) → HasRows arguments matches.now → result ≡ is_given written arguments }
+{
+    matches.get_flag("write")
+}
+
 /// The number of `--grow`.
 fn seed_in(matches: &ArgMatches) -> Option<u32>
     ensures { (arguments : List Argument) → HasRows arguments matches.now → list_all is_in_range arguments ≡ true → result ≡ number_by seed arguments }
@@ -93,21 +114,33 @@ fn file_in<'a>(matches: &ArgMatches<'a>) -> Option<&'a str>
     matches.get_str("FILE")
 }
 
-/// What is solved: a file, or a seed of which no proofs are asked for, and not both.
+/// What is printed: result lines, or proofs, or the script; none where both proofs and the script are asked for.
+fn output_of(proves: bool, writes: bool) -> Option<Output>
+    ensures { result ≡ output_of proves writes }
+{
+    match (proves, writes) {
+        (false, false) => Some(Output::Lines),
+        (true, false) => Some(Output::Proofs),
+        (false, true) => Some(Output::Script),
+        (true, true) => None,
+    }
+}
+
+/// What is solved: a file, or a seed of which result lines are printed, and not both.
 fn source_of(
     alloc: Global,
-    proves: bool,
+    output: Output,
     file: Option<&str>,
     seed: Option<u32>,
 ) -> Result<Option<Source>, AllocError>
-    ensures { IfOk result (λ source. source ≡ source_of proves (option_copied file.entry) seed) }
+    ensures { IfOk result (λ source. source ≡ source_of output (option_copied file.entry) seed) }
 {
     match (file, seed) {
         (Some(name), None) => {
             let name = String::from_str(alloc, name)?;
             Ok(Some(Source::File(Text::wrap(name))))
         }
-        (None, Some(seed)) if !proves => Ok(Some(Source::Seed(seed))),
+        (None, Some(seed)) if output == Output::Lines => Ok(Some(Source::Seed(seed))),
         _ => Ok(None),
     }
 }
@@ -116,13 +149,15 @@ fn source_of(
 fn command_in(alloc: Global, matches: &ArgMatches) -> Result<Option<Command>, AllocError>
     ensures { (arguments : List Argument) → HasRows arguments matches.now → is_accepted arguments ≡ true → IfOk result (λ command. command ≡ command_by arguments) }
 {
-    let proves = proves_in(matches);
-    match source_of(alloc, proves, file_in(matches), seed_in(matches))? {
+    let Some(output) = output_of(proves_in(matches), writes_in(matches)) else {
+        return Ok(None);
+    };
+    match source_of(alloc, output, file_in(matches), seed_in(matches))? {
         None => Ok(None),
         Some(source) => Ok(Some(Command {
             shows: shows_in(matches),
             budget: budget_in(matches).unwrap_or(BUDGET),
-            proves,
+            output,
             source,
         })),
     }

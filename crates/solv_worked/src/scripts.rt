@@ -65,7 +65,7 @@ pub fn packages_of_scripts()
     ensures namespace_words { refused (codes "namespace language(de)") ≡ at 1 BadWords }
     ensures namespace_name { refused (codes "namespace language(de) nosuch") ≡ at 1 BadNamespace }
     ensures namespace_package { refused (with_packages (codes "namespace namespace:x(y) A-1-1.noarch@a nosuch")) ≡ at 4 UnknownPackage }
-    ensures namespaces { map_given (λ s. s.task.namespaces) (given (with_packages (codes "namespace namespace:x(y) B-2.noarch@a @SYSTEM\nnamespace namespace:x(y) B-2.noarch@a"))) ≡ Some ((codes "namespace:x(y)", 2 ∷ 0 ∷ []) ∷ (codes "namespace:x(y)", 2 ∷ []) ∷ []) }
+    ensures namespaces { map_given (λ s. s.task.namespaces) (given (with_packages (codes "namespace namespace:x(y) B-2.noarch@a @SYSTEM\nnamespace namespace:z() @SYSTEM\nnamespace namespace:x(y) B-2.noarch@a"))) ≡ Some ((codes "namespace:x(y)", 2 ∷ 0 ∷ 2 ∷ []) ∷ (codes "namespace:z()", 0 ∷ []) ∷ []) }
     ensures disable_words { refused (with_packages (codes "disable name A")) ≡ at 4 BadWords }
     ensures disable_package { refused (codes "disable pkg A-1-1.noarch@a\n" ++ with_packages []) ≡ at 1 UnknownPackage }
     ensures disable_system { refused (with_packages (codes "disable pkg @SYSTEM")) ≡ at 4 UnknownPackage }

@@ -10,12 +10,13 @@ use Rattle.clap.specs.declared.builder.value_parser.ValueParser.TheVariants.{Sig
 use Rattle.clap.specs.declared.parser.matches.ArgMatches.{ArgMatches}
 use Rattle.clap.specs.declared.parser.matches.ValueSource.TheVariants.{CommandLine}
 use Rattle.clap.specs.Simple as simple
-use Rattle.solv_words.specs.CommandLine.{Argument, Kind, lines, budget, proofs, seed, file}
+use Rattle.solv_words.specs.CommandLine.{Argument, Kind, lines, budget, proofs, written, seed, file}
 
 abbrev pub id_of : Kind → Text
 id_of lines = codes "lines"
 id_of budget = codes "budget"
 id_of proofs = codes "proof"
+id_of written = codes "write"
 id_of seed = codes "grow"
 id_of file = codes "FILE"
 
@@ -24,6 +25,7 @@ abbrev pub told_of : Kind → Rule
 told_of lines = record (new_rule (codes "lines")) { short = Some 114; action = Some SetTrue }
 told_of budget = record (new_rule (codes "budget")) { long = Some (codes "budget"); parser = Some (Signed (pos 0) (pos 1000000)) }
 told_of proofs = record (new_rule (codes "proof")) { long = Some (codes "proof"); action = Some SetTrue }
+told_of written = record (new_rule (codes "write")) { long = Some (codes "write"); action = Some SetTrue }
 told_of seed = record (new_rule (codes "grow")) { long = Some (codes "grow"); parser = Some (Signed (pos 0) (pos 4294967295)) }
 told_of file = new_rule (codes "FILE")
 
@@ -31,7 +33,7 @@ abbrev pub without_help : App
 without_help = record (new_app (codes "testsolv")) { top = record (new_app (codes "testsolv")).top { disable_help_flag = true } }
 
 abbrev pub form : App
-form = with_rule (with_rule (with_rule (with_rule (with_rule without_help (told_of lines)) (told_of budget)) (told_of proofs)) (told_of seed)) (told_of file)
+form = with_rule (with_rule (with_rule (with_rule (with_rule (with_rule without_help (told_of lines)) (told_of budget)) (told_of proofs)) (told_of written)) (told_of seed)) (told_of file)
 
 -- the same, as a parse reads them
 abbrev pub rules : List Rule
@@ -42,11 +44,19 @@ abbrev pub reading_of_kind : Kind → Reading
 reading_of_kind lines = AsWritten
 reading_of_kind budget = WithoutMinus
 reading_of_kind proofs = AsWritten
+reading_of_kind written = AsWritten
 reading_of_kind seed = WithoutMinus
 reading_of_kind file = AsWritten
 
 abbrev pub values_of : Argument → List Text
-values_of a = elim a.kind [ lines ↦ codes "true" ∷ [] | budget ↦ a.value ∷ [] | proofs ↦ codes "true" ∷ [] | seed ↦ a.value ∷ [] | file ↦ a.value ∷ [] ]
+values_of a = elim a.kind [
+  | lines ↦ codes "true" ∷ []
+  | budget ↦ a.value ∷ []
+  | proofs ↦ codes "true" ∷ []
+  | written ↦ codes "true" ∷ []
+  | seed ↦ a.value ∷ []
+  | file ↦ a.value ∷ []
+]
 
 abbrev pub row_of : Argument → Row
 row_of a = record { id = id_of a.kind; values = values_of a; count = None; source = Some CommandLine; reading = reading_of_kind a.kind }
@@ -56,7 +66,7 @@ rows_by arguments = map row_of arguments
 
 -- the rows of arguments, and of each flag that is not given
 abbrev pub rows_with_flags : List Argument → List Row
-rows_with_flags arguments = with_default (with_default (rows_by arguments) (simple.filled (told_of lines))) (simple.filled (told_of proofs))
+rows_with_flags arguments = with_default (with_default (with_default (rows_by arguments) (simple.filled (told_of lines))) (simple.filled (told_of proofs))) (simple.filled (told_of written))
 
 -- the matches are those of these arguments
 abbrev pub HasRows : List Argument → ArgMatches → Type 0

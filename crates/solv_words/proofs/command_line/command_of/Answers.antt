@@ -1,7 +1,6 @@
-use Rattle.std.proofs.Common.{◌≡◌, ◌∙◌, ap, ap₂, sym, refl, rules, map, drop, List, [], ◌∷◌, ℕ, Option, Some, None, true≢false, inl, inr}
+use Rattle.std.proofs.Common.{◌≡◌, ◌∙◌, ap, sym, map, List, [], ℕ, true≢false, inl, inr}
 use Rattle.std.specs.Prelude.{string_bytes}
-use Rattle.clap.specs.Words.{app_of, fault_of, is_simple, is_simple_and_free, matches_of, rows_of, found_of, kind_of}
-use Rattle.clap.specs.declared.error.kind.ErrorKind.TheVariants.{OutOfMemory}
+use Rattle.clap.specs.Words.{app_of, fault_of, is_simple, is_simple_and_free, matches_of}
 use Rattle.solv_list.proofs.Answers.{ok_map}
 use Rattle.solv_words.specs.Inner.Clap.{form}
 use Rattle.solv_words.proofs.ClapArguments.{is_calm}

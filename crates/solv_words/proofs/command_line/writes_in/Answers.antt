@@ -1,0 +1,18 @@
+use Rattle.std.proofs.Common.{◌≡◌, ◌∙◌, ap, Bool, true, false, codes, Some}
+use Rattle.std.specs.Prelude.{if◌then◌else◌}
+use Rattle.clap.specs.Matches.{found_of, one_text}
+use Rattle.clap.specs.Walk.{one_of}
+use Rattle.clap.proofs.WalkLemmas.{one_text-rows}
+use Rattle.solv_words.specs.CommandLine.{is_given, written}
+use Rattle.solv_words.proofs.ClapForm.{written_flag_is}
+use Rattle.solv_words.proofs.command_line.writes_in.Goals as goal
+
+pub returns : goal.returns
+returns c arguments rows =
+    let text : one_text (found_of c.args.matches.now) (codes "write") ≡ Some (if is_given written arguments then codes "true" else codes "false") =
+    one_text-rows (found_of c.args.matches.now) (codes "write") ∙ ap (one_of (codes "write")) rows ∙ written_flag_is arguments in
+    by (is_given written arguments) text
+  where
+    by : (b : Bool) → one_text (found_of c.args.matches.now) (codes "write") ≡ Some (if b then codes "true" else codes "false") → c.get_flag.result ≡ b
+    by true e = c.get_flag.ensures.value e
+    by false e = c.get_flag.ensures.other e

@@ -1,0 +1,4 @@
+pub mod TagLines
+pub mod ScriptTexts
+pub mod WrittenBack
+pub mod Inner
