@@ -1,12 +1,12 @@
 //! A core, and its runs.
-ghost use Rattle.std.specs.Prelude.{◌≡◌, ◌⊎◌, ◌^◌, ◌≤◌, ◌+◌, ◌*◌, ◌==◌, ◌++◌, ◌∷◌, [], true, List, length, take, nat_lt, IfOk, OnOk, OnErr};
+ghost use Rattle.std.specs.Prelude.{◌≡◌, ◌^◌, ◌≤◌, ◌+◌, ◌*◌, ◌==◌, ◌++◌, ◌∷◌, [], true, List, length, take, nat_lt, IfOk, OnOk, OnErr};
 ghost use Rattle.std.specs.List.{list_all};
 ghost use Rattle.solv_derive.specs.Range.{are_over};
 ghost use Rattle.solv_trail.specs.Propagated.{in_use};
 ghost use Rattle.solv_watch.specs.Inner.Watching.{AreChained, AreHeads, AreNarrow};
 ghost use Rattle.solv_core.specs.Inner.Cores.{none_in_use, numbers_in_use};
 ghost use Rattle.solv_core.specs.Inner.Holding.{IsBegun, IsHeldBy, entry_of};
-ghost use Rattle.solv_core.specs.Inner.Ledgers.{GrowsLedger, in_use_after, run_of};
+ghost use Rattle.solv_core.specs.Inner.Ledgers.{GrowsLedger, LeftByRefusal, in_use_after, run_of};
 ghost use Rattle.solv_core.specs.Ledgers.{IsGoodLedger};
 ghost use Rattle.solv_core.specs.Inner.Contradictions.{IsWhatRefutes};
 ghost use Rattle.solv_core.specs.Inner.Settling.{HasLearnt};
@@ -270,9 +270,8 @@ impl Core {
         ensures held { IsHeldBy self.new ledger.new }
         ensures ledger { GrowsLedger ledger.old ledger.new }
         ensures run { OnOk result (ledger.new.runs ≡ ledger.old.runs ++ run_of self.old enabled.now ledger.old.entries ∷ []) }
-        ensures runs { OnErr result ((ledger.new ≡ ledger.old) ⊎ (ledger.new.runs ≡ ledger.old.runs ++ run_of self.old enabled.now ledger.old.entries ∷ [])) }
         ensures in_use { OnOk result (numbers_in_use self.new.in_use ≡ in_use_after (run_of self.old enabled.now ledger.old.entries) ledger.old.entries ledger.new.entries) }
-        ensures refused { OnErr result ((self.new ≡ self.old) ⊎ (numbers_in_use self.new.in_use ≡ in_use_after (run_of self.old enabled.now ledger.old.entries) ledger.old.entries ledger.new.entries)) }
+        ensures refused { OnErr result (LeftByRefusal enabled.now ledger.old ledger.new self.old self.new) }
         ensures good { IsGoodLedger self.old.made.clauses self.old.made.owners self.old.made.packages (G.asks guide.now) ledger.old → IsGoodLedger self.old.made.clauses self.old.made.owners self.old.made.packages (G.asks guide.now) ledger.new }
         ensures spent { IfOk result (λ v. is_spent_verdict v ≡ (length ledger.new.entries == ledger.new.budget + 1)) }
         ensures refutation { IfOk result (IsRefutation self.old.made.clauses self.old.made.owners enabled.now) }
@@ -299,9 +298,8 @@ impl Core {
         ensures held { IsHeldBy self.new ledger.new }
         ensures ledger { GrowsLedger ledger.old ledger.new }
         ensures run { OnOk result (ledger.new.runs ≡ ledger.old.runs ++ run_of self.old enabled.now ledger.old.entries ∷ []) }
-        ensures runs { OnErr result ((ledger.new ≡ ledger.old) ⊎ (ledger.new.runs ≡ ledger.old.runs ++ run_of self.old enabled.now ledger.old.entries ∷ [])) }
         ensures in_use { OnOk result (numbers_in_use self.new.in_use ≡ in_use_after (run_of self.old enabled.now ledger.old.entries) ledger.old.entries ledger.new.entries) }
-        ensures refused { OnErr result ((self.new ≡ self.old) ⊎ (numbers_in_use self.new.in_use ≡ in_use_after (run_of self.old enabled.now ledger.old.entries) ledger.old.entries ledger.new.entries)) }
+        ensures refused { OnErr result (LeftByRefusal enabled.now ledger.old ledger.new self.old self.new) }
         ensures good { IsGoodLedger self.old.made.clauses self.old.made.owners self.old.made.packages (G.asks guide.now) ledger.old → IsGoodLedger self.old.made.clauses self.old.made.owners self.old.made.packages (G.asks guide.now) ledger.new }
         ensures spent { IfOk result (λ v. is_spent_verdict v ≡ (length ledger.new.entries == ledger.new.budget + 1)) }
         ensures refutation { IfOk result (IsRefutation self.old.made.clauses self.old.made.owners enabled.now) }

@@ -1,12 +1,12 @@
 //! The answer for a task: one run with every rule enabled.
 ghost use Rattle.std.specs.Prelude.{◌≡◌, ◌≤◌, ◌+◌, ◌==◌, ◌∷◌, [], None, true, length, take, replicate, IfOk};
-ghost use Rattle.std.specs.List.{list_all};
+ghost use Rattle.std.specs.List.{list_all, range_with_len};
 ghost use Rattle.solv_pool.specs.Catalog.{catalog_of};
 ghost use Rattle.solv_pool.specs.TaskBelonging.{IsClosed};
 ghost use Rattle.solv_prov.specs.Index.{IsIndexOf};
 ghost use Rattle.solv_jobs.specs.Marking.{HasMarks};
 ghost use Rattle.solv_rules.specs.Books.{IsBook, first_fault, is_bookable, read_rules};
-ghost use Rattle.solv_core.specs.Inner.Cores.{none_in_use};
+ghost use Rattle.solv_core.specs.Inner.Cores.{none_in_use, numbers_in_use};
 ghost use Rattle.solv_core.specs.Inner.Holding.{IsHeldBy};
 ghost use Rattle.solv_core.specs.Ledgers.{IsGoodLedger};
 ghost use Rattle.solv_core.specs.Inner.Running.{is_spent_verdict};
@@ -105,6 +105,7 @@ fn decide_with(
     ensures held { IfOk result (λ d. IsHeldBy d.core d.ledger) }
     ensures core { IfOk result (λ d. d.core.made ≡ record { clauses = book.now.clauses; owners = book.now.owners; packages = length task.now.universe.packages }) }
     ensures run { IfOk result (λ d. d.ledger.runs ≡ (record { enabled = replicate (length book.now.rules.list) true; kept = [] }) ∷ []) }
+    ensures in_use { IfOk result (λ d. numbers_in_use d.core.in_use ≡ range_with_len 0 (length d.ledger.entries)) }
     ensures good { IfOk result (λ d. IsGoodLedger book.now.clauses book.now.owners (length task.now.universe.packages) (asks (request_of task.now marks.now)) d.ledger) }
     ensures spent { IfOk result (λ d. is_spent_verdict d.verdict ≡ (length d.ledger.entries == budget + 1)) }
     ensures decided { IfOk result (λ d. IsDecided (request_of task.now marks.now) (replicate (length book.now.rules.list) true) (record { clauses = book.now.clauses; owners = book.now.owners; packages = length task.now.universe.packages }) d.verdict) }
@@ -148,6 +149,7 @@ pub fn decide(
     ensures held { IfOk result (λ d. IsHeldBy d.core d.ledger) }
     ensures core { IfOk result (λ d. d.core.made ≡ record { clauses = book.now.clauses; owners = book.now.owners; packages = length task.now.universe.packages }) }
     ensures run { IfOk result (λ d. d.ledger.runs ≡ (record { enabled = replicate (length book.now.rules.list) true; kept = [] }) ∷ []) }
+    ensures in_use { IfOk result (λ d. numbers_in_use d.core.in_use ≡ range_with_len 0 (length d.ledger.entries)) }
     ensures good { IfOk result (λ d. IsGoodLedger book.now.clauses book.now.owners (length task.now.universe.packages) (asks (request_of task.now marks.now)) d.ledger) }
     ensures spent { IfOk result (λ d. is_spent_verdict d.verdict ≡ (length d.ledger.entries == budget + 1)) }
     ensures decided { IfOk result (λ d. IsDecided (request_of task.now marks.now) (replicate (length book.now.rules.list) true) (record { clauses = book.now.clauses; owners = book.now.owners; packages = length task.now.universe.packages }) d.verdict) }
@@ -187,6 +189,7 @@ pub fn decide_on(
     ensures held { IfOk result (λ d. IsHeldBy d.core d.ledger) }
     ensures core { IfOk result (λ d. d.core.made ≡ record { clauses = book.now.clauses; owners = book.now.owners; packages = length task.now.universe.packages }) }
     ensures run { IfOk result (λ d. d.ledger.runs ≡ (record { enabled = replicate (length book.now.rules.list) true; kept = [] }) ∷ []) }
+    ensures in_use { IfOk result (λ d. numbers_in_use d.core.in_use ≡ range_with_len 0 (length d.ledger.entries)) }
     ensures good { IfOk result (λ d. IsGoodLedger book.now.clauses book.now.owners (length task.now.universe.packages) (asks (request_of task.now marks.now)) d.ledger) }
     ensures spent { IfOk result (λ d. is_spent_verdict d.verdict ≡ (length d.ledger.entries == budget + 1)) }
     ensures decided { IfOk result (λ d. IsDecided (request_of task.now marks.now) (replicate (length book.now.rules.list) true) (record { clauses = book.now.clauses; owners = book.now.owners; packages = length task.now.universe.packages }) d.verdict) }

@@ -1,8 +1,9 @@
 //! The questions of a task as a guide that remembers what is settled.
-ghost use Rattle.std.specs.Prelude.{◌≡◌, ◌⊎◌, ◌≤◌, ◌+◌, ◌==◌, ◌++◌, ◌∷◌, [], true, length, take, drop, nat_lt, IfOk, IfSome, OnOk, OnErr};
+ghost use Rattle.std.specs.Prelude.{◌≡◌, ◌≤◌, ◌+◌, ◌==◌, ◌++◌, ◌∷◌, [], true, length, take, drop, nat_lt, IfOk, IfSome, OnOk, OnErr};
 ghost use Rattle.std.specs.List.{list_all};
+ghost use Rattle.solv_core.specs.Inner.Cores.{numbers_in_use};
 ghost use Rattle.solv_core.specs.Inner.Holding.{IsHeldBy};
-ghost use Rattle.solv_core.specs.Inner.Ledgers.{GrowsLedger, run_of};
+ghost use Rattle.solv_core.specs.Inner.Ledgers.{GrowsLedger, LeftByRefusal, in_use_after, run_of};
 ghost use Rattle.solv_pool.specs.Propagation.{is_fact};
 ghost use Rattle.solv_core.specs.Ledgers.{IsGoodLedger};
 ghost use Rattle.solv_core.specs.Inner.Running.{IsFound, IsRefutation, is_log_over, is_spent_verdict};
@@ -119,7 +120,8 @@ pub(crate) fn run_recalling<K: Planned>(
     ensures held { IsHeldBy core.new ledger.new }
     ensures ledger { GrowsLedger ledger.old ledger.new }
     ensures run { OnOk result (ledger.new.runs ≡ ledger.old.runs ++ run_of core.old enabled.now ledger.old.entries ∷ []) }
-    ensures runs { OnErr result ((ledger.new ≡ ledger.old) ⊎ (ledger.new.runs ≡ ledger.old.runs ++ run_of core.old enabled.now ledger.old.entries ∷ [])) }
+    ensures in_use { OnOk result (numbers_in_use core.new.in_use ≡ in_use_after (run_of core.old enabled.now ledger.old.entries) ledger.old.entries ledger.new.entries) }
+    ensures refused { OnErr result (LeftByRefusal enabled.now ledger.old ledger.new core.old core.new) }
     ensures good { IsGoodLedger core.old.made.clauses core.old.made.owners core.old.made.packages (plan_asks phases.now.plan) ledger.old → IsGoodLedger core.old.made.clauses core.old.made.owners core.old.made.packages (plan_asks phases.now.plan) ledger.new }
     ensures spent { IfOk result (λ v. is_spent_verdict v ≡ (length ledger.new.entries == ledger.new.budget + 1)) }
     ensures refutation { IfOk result (IsRefutation core.old.made.clauses core.old.made.owners enabled.now) }

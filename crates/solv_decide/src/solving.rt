@@ -1,8 +1,9 @@
 //! Sets that meet the enabled rules of a task, by its questions.
-ghost use Rattle.std.specs.Prelude.{◌≡◌, ◌⊎◌, ◌≤◌, ◌+◌, ◌==◌, ◌++◌, ◌∷◌, [], true, length, take, drop, nat_lt, IfOk, OnOk, OnErr};
+ghost use Rattle.std.specs.Prelude.{◌≡◌, ◌≤◌, ◌+◌, ◌==◌, ◌++◌, ◌∷◌, [], true, length, take, drop, nat_lt, IfOk, OnOk, OnErr};
 ghost use Rattle.std.specs.List.{list_all};
+ghost use Rattle.solv_core.specs.Inner.Cores.{numbers_in_use};
 ghost use Rattle.solv_core.specs.Inner.Holding.{IsHeldBy};
-ghost use Rattle.solv_core.specs.Inner.Ledgers.{GrowsLedger, run_of};
+ghost use Rattle.solv_core.specs.Inner.Ledgers.{GrowsLedger, LeftByRefusal, in_use_after, run_of};
 ghost use Rattle.solv_core.specs.Ledgers.{IsGoodLedger};
 ghost use Rattle.solv_core.specs.Inner.Running.{is_log_over, is_spent_verdict};
 ghost use Rattle.solv_questions.specs.Questions.{Request, asks};
@@ -21,7 +22,7 @@ use std::marker::Brand;
 /// Looks for a set that meets the enabled rules: as the questions of the task ask, with what follows from each choice, and with what is learnt where
 /// choices clash. `enabled` has an entry for each rule of the core. The ledger gets this run, and what it learnt.
 ///
-/// Where memory runs out, it may be tried again.
+/// Where memory runs out, it may be tried again: core and ledger are as before, or both have this run, and what it learnt until then.
 pub fn solve(
     phases: &Phases,
     core: &mut Core,
@@ -37,7 +38,8 @@ pub fn solve(
     ensures held { IsHeldBy core.new ledger.new }
     ensures ledger { GrowsLedger ledger.old ledger.new }
     ensures run { OnOk result (ledger.new.runs ≡ ledger.old.runs ++ run_of core.old enabled.now ledger.old.entries ∷ []) }
-    ensures runs { OnErr result ((ledger.new ≡ ledger.old) ⊎ (ledger.new.runs ≡ ledger.old.runs ++ run_of core.old enabled.now ledger.old.entries ∷ [])) }
+    ensures in_use { OnOk result (numbers_in_use core.new.in_use ≡ in_use_after (run_of core.old enabled.now ledger.old.entries) ledger.old.entries ledger.new.entries) }
+    ensures refused { OnErr result (LeftByRefusal enabled.now ledger.old ledger.new core.old core.new) }
     ensures good { (r : Request) → IsAskedFor r phases.now core.old.made → IsGoodLedger core.old.made.clauses core.old.made.owners core.old.made.packages (asks r) ledger.old → IsGoodLedger core.old.made.clauses core.old.made.owners core.old.made.packages (asks r) ledger.new }
     ensures spent { IfOk result (λ v. is_spent_verdict v ≡ (length ledger.new.entries == ledger.new.budget + 1)) }
     ensures log_over { IfOk result (λ v. is_log_over core.old.made.packages v ≡ true) }

@@ -1,5 +1,5 @@
 -- What runs leave of a ledger.
-use Rattle.std.specs.Prelude.{◌≡◌, ◌≤◌, ◌+◌, ◌-◌, ◌==◌, ◌++◌, ℕ, Bool, true, List, length, filter, take, drop}
+use Rattle.std.specs.Prelude.{◌≡◌, ◌⊎◌, ◌≤◌, ◌+◌, ◌-◌, ◌==◌, ◌++◌, ◌∷◌, [], ℕ, Bool, true, List, length, filter, take, drop}
 use Rattle.std.specs.List.{list_all, range_with_len}
 use Rattle.solv_core.specs.Ledgers.{rests_on_enabled}
 use Rattle.solv_core.specs.Inner.Cores.{LearningCore, numbers_in_use}
@@ -26,3 +26,9 @@ run_of core enabled entries = record { enabled = enabled; kept = filter (rests_o
 -- the entries in use at the end of a run: those that it kept, and those behind the earlier ones
 abbrev pub in_use_after : Run → List Entry → List Entry → List ℕ
 in_use_after run before after = run.kept ++ range_with_len (length before) (length after - length before)
+
+-- what a run with these rules enabled leaves where it is refused memory: ledger and core as before, or a ledger that has the run and what it learnt until then, and
+-- a core that uses what the run kept and learnt
+abbrev pub LeftByRefusal : List Bool → Ledger → Ledger → LearningCore → LearningCore → Type 0
+LeftByRefusal enabled before after core left =
+    ((after ≡ before) × (left ≡ core)) ⊎ ((after.runs ≡ before.runs ++ run_of core enabled before.entries ∷ []) × (numbers_in_use left.in_use ≡ in_use_after (run_of core enabled before.entries) before.entries after.entries))
