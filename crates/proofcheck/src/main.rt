@@ -1,15 +1,12 @@
 //! The program `proofcheck`: the top call over the files and the streams of the system.
 #![tactic(auto)]
 
-use solv_io::{RealFiles, RealSink};
+use solv_io::{RealFiles, RealSink, Status};
 use solv_proof_run::proof_run;
 use std::alloc::AllocError;
 use std::env;
 use std::io::ErrorKind;
 use std::process::ExitCode;
-
-/// The status of a program that ran out of memory.
-const NO_MEMORY: u8 = 6;
 
 /// The words of the command line. Where one is not UTF-8 there are none, which is no form of a command line.
 fn words(rt: &HostRuntime) -> Result<Vec<String>, AllocError> {
@@ -20,8 +17,8 @@ fn words(rt: &HostRuntime) -> Result<Vec<String>, AllocError> {
     }
 }
 
-/// Runs the top call and gives the number of its status.
-fn status(rt: &HostRuntime) -> Result<u8, AllocError> {
+/// Runs the top call and gives its status.
+fn status(rt: &HostRuntime) -> Result<Status, AllocError> {
     let words = words(rt)?;
     let mut files = RealFiles { rt, faults: 0 };
     let mut out = RealSink {
@@ -33,9 +30,9 @@ fn status(rt: &HostRuntime) -> Result<u8, AllocError> {
         faults: 0,
     };
     let report = proof_run(rt.alloc(), &words, &mut files, &mut out, &mut err)?;
-    Ok(report.status.number())
+    Ok(report.status)
 }
 
 fn main(rt: HostRuntime) -> ExitCode {
-    ExitCode::from(status(&rt).unwrap_or(NO_MEMORY))
+    ExitCode::from(status(&rt).unwrap_or(Status::Memory).number())
 }

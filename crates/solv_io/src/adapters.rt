@@ -1,4 +1,4 @@
-ghost use Rattle.std.specs.Prelude.{◌≡◌, ◌↔◌, ◌+◌, ◌≤◌, None, OnOk, IfErr, length};
+ghost use Rattle.std.specs.Prelude.{◌≡◌, ◌↔◌, ◌+◌, ◌≤◌, false, None, OnOk, IfErr, length};
 ghost use Rattle.std.specs.Io.{StartsWith};
 ghost use Rattle.std.specs.IoError.{error_kind};
 ghost use Rattle.std.specs.declared.io.ErrorKind.TheVariants.{OutOfMemory};
@@ -18,7 +18,7 @@ pub struct RealFiles<'a, R: rt::Files> {
     pub faults: u64,
 }
 
-/// A writer of std as a sink. It does not tell what was written.
+/// A writer of std as a sink. It does not tell what was written, and never runs out of memory: whatever error its writer answers counts as a failure.
 #[derive(Drop)]
 pub struct RealSink<W: io::Write> {
     /// What takes the bytes.
@@ -86,6 +86,8 @@ impl<W: io::Write> Sink for RealSink<W> {
     ghost written = { λ _. None };
 
     ghost faults = { λ sink. sink.faults };
+
+    ghost takes_memory = { false };
 
     fn write(&mut self, piece: &[u8]) -> Result<usize, SinkFault> {
         for _ in 0..u64::MAX {

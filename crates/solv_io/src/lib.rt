@@ -8,7 +8,7 @@
 //! - [`MemFiles`], [`AllFiles`], [`MemSink`], [`PlainSink`]: files and sinks in memory.
 //! - [`RealFiles`], [`RealSink`]: the adapters over std's files and writers. They are the trusted edge.
 //! - [`lines`]: the numbered lines of a text; [`split_line`]: its first line; [`split_word`]: the first word of a line; [`is_blank`]: what separates words; [`cut_at`]: what a byte separates.
-//! - [`lines_are_read_again`]: what a line is, as a law.
+//! - [`lines_are_read_again`], [`words_are_read_again`]: what lines and words are, as laws.
 //! - [`Status`]: how a program ends.
 #![tactic(auto)]
 
@@ -29,7 +29,7 @@ pub use adapters::{RealFiles, RealSink};
 pub use cutting::cut_at;
 pub use faults::{FileFault, SinkFault};
 pub use fetching::Files;
-pub use laws::lines_are_read_again;
+pub use laws::{lines_are_read_again, words_are_read_again};
 pub use line_walk::{Lines, split_line};
 pub use mem_files::{AllFiles, MemFiles};
 pub use mem_sinks::{MemSink, PlainSink};

@@ -1,4 +1,4 @@
-ghost use Rattle.std.specs.Prelude.{ℕ, ◌≡◌, ◌<◌, ◌≤◌, ◌++◌, min, length, take, List, Some, IfOk, OnErr, IfErr};
+ghost use Rattle.std.specs.Prelude.{ℕ, ◌≡◌, ◌<◌, ◌≤◌, ◌++◌, min, true, length, take, List, Some, IfOk, OnErr, IfErr};
 ghost use Rattle.solv_io.specs.Inner.Counters.{FailsExactly, calls_after, faults_after, next_fails};
 ghost use Rattle.solv_io.specs.Counters.{CountsFaults};
 ghost use Rattle.solv_io.specs.Writes.{write_ending};
@@ -36,6 +36,8 @@ impl Sink for MemSink {
 
     ghost faults = { λ sink. sink.faults };
 
+    ghost takes_memory = { true };
+
     fn write(&mut self, piece: &[u8]) -> Result<usize, SinkFault>
         ensures count { IfOk result (λ n. n ≡ min self.old.most (length piece.now)) }
         ensures took { IfOk result (λ n. self.new.taken ≡ self.old.taken ++ take n piece.now) }
@@ -67,6 +69,8 @@ impl Sink for PlainSink {
     ghost written = { λ sink. Some sink.taken };
 
     ghost faults = { λ _. 0 };
+
+    ghost takes_memory = { true };
 
     fn write(&mut self, piece: &[u8]) -> Result<usize, SinkFault>
         ensures count { IfOk result (λ n. n ≡ length piece.now) }

@@ -1,7 +1,7 @@
 ghost use Rattle.std.specs.Prelude.{◌≡◌};
 ghost use Rattle.solv_io.specs.Inner.Statuses.{status_number};
 
-/// How a program ends. Running out of memory is none of these: there a program ends with 6 and prints nothing.
+/// How a program ends.
 #[derive(Clone, Copy, PartialEq, Eq, Debug, Drop)]
 pub enum Status {
     /// An answer was reached, and nothing differs.
@@ -16,6 +16,8 @@ pub enum Status {
     WriteFault,
     /// The budget was spent before an answer.
     Spent,
+    /// Memory ran out. No report of a run says so: a program ends with it where a run has no report.
+    Memory,
     /// The words of the command line are not of its form.
     Usage,
 }
@@ -32,6 +34,7 @@ impl Status {
             Status::ReadFault => 3,
             Status::WriteFault => 4,
             Status::Spent => 5,
+            Status::Memory => 6,
             Status::Usage => 7,
         }
     }

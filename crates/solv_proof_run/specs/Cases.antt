@@ -1,5 +1,5 @@
 -- What is due in each case of a run.
-use Rattle.std.specs.Prelude.{ℕ, ◌≡◌, true, List, [], ◌∷◌, ◌++◌, Option, Some, None, Ok, Err, IfSome, slice_get}
+use Rattle.std.specs.Prelude.{ℕ, ◌≡◌, ◌⊎◌, true, List, [], ◌∷◌, ◌++◌, Option, Some, None, Ok, Err, IfSome, slice_get}
 use Rattle.solv_io.specs.Counters.{Rose}
 use Rattle.solv_pool.specs.declared.tasks.Task.{Task}
 use Rattle.solv_proof.specs.Texts.{proof_text, are_listed}
@@ -8,7 +8,7 @@ use Rattle.solv_answers.specs.Answers.{first_limit}
 use Rattle.solv_rules.specs.declared.fault.BookFault.{BookFault}
 use Rattle.solv_said.specs.Dues.{usage_due, read_fault_due, limit_due}
 use Rattle.solv_said.specs.Fetches.{IsNamed, HasScript, WasFetched, HasAskedFront, IsUnreadDue}
-use Rattle.solv_said.specs.Runs.{SinkRun, IsSaid}
+use Rattle.solv_said.specs.Runs.{SinkRun, WroteNothing, IsSaid, IsSaidInPart}
 use Rattle.solv_said.specs.declared.dues.Due.{Due}
 use Rattle.solv_script.specs.FileRuns.{FilesRun, AskedBesides, AreFetched}
 use Rattle.solv_script.specs.Grammar.{script_due}
@@ -33,6 +33,14 @@ pub record AreJudged (given : List Task) (text : List ℕ) (proofs : List Proof)
   pub refuted : AreRefuted given proofs
 
 module _ (pair : Pair) (files : FilesRun) where
+  -- the script was asked for and all files that are due by it, which gave these bytes, and behind them at most the file of proofs; and no fault was counted
+  pub record HasAskedScript (bytes : List ℕ) (fetched : List (List ℕ)) : Type 0 where
+    pub names : List (List ℕ)
+    pub asked : AskedBesides files (pair.script ∷ names) ⊎ AskedBesides files (pair.script ∷ (names ++ pair.proof ∷ []))
+    pub are : AreFetched files names fetched
+    pub all_due : names ≡ script_due pair.script fetched bytes
+    pub no_fault : files.faults_after ≡ files.faults_before
+
   -- the script was read with all files that it names, the clauses of no round pass a limit, and then the file of proofs was asked for
   pub record HasAskedProof (script : Script) : Type 0 where
     pub bytes : List ℕ
@@ -74,3 +82,8 @@ module _ (form : Option Pair) (files : FilesRun) where
   pub data HasAskedPart : Type 0 where
     script_part : HasAskedFront (script_in form) files → HasAskedPart
     proof_part : (pair : Pair) (script : Script) → form ≡ Some pair → HasAskedProof pair files script → HasAskedPart
+
+  -- what may be written before such a run ends: nothing, or a prefix of each text that is due, whatever proofs were read
+  pub data HasWrittenPart (out err : SinkRun) : Type 0 where
+    wrote_nothing : WroteNothing out → WroteNothing err → HasWrittenPart out err
+    wrote_part : (due : Due) (proofs : List Proof) → IsDueRun due proofs → IsSaidInPart due out err → HasWrittenPart out err

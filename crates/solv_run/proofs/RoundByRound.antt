@@ -16,7 +16,7 @@ use Rattle.solv_script.specs.Inner.Turns.{exchanged, first_turn}
 use Rattle.solv_script.specs.declared.scripts.Round.{Round}
 use Rattle.solv_script.specs.declared.scripts.Script.{Script}
 use Rattle.solv_words.specs.declared.command_line.Command.{Command}
-use Rattle.solv_run.specs.Inner.Rounds.{AreAll, GoesOn, HasBegun, HasNext, HasPrinted, HasTaken, IsOneMore, later_lines}
+use Rattle.solv_run.specs.Inner.Rounds.{AreAll, GoesOn, HasBegun, HasNext, HasPrinted, HasTaken, IsOneMore, later_lines, prints_lines}
 use Rattle.solv_run.specs.Rounds.{AreAnswers, IsGoodAnswer, all_answered, one_spent, then_next, some_spent}
 use Rattle.solv_run.specs.Texts.{are_as_wanted, is_as_wanted, next_lines, round_lines, rounds_lines}
 use Rattle.solv_run.specs.declared.reports.Reached.{Reached}
@@ -53,8 +53,8 @@ some_more (x ∷ xs) a h = by (is_spent x) h (λ k. some_more xs a k)
 left_over : (task : Task) (budget : ℕ) (answered : Answered) → IsGoodAnswer task budget answered.answer answered.ledger → is_spent answered.answer ≡ false → length answered.ledger.entries ≤ budget
 left_over task budget answered good unspent = within (length answered.ledger.entries) budget (few task budget answered.answer answered.ledger good) (sym good.is.learnt.spent ∙ unspent)
 
--- an answer that was taken in is one round more, where proofs are asked for
-pub taken_alone : {E : Type 0} (command : Command) (turn : Turn) (answered : Answered) (r : Result ⊤ E) (old new : Begun) → command.proves ≡ true → IsGoodAnswer turn.task old.left answered.answer answered.ledger
+-- an answer that was taken in is one round more, where no lines are asked for
+pub taken_alone : {E : Type 0} (command : Command) (turn : Turn) (answered : Answered) (r : Result ⊤ E) (old new : Begun) → prints_lines command.output ≡ false → IsGoodAnswer turn.task old.left answered.answer answered.ledger
     → OnOk r (HasTaken answered old new) → OnOk r (IsOneMore command [] turn old new)
 taken_alone command turn answered (Ok x) old new asked good took = record {
   answer = answered.answer;

@@ -1,5 +1,5 @@
 -- What is due in each case of a run.
-use Rattle.std.specs.Prelude.{ℕ, ◌≡◌, true, false, List, [], ◌∷◌, Option, Some, None}
+use Rattle.std.specs.Prelude.{ℕ, ◌≡◌, Bool, true, false, List, [], ◌∷◌, Option, Some, None}
 use Rattle.solv_pool.specs.Catalog.{catalog_of}
 use Rattle.solv_pool.specs.HardRules.{hard_rules}
 use Rattle.solv_pool.specs.declared.tasks.Task.{Task}
@@ -12,13 +12,15 @@ use Rattle.solv_script.specs.declared.scripts.Script.{Script}
 use Rattle.solv_answers.specs.declared.answers.Answer.{Answer}
 use Rattle.solv_core.specs.declared.ledger.Ledger.{Ledger}
 use Rattle.solv_words.specs.declared.command_line.Command.{Command}
+use Rattle.solv_words.specs.declared.command_line.Output.{Output}
+use Rattle.solv_words.specs.declared.command_line.Output.TheVariants as output
 use Rattle.solv_words.specs.declared.command_line.Source.{Source}
 use Rattle.solv_words.specs.declared.command_line.Source.TheVariants.{File, Seed}
 use Rattle.solv_said.specs.Dues.{limit_due, usage_due}
 use Rattle.solv_said.specs.Fetches.{IsUnreadDue, WasFetched}
-use Rattle.solv_said.specs.Runs.{SinkRun, IsSaid}
+use Rattle.solv_said.specs.Runs.{SinkRun, WroteNothing, IsSaid, IsSaidInPart}
 use Rattle.solv_said.specs.declared.dues.Due.{Due}
-use Rattle.solv_run.specs.Dues.{program, usage_line, answers_due, proofs_due, grown_due}
+use Rattle.solv_run.specs.Dues.{program, usage_line, answers_due, proofs_due, written_due, grown_due}
 use Rattle.solv_run.specs.Proofs.{HasGoodProofs}
 use Rattle.solv_answers.specs.Answers.{first_limit}
 use Rattle.solv_run.specs.Rounds.{AreAnswers, IsGoodAnswer}
@@ -33,14 +35,21 @@ nothing_reached = record { answers = []; ledgers = [] }
 abbrev pub one_reached : Answer → Ledger → Reached
 one_reached answer ledger = record { answers = answer ∷ []; ledgers = ledger ∷ [] }
 
+-- are answers asked for, as lines or as proofs, and not the script itself?
+abbrev pub asks_answers : Output → Bool
+asks_answers output.Script = false
+asks_answers o = true
+
 -- What is due for a script that was read, and what is reported of its rounds: nothing, where the clauses of one pass a limit, the first of which is told; and
--- else their answers, within the budget of the words. Where the words ask for proofs, these are due in place of lines.
+-- else their answers, within the budget of the words. Where the words ask for proofs, these are due in place of lines. Where they ask for the script itself,
+-- its text is due, and no round is looked at.
 pub data IsDueFor (command : Command) (script : Script) : Due → Reached → Type 0 where
-  passes : (fault : BookFault) → first_limit (tasks script) ≡ Some fault → IsDueFor command script (limit_due program script.task fault) nothing_reached
-  answered : (reached : Reached) → command.proves ≡ false → first_limit (tasks script) ≡ None → AreAnswers command.budget (tasks script) reached.answers reached.ledgers
+  passes : (fault : BookFault) → asks_answers command.output ≡ true → first_limit (tasks script) ≡ Some fault → IsDueFor command script (limit_due program script.task fault) nothing_reached
+  answered : (reached : Reached) → command.output ≡ output.Lines → first_limit (tasks script) ≡ None → AreAnswers command.budget (tasks script) reached.answers reached.ledgers
       → IsDueFor command script (answers_due command script reached.answers) reached
-  proved : (reached : Reached) → command.proves ≡ true → first_limit (tasks script) ≡ None → AreAnswers command.budget (tasks script) reached.answers reached.ledgers
+  proved : (reached : Reached) → command.output ≡ output.Proofs → first_limit (tasks script) ≡ None → AreAnswers command.budget (tasks script) reached.answers reached.ledgers
       → HasGoodProofs (tasks script) reached.answers → IsDueFor command script (proofs_due command.budget reached.answers) reached
+  written : command.output ≡ output.Script → IsDueFor command script (written_due script) nothing_reached
 
 -- what is due for the task of a seed: the same of one round, and of its answer one line
 pub data IsDueForGrown (budget seed : ℕ) (task : Task) : Due → Reached → Type 0 where
@@ -85,3 +94,8 @@ module _ (form : Option Command) (files : FilesRun) where
     pub due : Due
     pub is_due : IsDueRun due (record { answers = report.answers; ledgers = report.ledgers })
     pub said : IsSaid due report.status out err
+
+  -- what may be written before a run ends for lack of memory: nothing, or a prefix of each text that is due, whatever answers were reached
+  pub data HasWrittenPart (out err : SinkRun) : Type 0 where
+    wrote_nothing : WroteNothing out → WroteNothing err → HasWrittenPart out err
+    wrote_part : (due : Due) (reached : Reached) → IsDueRun due reached → IsSaidInPart due out err → HasWrittenPart out err

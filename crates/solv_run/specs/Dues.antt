@@ -5,10 +5,12 @@ use Rattle.solv_io.specs.declared.status.Status.{Status}
 use Rattle.solv_io.specs.declared.status.Status.TheVariants as status
 use Rattle.solv_pool.specs.HardRules.{hard_rules}
 use Rattle.solv_pool.specs.declared.tasks.Task.{Task}
+use Rattle.solv_script.specs.Reads.{written_script}
 use Rattle.solv_script.specs.Rounds.{turns}
 use Rattle.solv_script.specs.declared.scripts.Script.{Script}
 use Rattle.solv_answers.specs.declared.answers.Answer.{Answer}
 use Rattle.solv_answers.specs.declared.answers.Answer.TheVariants.{Transaction, Problems, Spent}
+use Rattle.solv_writing.specs.ScriptTexts.{text_of_script}
 use Rattle.solv_words.specs.declared.command_line.Command.{Command}
 use Rattle.solv_run.specs.Checks.{are_true}
 use Rattle.solv_run.specs.Proofs.{printed_proofs}
@@ -22,7 +24,7 @@ program = codes "testsolv"
 
 -- the form of the words
 abbrev pub usage_line : List ℕ
-usage_line = codes "usage: testsolv [-r] [--budget N] [--proof] [--grow SEED] FILE\n"
+usage_line = codes "usage: testsolv [-r] [--budget N] [--proof] [--write] [--grow SEED] FILE\n"
 
 -- a budget of learnt rules that is spent
 abbrev pub spent_line : ℕ → List ℕ
@@ -54,6 +56,10 @@ answers_due command script answers = record { status = answers_status script ans
 -- and where proofs are asked for: those of their problems, and nothing else; no line is compared
 abbrev pub proofs_due : ℕ → List Answer → Due
 proofs_due budget answers = record { status = plain_status answers; out = printed_proofs answers; err = spent_line_of budget answers }
+
+-- what is due where the script itself is asked for: its text, and nothing is answered or compared
+abbrev pub written_due : Script → Due
+written_due script = record { status = status.Done; out = text_of_script (written_script script); err = [] }
 
 -- an answer in few words
 abbrev pub answer_words : Answer → List ℕ

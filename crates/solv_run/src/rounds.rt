@@ -16,6 +16,7 @@ ghost use Rattle.solv_run.specs.Inner.Outcomes.{has_listed};
 ghost use Rattle.solv_run.specs.Inner.Rounds.{AreAll, GoesOn, HasBegun, HasNext, HasPrinted, HasTaken, IsOneMore};
 ghost use Rattle.solv_run.specs.Texts.{is_as_wanted, round_lines};
 
+use crate::outputs::prints_lines;
 use crate::printing::round_said;
 use crate::reports::Reached;
 use solv_answers::{Answer, Answered, Prepared, answer_in_turn, prepare_next};
@@ -28,7 +29,7 @@ use std::alloc::{AllocError, Global};
 #[derive(Drop)]
 pub(crate) struct Begun {
     pub(crate) reached: Reached,
-    /// What is printed of them, where no proofs are asked for.
+    /// What is printed of them, where lines are asked for.
     pub(crate) text: Vec<u8>,
     /// Whether the lines of each are as it expects.
     pub(crate) as_wanted: bool,
@@ -104,7 +105,7 @@ pub(crate) fn answer_round(
 {
     let keeps = !script.later.is_empty();
     let answered = answer_in_turn(alloc, &script.task, prepared, keeps, begun.left)?;
-    if command.proves {
+    if !prints_lines(command.output) {
         return begun.take(answered);
     }
     begun.print(alloc, command.shows, script, prepared, &answered.answer)?;
@@ -132,11 +133,11 @@ pub(crate) fn answer_with<'a>(
     Ok(prepared)
 }
 
-/// Puts the line before a later round at the end of the text, where no proofs are asked for.
+/// Puts the line before a later round at the end of the text, where lines are asked for.
 fn print_next(command: &Command, begun: &mut Begun) -> Result<(), AllocError>
     ensures { OnOk result (HasNext command.now begun.old begun.new) }
 {
-    if !command.proves {
+    if prints_lines(command.output) {
         begun.text.extend_from_slice(b"nextjob\n")?;
     }
     Ok(())

@@ -10,13 +10,15 @@ ghost use Rattle.solv_answers.specs.Answers.{IsPrepared, first_limit};
 ghost use Rattle.solv_answers.specs.Inner.Fronts.{MayGoOn};
 ghost use Rattle.solv_script.specs.Rounds.{tasks, turns};
 ghost use Rattle.solv_script.specs.Inner.Turns.{first_turn};
-ghost use Rattle.solv_run.specs.Cases.{IsDueFor, nothing_reached};
+ghost use Rattle.solv_words.specs.declared.command_line.Output.TheVariants as output;
+ghost use Rattle.solv_run.specs.Cases.{IsDueFor, asks_answers, nothing_reached};
 ghost use Rattle.solv_run.specs.Dues.{answers_due, answers_status};
 ghost use Rattle.solv_run.specs.Inner.Rounds.{AreAll};
 ghost use Rattle.solv_run.specs.Texts.{printed};
 
 use crate::checks::{append_false, are_true};
 use crate::dues::{Conclusion, PROGRAM, nothing_reached, status_of, unanswered};
+use crate::outputs::{asks_answers, prints_lines};
 use crate::proving::proofs_due;
 use crate::rounds::{Begun, answer_with, later_rounds};
 use crate::texts::spent_text_where;
@@ -28,11 +30,12 @@ use solv_rules::BookFault;
 use solv_said::{Due, limit_due};
 use solv_script::Script;
 use solv_words::Command;
+use solv_writing::write_script;
 use std::alloc::{AllocError, Global};
 
-/// The status of the answers to the rounds of a script, where no proofs are asked for.
+/// The status of the answers to the rounds of a script, where lines are asked for.
 fn answers_status(command: &Command, script: &Script, begun: &Begun) -> Status
-    requires plain { command.now.proves ≡ false }
+    requires plain { command.now.output ≡ output.Lines }
     requires all { AreAll command.now (tasks script.now) (turns script.now) begun.now }
     ensures { result ≡ answers_status script.now begun.now.reached.answers }
 {
@@ -48,7 +51,7 @@ fn answers_text(
     script: &Script,
     begun: &Begun,
 ) -> Result<Vec<u8>, AllocError>
-    requires plain { command.now.proves ≡ false }
+    requires plain { command.now.output ≡ output.Lines }
     requires all { AreAll command.now (tasks script.now) (turns script.now) begun.now }
     ensures { IfOk result (λ text. text.items ≡ printed command.now.shows script.now begun.now.reached.answers) }
 {
@@ -59,14 +62,14 @@ fn answers_text(
     Ok(out)
 }
 
-/// What is due for the answers to the rounds of a script, where no proofs are asked for.
+/// What is due for the answers to the rounds of a script, where lines are asked for.
 fn answers_due(
     alloc: Global,
     command: &Command,
     script: &Script,
     begun: &Begun,
 ) -> Result<Due, AllocError>
-    requires plain { command.now.proves ≡ false }
+    requires plain { command.now.output ≡ output.Lines }
     requires all { AreAll command.now (tasks script.now) (turns script.now) begun.now }
     ensures { IfOk result (λ due. due ≡ answers_due command.now script.now begun.now.reached.answers) }
 {
@@ -79,14 +82,14 @@ fn answers_due(
     })
 }
 
-/// What the rounds of a script come to, where no proofs are asked for.
+/// What the rounds of a script come to, where lines are asked for.
 fn answers_concluded(
     alloc: Global,
     command: &Command,
     script: &Script,
     begun: Begun,
 ) -> Result<Conclusion, AllocError>
-    requires plain { command.now.proves ≡ false }
+    requires plain { command.now.output ≡ output.Lines }
     requires fits { first_limit (tasks script.now) ≡ None }
     requires all { AreAll command.now (tasks script.now) (turns script.now) begun }
     ensures { IfOk result (λ conclusion. IsDueFor command.now script.now conclusion.due conclusion.reached) }
@@ -105,7 +108,7 @@ fn proofs_concluded(
     script: &Script,
     begun: Begun,
 ) -> Result<Conclusion, AllocError>
-    requires asked { command.now.proves ≡ true }
+    requires asked { command.now.output ≡ output.Proofs }
     requires fits { first_limit (tasks script.now) ≡ None }
     requires all { AreAll command.now (tasks script.now) (turns script.now) begun }
     ensures { IfOk result (λ conclusion. IsDueFor command.now script.now conclusion.due conclusion.reached) }
@@ -124,6 +127,7 @@ fn passed_due(
     script: &Script,
     fault: BookFault,
 ) -> Result<Conclusion, AllocError>
+    requires asks { asks_answers command.now.output ≡ true }
     requires closed { IsClosed script.now.task }
     requires passed { first_limit (tasks script.now) ≡ Some fault }
     ensures { IfOk result (λ conclusion. IsDueFor command.now script.now conclusion.due conclusion.reached) }
@@ -139,14 +143,15 @@ fn concluded(
     script: &Script,
     begun: Begun,
 ) -> Result<Conclusion, AllocError>
+    requires asks { asks_answers command.now.output ≡ true }
     requires fits { first_limit (tasks script.now) ≡ None }
     requires all { AreAll command.now (tasks script.now) (turns script.now) begun }
     ensures { IfOk result (λ conclusion. IsDueFor command.now script.now conclusion.due conclusion.reached) }
 {
-    if command.proves {
-        proofs_concluded(alloc, command, script, begun)
-    } else {
+    if prints_lines(command.output) {
         answers_concluded(alloc, command, script, begun)
+    } else {
+        proofs_concluded(alloc, command, script, begun)
     }
 }
 
@@ -173,6 +178,7 @@ fn rounds_due(
     script: &mut Script,
     first: Prepared<'_>,
 ) -> Result<Conclusion, AllocError>
+    requires asks { asks_answers command.now.output ≡ true }
     requires closed { All IsClosed (tasks script.old) }
     requires forms { All HasForms (tasks script.old) }
     requires first { IsPrepared script.old.task first }
@@ -189,6 +195,41 @@ fn rounds_due(
     }
 }
 
+/// What is due for a script that was read, where its answers are asked for.
+fn solved_due(
+    alloc: Global,
+    command: &Command,
+    script: &mut Script,
+) -> Result<Conclusion, AllocError>
+    requires asks { asks_answers command.now.output ≡ true }
+    requires closed { All IsClosed (tasks script.old) }
+    requires forms { All HasForms (tasks script.old) }
+    requires budget { command.now.budget ≤ 1000000 }
+    ensures { IfOk result (λ conclusion. IsDueFor command.now script.old conclusion.due conclusion.reached) }
+{
+    let prov = Providers::build(alloc, &script.task)?;
+    match prepare_first(alloc, &script.task, &prov) {
+        Ok(first) => rounds_due(alloc, command, script, first),
+        Err(BookFault::Memory) => Err(AllocError),
+        Err(fault) => passed_due(alloc, command, script, fault),
+    }
+}
+
+/// What is due where the script itself is asked for.
+fn written_due(alloc: Global, command: &Command, script: &Script) -> Result<Conclusion, AllocError>
+    requires asked { command.now.output ≡ output.Script }
+    requires closed { All IsClosed (tasks script.now) }
+    ensures { IfOk result (λ conclusion. IsDueFor command.now script.now conclusion.due conclusion.reached) }
+{
+    let _ = command;
+    let due = Due {
+        status: Status::Done,
+        out: write_script(alloc, script)?,
+        err: Bytes::wrap(Vec::new(alloc)),
+    };
+    Ok(unanswered(alloc, due))
+}
+
 /// What is due for a script that was read.
 pub(crate) fn script_due(
     alloc: Global,
@@ -200,10 +241,9 @@ pub(crate) fn script_due(
     requires budget { command.now.budget ≤ 1000000 }
     ensures { IfOk result (λ conclusion. IsDueFor command.now script.old conclusion.due conclusion.reached) }
 {
-    let prov = Providers::build(alloc, &script.task)?;
-    match prepare_first(alloc, &script.task, &prov) {
-        Ok(first) => rounds_due(alloc, command, script, first),
-        Err(BookFault::Memory) => Err(AllocError),
-        Err(fault) => passed_due(alloc, command, script, fault),
+    if asks_answers(command.output) {
+        solved_due(alloc, command, script)
+    } else {
+        written_due(alloc, command, script)
     }
 }

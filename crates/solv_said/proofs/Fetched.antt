@@ -1,5 +1,5 @@
 -- A script that was fetched, or was not.
-use Rattle.std.proofs.Common.{ℕ, ◌≡◌, ◌<◌, ◌≤◌, List, [], ◌∷◌, ◌++◌, length, map, take, Bool, true, false, nat_lt, Option, Some, None, refl, sym, ap, ◌∙◌, arith, subst, append_assoc}
+use Rattle.std.proofs.Common.{ℕ, ◌≡◌, ◌<◌, ◌≤◌, ◌+◌, List, [], ◌∷◌, ◌++◌, length, map, take, Bool, true, false, nat_lt, Option, Some, None, refl, sym, ap, ◌∙◌, arith, subst, append_assoc}
 use Rattle.std.specs.Prelude.{Result, Ok, Err, IfSome, IfErr, IsSomeAnd, IsOkAnd, unwrap_or}
 use Rattle.std.specs.Option.{option_map}
 use Rattle.std.proofs.lemmas.Bool.{ltb-true, ltb-false, lt-ltb}
@@ -95,6 +95,7 @@ record HasAskedFrontOf (piece : Piece) (files : FilesRun) : Type 0 where
   fetched : List (List ℕ)
   asked : AskedBesides files names
   are : AreFetched files (take (length fetched) names) fetched
+  few : length names ≤ length fetched + 1
   due : IsFront names (piece.due fetched)
 
 -- the second call goes on where the first one ended
@@ -131,7 +132,7 @@ module _ (named : Option (List ℕ)) (whole phase : FilesRun) (file got : List �
   front_whole names fetched h = record { behind = h.behind; is = h.is ∙ here.same_due fetched }
 
   front_asked : HasAskedFrontOf (script_piece file got) phase → HasAskedFront named whole
-  front_asked h = asked_more file here.bytes h.names h.fetched here.is (asked_whole h.names h.asked) (are_whole (take (length h.fetched) h.names) h.fetched h.are) (front_whole h.names h.fetched h.due)
+  front_asked h = asked_more file here.bytes h.names h.fetched here.is (asked_whole h.names h.asked) (are_whole (take (length h.fetched) h.names) h.fetched h.are) h.few (front_whole h.names h.fetched h.due)
 
   script_whole : (script : Script) (fetched : List (List ℕ)) → IsOkAnd (script_read file fetched got) (λ s. IsScriptOf s script) → HasScript file here.bytes fetched script
   script_whole script fetched h = let P : Result State Bad → Type 0 = λ given. IsOkAnd given (λ s. IsScriptOf s script) in subst P (here.same_read fetched) h
@@ -143,12 +144,19 @@ all_fetched fetched names h = grind (arith, common_steps)
 front_fetched : (fetched before : List (List ℕ)) (name : List ℕ) → length fetched ≡ length before → take (length fetched) (before ++ name ∷ []) ≡ before
 front_fetched fetched before name h = grind (arith, common_steps)
 
+few_all : (fetched names : List (List ℕ)) → length fetched ≡ length names → length names ≤ length fetched + 1
+few_all fetched names h = omega (arith, h)
+
+few_front : (fetched before : List (List ℕ)) (name : List ℕ) → length fetched ≡ length before → length (before ++ name ∷ []) ≤ length fetched + 1
+few_front fetched before name h = grind (arith, common_steps)
+
 front_all : (piece : Piece) (files : FilesRun) (fetched : List (List ℕ)) → HasFetched piece files fetched → HasAskedFrontOf piece files
 front_all piece files fetched h = record {
   names = h.names;
   fetched = fetched;
   asked = h.asked;
   are = subst (λ (l : List (List ℕ)). AreFetched files l fetched) (sym (all_fetched fetched h.names h.are.each)) h.are;
+  few = few_all fetched h.names h.are.each;
   due = record { behind = []; is = append-nil h.names ∙ h.all_due };
 }
 
@@ -159,6 +167,7 @@ front_ended piece files (fault.ReadFault name) h = record {
   fetched = h.fetched;
   asked = h.asked;
   are = subst (λ (l : List (List ℕ)). AreFetched files l h.fetched) (sym (front_fetched h.fetched h.before name h.are.each)) h.are;
+  few = few_front h.fetched h.before name h.are.each;
   due = h.due;
 }
 front_ended piece files fault.Memory h = record {
@@ -166,6 +175,7 @@ front_ended piece files fault.Memory h = record {
   fetched = h.fetched;
   asked = h.asked;
   are = subst (λ (l : List (List ℕ)). AreFetched files l h.fetched) (sym (all_fetched h.fetched h.names h.are.each)) h.are;
+  few = few_all h.fetched h.names h.are.each;
   due = h.due;
 }
 
@@ -243,6 +253,7 @@ all_asked : (named : Option (List ℕ)) (files : FilesRun) (file bytes : List �
 all_asked named files file bytes fetched is h =
     asked_more file bytes h.names fetched is h.asked
     (let P : List (List ℕ) → Type 0 = λ names. AreFetched files names fetched in subst P (sym (all_fetched fetched h.names h.are.each)) h.are)
+    (few_all fetched h.names h.are.each)
     (record { behind = []; is = append-nil h.names ∙ h.all_due })
 
 -- what was asked for where a script was read, or something is due because none was
@@ -253,7 +264,7 @@ pub asked_by_unread : (named : Option (List ℕ)) (files : FilesRun) (program : 
 asked_by_unread named files program due (not_read file is asked rose) = asked_script file is asked
 asked_by_unread named files program due (stopped file bytes name is h) =
     asked_more file bytes (h.before ++ name ∷ []) h.fetched is h.asked
-    (let P : List (List ℕ) → Type 0 = λ names. AreFetched files names h.fetched in subst P (sym (front_fetched h.fetched h.before name h.are.each)) h.are) h.due
+    (let P : List (List ℕ) → Type 0 = λ names. AreFetched files names h.fetched in subst P (sym (front_fetched h.fetched h.before name h.are.each)) h.are) (few_front h.fetched h.before name h.are.each) h.due
 asked_by_unread named files program due (refused file bytes fetched b is h bad) = all_asked named files file bytes fetched is h
 
 -- where the files tell what they hold, that is what was fetched

@@ -1,5 +1,5 @@
 -- What the status of a run tells of what was due, and of what was said.
-use Rattle.std.proofs.Common.{◌≡◌, ◌≢◌, ◌<◌, ◌⊎◌, sym, ◌∙◌, arith, inl, inr}
+use Rattle.std.proofs.Common.{◌≡◌, ◌≢◌, ◌<◌, ◌⊎◌, Bool, true, false, sym, ◌∙◌, arith, inl, inr}
 use Rattle.solv_io.specs.declared.status.Status.{Status}
 use Rattle.solv_io.specs.declared.status.Status.TheVariants as status
 use Rattle.solv_said.specs.Runs.{SinkRun, WroteAll, HasWriteFault, IsSaid, whole, cut_off}
@@ -43,3 +43,8 @@ calm_status due given out err r calm = elim (status_of due given out err r) [ in
 -- a status that is due, or a write fault
 pub or_write_fault : (due : Due) (given : Status) (out err : SinkRun) (t : Status) → due.status ≡ t → IsSaid due given out err → (given ≡ t) ⊎ (given ≡ status.WriteFault)
 or_write_fault due given out err t is r = elim (status_of due given out err r) [ inl s ↦ inl (s ∙ is) | inr w ↦ inr w.0 ]
+
+-- where no sink takes memory, none runs out of it
+pub none_takes : {A : Type 0} (o e : Bool) → (o ≡ true) ⊎ (e ≡ true) → o ≡ false → e ≡ false → A
+none_takes o e (inl h) a b = absurd (let clash = sym h ∙ a in cc)
+none_takes o e (inr h) a b = absurd (let clash = sym h ∙ b in cc)

@@ -17,9 +17,6 @@ module _ (named : Option (List ℕ)) (files : FilesRun) (program : List ℕ) whe
   unread_other due (stopped file bytes name a b) t x y h = y h
   unread_other due (refused file bytes fetched b n a f) t x y h = x h
 
-  pub unread_calm : (due : Due) → IsUnreadDue named files program due → due.status ≢ status.WriteFault
-  unread_calm due u = unread_other due u status.WriteFault (λ e. cc) (λ e. cc)
-
   -- a file is named
   pub named_of : (due : Due) → IsUnreadDue named files program due → (file : List ℕ) × (named ≡ Some file)
   named_of due (not_read file a b c) = (file, a)

@@ -1,5 +1,5 @@
 -- A script that is read from files: what was asked for, and what is due where none is read.
-use Rattle.std.specs.Prelude.{ℕ, ◌≡◌, List, [], ◌∷◌, ◌++◌, length, take, Option, Some, IfSome, Err, IsOkAnd}
+use Rattle.std.specs.Prelude.{ℕ, ◌≡◌, ◌≤◌, ◌+◌, List, [], ◌∷◌, ◌++◌, length, take, Option, Some, IfSome, Err, IsOkAnd}
 use Rattle.solv_io.specs.Counters.{Rose}
 use Rattle.solv_script.specs.FileRuns.{FilesRun, AskedBesides, AreFetched, IsFront}
 use Rattle.solv_script.specs.Grammar.{Bad, script_due, script_read}
@@ -36,12 +36,12 @@ module _ (named : Option (List ℕ)) (files : FilesRun) where
     pub rose : Rose files.faults_before files.faults_after
 
   -- what may be asked for before a run ends for lack of memory: nothing; the script; or the script and then a front of the files that are due, of
-  -- which the first ones gave these bytes
+  -- which all but the last, at most, gave these bytes
   pub data HasAskedFront : Type 0 where
     asked_none : AskedBesides files [] → HasAskedFront
     asked_script : (file : List ℕ) → named ≡ Some file → AskedBesides files (file ∷ []) → HasAskedFront
     asked_more : (file bytes : List ℕ) (names fetched : List (List ℕ)) → IsNamed file bytes → AskedBesides files (file ∷ names) → AreFetched files (take (length fetched) names) fetched
-        → IsFront names (script_due file fetched bytes) → HasAskedFront
+        → length names ≤ length fetched + 1 → IsFront names (script_due file fetched bytes) → HasAskedFront
 
   -- the file that is named holds this script, and all files that the script names were fetched
   pub record WasFetched (script : Script) : Type 0 where

@@ -1,16 +1,21 @@
 //! What is due is said on the sinks.
-ghost use Rattle.std.specs.Prelude.{◌≡◌, ℕ, List, Option, IfOk};
-ghost use Rattle.solv_said.specs.Runs.{IsSaid, SinkRun, sink_run};
+ghost use Rattle.std.specs.Prelude.{◌≡◌, ◌⊎◌, ℕ, true, List, Option, IfOk, OnErr};
+ghost use Rattle.solv_said.specs.Runs.{IsSaidInPart, IsSaid, SinkRun, sink_run};
 
 use crate::dues::Due;
 use solv_io::{Sink, SinkFault, Status, put};
 use std::alloc::AllocError;
 
 /// Writes each text to its sink, and gives the status: the one that is due, or that of a write fault, which ends the writing.
+/// It runs out of memory only where one of the sinks takes some, and then a prefix of each text is written.
 pub fn say<O: Sink, E: Sink>(due: &Due, out: &mut O, err: &mut E) -> Result<Status, AllocError>
-    ensures { IfOk result (λ status. IsSaid due.now status
+    ensures said { IfOk result (λ status. IsSaid due.now status
         (sink_run O.written O.faults out.old out.new)
         (sink_run E.written E.faults err.old err.new)) }
+    ensures wanting { OnErr result (IsSaidInPart due.now
+        (sink_run O.written O.faults out.old out.new)
+        (sink_run E.written E.faults err.old err.new)) }
+    ensures memory { OnErr result ((O.takes_memory ≡ true) ⊎ (E.takes_memory ≡ true)) }
 {
     match put(out, due.out.held()) {
         Ok(()) => {}

@@ -9,9 +9,16 @@ use Rattle.solv_answers.specs.declared.answers.Answer.{Answer}
 use Rattle.solv_answers.specs.declared.answers.Answered.{Answered}
 use Rattle.solv_script.specs.Rounds.{Turn}
 use Rattle.solv_words.specs.declared.command_line.Command.{Command}
+use Rattle.solv_words.specs.declared.command_line.Output.{Output}
+use Rattle.solv_words.specs.declared.command_line.Output.TheVariants as output
 use Rattle.solv_run.specs.Rounds.{AreAnswers, IsGoodAnswer, some_spent}
 use Rattle.solv_run.specs.Texts.{are_as_wanted, is_as_wanted, next_lines, round_lines, rounds_lines}
 use Rattle.solv_run.specs.declared.rounds.Begun.{Begun}
+
+-- are lines asked for?
+abbrev pub prints_lines : Output → Bool
+prints_lines output.Lines = true
+prints_lines o = false
 
 -- the lines of rounds behind another
 abbrev pub later_lines : Command → List Turn → List Answer → List (List ℕ)
@@ -33,22 +40,22 @@ pub record HasTaken (answered : Answered) (old new : Begun) : Type 0 where
   pub spent : new.spent ≡ is_spent answered.answer
   pub left : length answered.ledger.entries ≤ old.left → new.left ≡ old.left - length answered.ledger.entries
 
--- the line before a later round was taken in, where no proofs are asked for
+-- the line before a later round was taken in, where lines are asked for
 pub record HasNext (command : Command) (old new : Begun) : Type 0 where
-  pub text : command.proves ≡ false → new.text.items ≡ old.text.items ++ codes "nextjob\n"
+  pub text : prints_lines command.output ≡ true → new.text.items ≡ old.text.items ++ codes "nextjob\n"
   pub as_wanted : new.as_wanted ≡ old.as_wanted
   pub reached : new.reached ≡ old.reached
   pub left : new.left ≡ old.left
 
--- One round more was begun, with these lines before its own. What is printed is said where no proofs are asked for.
+-- One round more was begun, with these lines before its own. What is printed is said where lines are asked for.
 pub record IsOneMore (command : Command) (before : List (List ℕ)) (turn : Turn) (old new : Begun) : Type 0 where
   pub answer : Answer
   pub ledger : Ledger
   pub good : IsGoodAnswer turn.task old.left answer ledger
   pub answers : new.reached.answers ≡ old.reached.answers ++ answer ∷ []
   pub ledgers : new.reached.ledgers ≡ old.reached.ledgers ++ ledger ∷ []
-  pub text : command.proves ≡ false → new.text.items ≡ old.text.items ++ ended_lines (before ++ round_lines command.shows turn answer)
-  pub as_wanted : command.proves ≡ false → new.as_wanted ≡ (old.as_wanted && is_as_wanted turn answer)
+  pub text : prints_lines command.output ≡ true → new.text.items ≡ old.text.items ++ ended_lines (before ++ round_lines command.shows turn answer)
+  pub as_wanted : prints_lines command.output ≡ true → new.as_wanted ≡ (old.as_wanted && is_as_wanted turn answer)
   pub spent : new.spent ≡ is_spent answer
   pub left : is_spent answer ≡ false → new.left ≡ old.left - length ledger.entries
 
@@ -62,13 +69,13 @@ pub record HasBegun (command : Command) (tasks : List Task) (turns : List Turn) 
   pub unspent : begun.spent ≡ false → (answers : List Answer) (ledgers : List Ledger) → AreAnswers begun.left later_tasks answers ledgers
       → AreAnswers command.budget tasks (begun.reached.answers ++ answers) (begun.reached.ledgers ++ ledgers)
   pub ended_there : begun.spent ≡ true → AreAnswers command.budget tasks begun.reached.answers begun.reached.ledgers
-  pub text : command.proves ≡ false → (answers : List Answer) → begun.text.items ++ ended_lines (later_lines command later_turns answers) ≡ ended_lines (rounds_lines command.shows turns (begun.reached.answers ++ answers))
-  pub as_wanted : command.proves ≡ false → (answers : List Answer) → (begun.as_wanted && are_as_wanted later_turns answers) ≡ are_as_wanted turns (begun.reached.answers ++ answers)
+  pub text : prints_lines command.output ≡ true → (answers : List Answer) → begun.text.items ++ ended_lines (later_lines command later_turns answers) ≡ ended_lines (rounds_lines command.shows turns (begun.reached.answers ++ answers))
+  pub as_wanted : prints_lines command.output ≡ true → (answers : List Answer) → (begun.as_wanted && are_as_wanted later_turns answers) ≡ are_as_wanted turns (begun.reached.answers ++ answers)
   pub spent : begun.spent ≡ some_spent begun.reached.answers
 
 -- All that are begun: they are answers to the rounds of a script, and what is printed of them is put together.
 pub record AreAll (command : Command) (tasks : List Task) (turns : List Turn) (begun : Begun) : Type 0 where
   pub are : AreAnswers command.budget tasks begun.reached.answers begun.reached.ledgers
-  pub text : command.proves ≡ false → begun.text.items ≡ ended_lines (rounds_lines command.shows turns begun.reached.answers)
-  pub as_wanted : command.proves ≡ false → begun.as_wanted ≡ are_as_wanted turns begun.reached.answers
+  pub text : prints_lines command.output ≡ true → begun.text.items ≡ ended_lines (rounds_lines command.shows turns begun.reached.answers)
+  pub as_wanted : prints_lines command.output ≡ true → begun.as_wanted ≡ are_as_wanted turns begun.reached.answers
   pub spent : begun.spent ≡ some_spent begun.reached.answers

@@ -1,3 +1,4 @@
+use Rattle.std.proofs.Common.{sym, ◌∙◌}
 use Rattle.solv_script.specs.Inner.Turns.{first_turn}
 use Rattle.solv_said.proofs.Forming.{asks_formed}
 use Rattle.solv_run.specs.Rounds.{IsGoodAnswer}
@@ -7,11 +8,11 @@ use Rattle.solv_run.proofs.rounds.answer_round.Goals as goal
 pub answer_in_turn-requires-clause-formed : goal.answer_in_turn-requires-clause-formed
 answer_in_turn-requires-clause-formed c = asks_formed c.args.script.now.task c.requires.forms
 
-pub returns-then-command-clause-one_more : goal.returns-then-command-clause-one_more
-returns-then-command-clause-one_more c =
+pub returns-then-not-prints_lines-clause-one_more : goal.returns-then-not-prints_lines-clause-one_more
+returns-then-not-prints_lines-clause-one_more c =
     let answered = c.in_ok-answered.answered in
     let good : IsGoodAnswer c.args.script.now.task c.args.begun.now.left answered.answer answered.ledger = record { is = c.in_ok-answered.ensures.good; direct = c.in_ok-answered.ensures.direct } in
-    taken_alone c.args.command.now (first_turn c.args.script.now) answered c.take.result c.args.begun.now c.take.new.self c.if-command.true good c.take.ensures.taken
+    taken_alone c.args.command.now (first_turn c.args.script.now) answered c.take.result c.args.begun.now c.take.new.self (sym c.prints_lines.ensures ∙ c.if-not-prints_lines.true) good c.take.ensures.taken
 
 pub returns-clause-one_more : goal.returns-clause-one_more
 returns-clause-one_more c =
