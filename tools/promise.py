@@ -36,8 +36,8 @@ TRAITS = (("solv_io", "fetching", "Files"), ("solv_io", "writing", "Sink"))
 PROGRAMS = ("run", "proofcheck")
 # modules with public laws beside those whose name ends with `laws`
 LAW_MODULES = (("solv_graph", "reaching"),)
-# crates whose laws are promised although they call others: what the checker of proofs says
-CHECKERS = ("solv_verdicts", "solv_proof_run")
+# crates whose laws are promised although they call others: what the checker of proofs says, and what a maintainer relies on
+CALLING = ("solv_verdicts", "solv_proof_run", "solv_laws")
 ROOT = pathlib.Path(__file__).resolve().parent.parent
 WORD = re.compile(r"[^\s(){}\[\],;]+")
 USE = re.compile(r"^(\s*)(?:pub )?(?:ghost )?use Rattle\.([^\s{]+?)(?:\.\{(.*)\})?(?: as (\S+?))?;?$")
@@ -268,7 +268,7 @@ def seeds_of_laws(book):
         for path in sorted((ROOT / "crates" / crate / "src").rglob("*.rt")):
             if path.stem.endswith("laws") or (crate, path.stem) in LAW_MODULES:
                 for _, clauses, is_empty in functions_of(path):
-                    if is_empty or crate in CHECKERS:
+                    if is_empty or crate in CALLING:
                         found += cited_by(book, path, clauses)
     return found
 

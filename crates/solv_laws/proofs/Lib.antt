@@ -1,0 +1,11 @@
+mod Packs
+mod RulesMet
+mod AskedFor
+mod NoneBroken
+mod ErasedLines
+mod ComingFirst
+mod Totals
+mod ClauseWords
+mod FewOfOneName
+mod FewWords
+mod SeedTasks

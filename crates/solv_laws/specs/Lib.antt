@@ -1,0 +1,4 @@
+pub mod Asked
+pub mod Unbroken
+pub mod Before
+pub mod Seeds
