@@ -1,6 +1,7 @@
-//! The program `solv_script_tests`: runs the scripts that its arguments name, each as `testsolv` does, those of the folder `shown` as `testsolv -r`
-//! and those of `proved` as `testsolv --proof`. A line with its status and its name stands behind what each prints, which is nothing where it carries
-//! the lines that it expects and gets them. What is printed for the scripts of `data/` is compared with the file `stdout`.
+//! The program `solv_script_tests`: runs the scripts that its arguments name, each as `testsolv` does, those of the folder `shown` as `testsolv -r`,
+//! those of `proved` as `testsolv --proof` and those of `written` as `testsolv --write`. A line with its status and its name stands behind what each
+//! prints, which is nothing where it carries the lines that it expects and gets them. What is printed for the scripts of `data/` is compared with the
+//! file `stdout`.
 #![tactic(auto)]
 
 use solv_io::{RealFiles, RealSink};
@@ -15,6 +16,9 @@ fn flag_of(name: &str) -> Option<&'static str> {
     }
     if name.starts_with("proved/") {
         return Some("--proof");
+    }
+    if name.starts_with("written/") {
+        return Some("--write");
     }
     None
 }
