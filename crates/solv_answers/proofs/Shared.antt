@@ -112,31 +112,6 @@ front_alike catalog f g m n checks verify multiversion =
     ∙ ap (λ v. package_rules catalog (record m { verify = n.verify; multiversion = v }) ++ infarch_rules catalog g) multiversion
 
 -- clauses of the first rules
-pub clauses_of_front : (catalog : Catalog) (made : List HardRule) (book : Written) (front : Front) → IsBook catalog book → HasFront made book.rules front
-    → clauses_before book.spans front.rules (length book.clauses) ≡ length (flat_map (rule_clauses catalog) made)
-clauses_of_front catalog made book front is has =
-    let rules : List HardRule = read_rules book.rules in
-    let low : front.rules ≤ length rules = subst (λ n. front.rules ≤ n) (sym (length-map book.rules.list (rule_with book.rules.sets))) has.enough in
-    let more : length (flat_map (rule_clauses catalog) rules) ≡ 0 + length (flat_map (rule_clauses catalog) rules) = omega arith in
-    let less : 0 + length (flat_map (rule_clauses catalog) (take front.rules rules)) ≡ length (flat_map (rule_clauses catalog) (take front.rules rules)) = omega arith in
-    ap (λ (s : List (ℕ × ℕ)). clauses_before s front.rules (length book.clauses)) is.spans
-    ∙ ap (λ l. clauses_before (spans_from catalog 0 rules) front.rules (length l)) is.clauses
-    ∙ ap (clauses_before (spans_from catalog 0 rules) front.rules) more
-    ∙ sym (stand_before catalog 0 front.rules rules low) ∙ less
-    ∙ ap (λ l. length (flat_map (rule_clauses catalog) l)) (front_read made book.rules front has)
-
--- no rule stands behind all
-pub behind_all : (spans : List (ℕ × ℕ)) (n all count : ℕ) → count ≡ all → length spans ≤ n → count ≡ clauses_before spans n all
-behind_all [] n all count same low = same
-behind_all (s ∷ spans) zero all count same low = absurd (omega (arith, low))
-behind_all (s ∷ spans) (suc n) all count same low = behind_all spans n all count same (omega (arith, low))
-
--- the clauses of a task begin with those of the first rules
-pub first_clauses : (catalog : Catalog) (made rest : List HardRule) (clauses : List (List ℤ)) → clauses ≡ flat_map (rule_clauses catalog) (made ++ rest)
-    → take (length (flat_map (rule_clauses catalog) made)) clauses ≡ flat_map (rule_clauses catalog) made
-first_clauses catalog made rest clauses is =
-    ap (take (length (flat_map (rule_clauses catalog) made))) (is ∙ clauses_join catalog made rest) ∙ take_front (flat_map (rule_clauses catalog) made) (flat_map (rule_clauses catalog) rest)
-
 -- a book may begin with the clauses of another's first rules
 pub begun_by : (catalog : Catalog) (made rest : List HardRule) (old : List HardRule) (n : ℕ) (all : List HardRule) (draft : Draft) → take n old ≡ made → all ≡ made ++ rest → IsFront catalog (take n old) draft → IsBegun catalog all draft
 begun_by catalog made rest old n all draft same are is = record { front = made; rest = rest; are = are; is = subst (λ (l : List HardRule). IsFront catalog l draft) same is }
@@ -162,33 +137,18 @@ is_prepared task held prepared rules index lent flags marks each book same read 
 
 -- and it serves the next round
 pub may_go_on : (task : Task) (prepared : Prepared) (rules : Rules) → IsPrepared task prepared → prepared.book.rules ≡ rules → HasFront (front_rules (catalog_of task) task.flags prepared.marks) rules prepared.front
-    → prepared.front.clauses ≡ length (flat_map (rule_clauses (catalog_of task)) (front_rules (catalog_of task) task.flags prepared.marks)) → IfSome prepared.left (IsLeftFor (catalog_of task) task.flags prepared.marks)
+    → IfSome prepared.left (IsLeftFor (catalog_of task) task.flags prepared.marks)
     → MayGoOn (catalog_of task) prepared
-may_go_on task prepared rules is same front clauses left =
+may_go_on task prepared rules is same front left =
     let catalog = catalog_of task in
     let H : Rules → Flags → Type 0 = λ r f. HasFront (front_rules catalog f prepared.marks) r prepared.front in
-    let C : Flags → Type 0 = λ f. prepared.front.clauses ≡ length (flat_map (rule_clauses catalog) (front_rules catalog f prepared.marks)) in
     let L : Flags → Type 0 = λ f. IfSome prepared.left (IsLeftFor catalog f prepared.marks) in
     record {
       index = is.index;
       book = is.book;
       fits = ap (first_fault catalog 0) is.rules ∙ is.fits;
       front = subst (λ (f : Flags). H prepared.book.rules f) (sym is.flags) (subst (λ (r : Rules). H r task.flags) (sym same) front);
-      clauses = subst C (sym is.flags) clauses;
       left = subst L (sym is.flags) left;
-    }
-
--- what is left of a decision serves each task with these packages, flags and marks
-pub left_for : (task : Task) (left : Left) (core : CoreOf) → left.rest ≡ rest_by (catalog_of task) task.flags (marks_of task) → left.core.made ≡ core
-    → core.clauses ≡ flat_map (rule_clauses (catalog_of task)) (hard_rules task) → core.packages ≡ length task.universe.packages → IsLeftFor (catalog_of task) task.flags (marks_of task) left
-left_for task left core rest same clauses packages =
-    let catalog = catalog_of task in
-    record {
-      rest = rest;
-      core = ap (λ (c : CoreOf). take (length (flat_map (rule_clauses catalog) (front_rules catalog task.flags (marks_of task)))) c.clauses) same
-          ∙ first_clauses catalog (front_rules catalog task.flags (marks_of task)) (other_rules catalog task.flags task.jobs (marks_of task)) core.clauses
-          (clauses ∙ ap (flat_map (rule_clauses catalog)) (front_first catalog task.flags task.jobs (marks_of task)));
-      packages = ap (λ (c : CoreOf). c.packages) same ∙ packages;
     }
 
 -- the nine clauses of a decision

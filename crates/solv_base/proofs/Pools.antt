@@ -6,6 +6,7 @@ use Rattle.std.specs.Str.{bytes_eq}
 use Rattle.std.proofs.lemmas.Bool.{ltb-true}
 use Rattle.solv_base.specs.Dependency.{tree, tree_of_node, names_in, operands, IsWellFounded}
 use Rattle.solv_base.specs.Pool.{Held, HoldsNames, IsPool, Grows, most, is_name, name_id, text_at, text_tree}
+use Rattle.solv_base.specs.Inner.Hashing.{equal_nodes}
 use Rattle.solv_base.specs.Inner.Pool.{text_tree_of_node, uses_below}
 use Rattle.solv_base.specs.declared.relation.DepNode.{DepNode}
 use Rattle.solv_base.specs.contracts.relation.DepNodePartialEq.TheImpl.{eq-value}
@@ -17,7 +18,7 @@ use Rattle.solv_list.proofs.Booleans.{first_of_both, second_of_both}
 use Rattle.solv_list.proofs.Lists.{at_end, bytes_themselves, same_bytes}
 
 pub same_relation : (x y : DepNode) → eq-value.it x y ≡ true → x ≡ y
-same_relation x y h = search rules
+same_relation = equal_nodes
 
 pub relation_itself : (x : DepNode) → eq-value.it x x ≡ true
 relation_itself x = search rules

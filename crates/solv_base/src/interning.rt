@@ -1,9 +1,9 @@
 //! One id for each text and for each relation.
 ghost use Rattle.std.specs.Prelude.{◌≡◌, ◌∷◌, [], ◌++◌, ◌<◌, ◌↔◌, ℕ, length, slice_get, Some, IfOk, OnOk, OnErr, IsOk, IsErrOf, IsTrue, Contains, true, false, is_some, IfSome};
 ghost use Rattle.solv_base.specs.Pool.{most, is_name, name_id, with_name};
-ghost use Rattle.solv_base.specs.Inner.Pool.{texts_of};
 
 use crate::relation::{DepId, DepNode, NameId};
+use crate::texts::{Text, Wanted};
 use indexmap::IndexSet;
 use std::alloc::{AllocError, Global};
 use std::marker::Model;
@@ -24,40 +24,39 @@ pub enum PoolFault {
 #[derive(Drop)]
 pub struct Pool {
     alloc: Global,
-    texts: IndexSet<Vec<u8>>,
+    texts: IndexSet<Text>,
     relations: IndexSet<DepNode>,
 }
 
 impl Model for Pool {
     ghost use Rattle.solv_base.specs.Pool.{Held, IsPool};
-    ghost use Rattle.solv_base.specs.Inner.Pool.{texts_of};
 
     ghost Value = { Held };
 
-    ghost view = { λ p. record { names = texts_of p.texts.keys; nodes = p.relations.keys } };
+    ghost view = { λ p. record { names = p.texts.keys; nodes = p.relations.keys } };
 
-    ghost invariant = { λ p. IsPool (record { names = texts_of p.texts.keys; nodes = p.relations.keys }) };
+    ghost invariant = { λ p. IsPool (record { names = p.texts.keys; nodes = p.relations.keys }) };
 }
 
 /// The most names, and the most relations.
 const MOST: usize = 1 << 24;
 
 /// The place of a text among those held.
-fn place_of(texts: &IndexSet<Vec<u8>>, text: &[u8]) -> Option<usize>
-    ensures found { is_some result ≡ is_name (texts_of texts.now.keys) text.now }
-    ensures place { IfSome result (λ i. i ≡ name_id (texts_of texts.now.keys) text.now) }
+fn place_of(texts: &IndexSet<Text>, text: &[u8]) -> Option<usize>
+    ensures found { is_some result ≡ is_name texts.now.keys text.now }
+    ensures place { IfSome result (λ i. i ≡ name_id texts.now.keys text.now) }
     ensures within { IfSome result (λ i. i < length texts.now.keys) }
 {
-    texts.get_index_of(text)
+    texts.get_index_of(Wanted(text))
 }
 
 /// Adds a text that is not held.
-fn add_text(alloc: Global, texts: &mut IndexSet<Vec<u8>>, text: &[u8]) -> Result<(), AllocError>
-    requires { is_name (texts_of texts.old.keys) text.now ≡ false }
-    ensures added { OnOk result (texts_of texts.new.keys ≡ texts_of texts.old.keys ++ text.now ∷ []) }
+fn add_text(alloc: Global, texts: &mut IndexSet<Text>, text: &[u8]) -> Result<(), AllocError>
+    requires { is_name texts.old.keys text.now ≡ false }
+    ensures added { OnOk result (texts.new.keys ≡ texts.old.keys ++ text.now ∷ []) }
     ensures refused { OnErr result (texts.new.keys ≡ texts.old.keys) }
 {
-    let copy = text.to_vec(alloc)?;
+    let copy = Text::new(alloc, text)?;
     texts.insert(copy)?;
     Ok(())
 }
@@ -122,7 +121,7 @@ impl Pool {
         ensures held { slice_get self.now.names id ≡ Some result.now }
         ensures text { result.now ≡ text_at self.now id }
     {
-        &self.texts.as_slice()[id.0 as usize]
+        self.texts.as_slice()[id.0 as usize].bytes()
     }
 
     /// The id of a relation, which the relation keeps for good. One that is held already takes no memory.

@@ -12,6 +12,7 @@ mod comparison;
 mod interning;
 mod relation;
 mod relation_laws;
+mod texts;
 mod version;
 
 pub use comparison::Cmp;

@@ -227,7 +227,7 @@ fn join_to(
         prov,
         in_set,
         pack,
-        package.supplements.held(),
+        package.supplements(),
         known,
         passed,
         graph,

@@ -2,20 +2,23 @@
 use Rattle.std.proofs.Common.{◌≡◌, ℕ, inl, inr, arith, eq-eqb, ◌<◌, ◌==◌, Bool, true, false, ◌||◌, List, [], ◌∷◌, ◌++◌, length, Option, Some, None, refl, sym, ap, ◌∙◌, subst}
 use Rattle.std.specs.Prelude.{ℤ, nat_lt, ◌&&◌, slice_get, unwrap_or}
 use Rattle.std.specs.List.{list_all, list_any}
-use Rattle.std.proofs.lemmas.Bool.{or_left, or_right, or_cases, false≢true}
+use Rattle.std.proofs.lemmas.Bool.{and_parts, and_from, or_left, or_right, or_cases, false≢true}
 use Rattle.std.proofs.lemmas.Option.{slice_get_within}
-use Rattle.solv_derive.specs.Leaves.{leaves}
-use Rattle.solv_derive.specs.Logs.{is_good_log}
-use Rattle.solv_derive.specs.Range.{steps_over}
+use Rattle.solv_derive.specs.Leaves.{leaves, named_rules}
 use Rattle.solv_derive.specs.declared.logs.Hint.{Hint}
 use Rattle.solv_derive.specs.declared.logs.Log.{Log}
+use Rattle.solv_derive.specs.declared.logs.Step.{Step}
+use Rattle.solv_derive.proofs.AllLeaves.{at_member, by_members}
+use Rattle.solv_trimming.specs.Inner.Trimming.{IsTrimmedFrom}
 use Rattle.solv_trail.specs.Inner.Held.{Held}
 use Rattle.solv_trail.specs.Inner.Propagated.{Reason, choice, by_rule, IsReasoned, Propagated, clash, rest}
 use Rattle.solv_trail.specs.Propagated.{in_use}
 use Rattle.solv_learn.specs.Inner.Learning.{IsRefuted}
 use Rattle.solv_core.specs.Inner.Contradictions.{is_of, IsLogWith, IsRefutedRule, AreRefuted}
+use Rattle.solv_core.specs.Inner.Holding.{AreInUse}
+use Rattle.solv_core.specs.declared.ledger.Entry.{Entry}
 use Rattle.solv_core.specs.declared.refuting.RefutedRule.{RefutedRule}
-use Rattle.solv_core.proofs.Refuted.{AreInUse, log_good, log_leaves}
+use Rattle.solv_core.proofs.Refuted.{log_good, log_leaves, log_over}
 
 -- more rules may be in use
 pub reasoned_wider : (rules : List (List ℤ)) (used wider : ℕ → Bool) (held : Held) → ((r : ℕ) → used r ≡ true → wider r ≡ true) → IsReasoned rules used held → IsReasoned rules wider held
@@ -26,21 +29,41 @@ reasoned_wider rules used wider held more h = record { sizes = h.sizes; each = �
     go j (by_rule c u f) = by_rule c (record { found = u.found; on = more _ u.on }) f
 
 -- where nothing is learnt, nothing is in use but the book
-nothing_in_use : (book : List (List ℤ)) (used : ℕ → Bool) (packages : ℕ) → AreInUse book used packages [] (λ n. n) [] []
-nothing_in_use book used packages = record {
+pub nothing_in_use : (book : List (List ℤ)) (used : ℕ → Bool) (packages : ℕ) (entries : List Entry) (number : ℕ → ℕ) → AreInUse book used packages entries number [] []
+nothing_in_use book used packages entries number = record {
   derived = record { are = refl; good = refl; over = refl };
   held = record { few = omega arith; rising = λ i k less within. absurd (omega (arith, within)); earlier = λ i n s at h. absurd (cc); held = λ i s at. absurd (cc) };
   rests = refl;
 }
 
-pub log_by_clause : (book : List (List ℤ)) (owners : List ℕ) (packages : ℕ) (enabled : List Bool) (other : ℕ → Bool) (hints : List Hint) (log : Log) → log.steps ≡ (record { clause = []; hints = hints }) ∷ []
-    → IsRefuted (book ++ []) (λ r. in_use owners enabled r || other r) (length book) 0 hints → IsLogWith book owners packages enabled other log
-log_by_clause book owners packages enabled other hints log e r =
-    let used : ℕ → Bool = λ r. in_use owners enabled r || other r in
+-- more rules may be in use
+pub in_use_wider : (book : List (List ℤ)) (used wider : ℕ → Bool) (packages : ℕ) (entries : List Entry) (number : ℕ → ℕ) (learnt : List (List ℤ)) (steps : List Step) → ((r : ℕ) → used r ≡ true → wider r ≡ true)
+    → AreInUse book used packages entries number learnt steps → AreInUse book wider packages entries number learnt steps
+in_use_wider book used wider packages entries number learnt steps more h =
+    let p : ℕ → Bool = λ rule. nat_lt rule (length book) && used rule in
+    let q : ℕ → Bool = λ rule. nat_lt rule (length book) && wider rule in
     record {
-      good = ap (is_good_log book) e ∙ log_good book used packages [] (λ n. n) [] [] (nothing_in_use book used packages) hints r;
-      over = ap (steps_over packages) e;
-      rests = ap (λ s. list_all (λ clause. nat_lt clause (length book) && used clause) (leaves s)) e ∙ log_leaves book used packages [] (λ n. n) [] [] (nothing_in_use book used packages) hints r;
+      derived = h.derived;
+      held = h.held;
+      rests = by_members q (named_rules steps) (λ x k.
+          let both = and_parts (nat_lt x (length book)) (used x) (at_member p (named_rules steps) x h.rests k) in
+          and_from (nat_lt x (length book)) (wider x) both.0 (more x both.1));
+    }
+
+-- the derivation by these hints over what was learnt, without the steps that nothing rests on
+pub log_with : (book : List (List ℤ)) (owners : List ℕ) (packages : ℕ) (enabled : List Bool) (other : ℕ → Bool) (entries : List Entry) (number : ℕ → ℕ) (learnt : List (List ℤ)) (steps : List Step) (hints : List Hint) (log : Log)
+    → AreInUse book (in_use owners enabled) packages entries number learnt steps → IsRefuted (book ++ learnt) (λ r. in_use owners enabled r || other r) (length book) 0 hints
+    → IsTrimmedFrom (steps ++ (record { clause = []; hints = hints }) ∷ []) log.steps → IsLogWith book owners packages enabled other log
+log_with book owners packages enabled other entries number learnt steps hints log h r t =
+    let used : ℕ → Bool = λ r. in_use owners enabled r || other r in
+    let wide = in_use_wider book (in_use owners enabled) used packages entries number learnt steps (λ r on. or_left (in_use owners enabled r) (other r) on) h in
+    let whole : List Step = steps ++ (record { clause = []; hints = hints }) ∷ [] in
+    let p : ℕ → Bool = λ clause. nat_lt clause (length book) && used clause in
+    let rests = log_leaves book used packages entries number learnt steps wide hints r in
+    record {
+      good = t.good book (log_good book used packages entries number learnt steps wide hints r);
+      over = t.over packages (log_over book used packages entries number learnt steps wide hints r);
+      rests = by_members p (leaves log.steps) (λ x k. at_member p (leaves whole) x rests (t.rests x k));
     }
 
 module _ (book : List (List ℤ)) (owners : List ℕ) (packages : ℕ) (enabled : List Bool) where

@@ -9,6 +9,7 @@ ghost use Rattle.solv_core.specs.Inner.Holding.{IsBegun, IsHeldBy, entry_of};
 ghost use Rattle.solv_core.specs.Inner.Ledgers.{GrowsLedger, LeftByRefusal, in_use_after, run_of};
 ghost use Rattle.solv_core.specs.Ledgers.{IsGoodLedger};
 ghost use Rattle.solv_core.specs.Inner.Contradictions.{IsWhatRefutes};
+ghost use Rattle.solv_core.specs.Inner.Looking.{AreRefutedBeside, verdict_of};
 ghost use Rattle.solv_core.specs.Inner.Settling.{HasLearnt};
 ghost use Rattle.solv_core.specs.Inner.Running.{is_spent_verdict, is_log_over, IsRefutation, IsFound};
 ghost use Rattle.solv_core.specs.declared.ledger.Entry.{Entry};
@@ -20,11 +21,10 @@ use crate::forgetful::Forgetful;
 use crate::keeping::{flags_of, kept_of};
 use crate::ledger::{Ledger, Run};
 use crate::parts::{Numbers, Parts, Used};
-use crate::refitting::{copy_of, refill, refit_parts};
 use crate::refutation::log_of;
-use crate::refuting::{Contradiction, refuted_over};
+use crate::refuting::{Contradiction, refuted_at_end, refuted_over};
 use crate::settling::{Outcome, settle};
-use crate::verdicts::{Trail, Verdict};
+use crate::verdicts::{Looked, Trail, Verdict};
 use solv_learn::Search;
 use solv_list::Items;
 use solv_pack::{RuleMem, RuleNo};
@@ -33,25 +33,29 @@ use solv_watch::Watches;
 use std::alloc::{AllocError, Global};
 use std::marker::Model;
 
-/// The clause-learning core over clauses with their owners. Contracts see these and the number of packages, and what it has learnt and
+/// The clause-learning core over clauses that are lent to it with their owners. Contracts see these and the number of packages, and what it has learnt and
 /// still uses.
-pub struct Core {
+pub struct Core<'a> {
+    alloc: Global,
     packages: u32,
-    owners: Vec<usize>,
+    book: &'a RuleMem,
+    owners: &'a [usize],
     parts: Parts,
 }
 
-impl Drop for Core {
+impl Drop for Core<'_> {
     fn drop(self) {
         let Core {
+            alloc: _,
             packages: _,
+            book: _,
             owners: _,
             parts: _,
         } = self;
     }
 }
 
-impl Model for Core {
+impl<'a> Model for Core<'a> {
     ghost use Rattle.std.specs.Prelude.{◌≡◌, ◌≤◌, ◌+◌, ◌*◌, ◌^◌, true, length};
     ghost use Rattle.solv_watch.specs.Inner.Watching.{AreChained, AreHeads, AreNarrow};
     ghost use Rattle.solv_derive.specs.Range.{are_over};
@@ -60,18 +64,18 @@ impl Model for Core {
     ghost Value = { LearningCore };
 
     ghost view = { λ c. record {
-      made = record { clauses = c.parts.book.rules; owners = c.owners.items; packages = c.packages };
+      made = record { clauses = c.book.now.rules; owners = c.owners.now; packages = c.packages };
       in_use = record { kept = c.parts.numbers.kept.items; first = c.parts.numbers.first; clauses = c.parts.learnt.rules };
     } };
 
     ghost invariant = { λ c. record {
-      each : length c.owners.items ≡ length c.parts.book.rules;
-      few : length c.parts.book.rules ≤ 2 ^ 27;
-      over : are_over c.packages c.parts.book.rules ≡ true;
+      each : length c.owners.now ≡ length c.book.now.rules;
+      few : length c.book.now.rules ≤ 2 ^ 27;
+      over : are_over c.packages c.book.now.rules ≡ true;
       known : c.parts.known.count ≡ c.packages;
       marked : c.parts.search.marked.count ≡ c.packages;
-      chained : AreChained c.packages c.parts.book.rules c.parts.watches.book.heads.items c.parts.book.links c.parts.watches.book.watched.items;
-      narrow : AreNarrow c.parts.book.rules c.parts.watches.narrow.items;
+      chained : AreChained c.packages c.book.now.rules c.parts.watches.book.heads.items c.parts.watches.book.links.items c.parts.watches.book.watched.items;
+      narrow : AreNarrow c.book.now.rules c.parts.watches.narrow.items;
       heads : AreHeads c.packages c.parts.watches.learnt.heads.items c.parts.watches.learnt.watched.items;
     } };
 }
@@ -84,20 +88,19 @@ fn begin(
     used: &Used<'_>,
     ledger: &mut Ledger,
 ) -> Result<(), AllocError>
-    requires each { length used.now.owners.now ≡ length parts.old.book.rules }
+    requires each { length used.now.owners.now ≡ length used.now.book.now.rules }
     requires owners { list_all (λ o. nat_lt o (length used.now.enabled.now)) used.now.owners.now ≡ true }
     requires few { length ledger.old.entries ≤ 1000001 }
-    requires held { IsHeldBy (record { made = record { clauses = parts.old.book.rules; owners = used.now.owners.now; packages = parts.old.known.count }; in_use = record { kept = parts.old.numbers.kept.items; first = parts.old.numbers.first; clauses = parts.old.learnt.rules } }) ledger.old }
+    requires held { IsHeldBy (record { made = record { clauses = used.now.book.now.rules; owners = used.now.owners.now; packages = parts.old.known.count }; in_use = record { kept = parts.old.numbers.kept.items; first = parts.old.numbers.first; clauses = parts.old.learnt.rules } }) ledger.old }
     ensures budget { ledger.new.budget ≡ ledger.old.budget }
     ensures entries { ledger.new.entries ≡ ledger.old.entries }
-    ensures begun { OnOk result (IsBegun parts.old.book.rules used.now.owners.now parts.old.known.count used.now.enabled.now ledger.old.entries (run_of (record { made = record { clauses = parts.old.book.rules; owners = used.now.owners.now; packages = parts.old.known.count }; in_use = record { kept = parts.old.numbers.kept.items; first = parts.old.numbers.first; clauses = parts.old.learnt.rules } }) used.now.enabled.now ledger.old.entries).kept parts.new.numbers.kept.items parts.new.numbers.first parts.new.learnt.rules) }
-    ensures added { OnOk result (ledger.new.runs ≡ ledger.old.runs ++ run_of (record { made = record { clauses = parts.old.book.rules; owners = used.now.owners.now; packages = parts.old.known.count }; in_use = record { kept = parts.old.numbers.kept.items; first = parts.old.numbers.first; clauses = parts.old.learnt.rules } }) used.now.enabled.now ledger.old.entries ∷ []) }
+    ensures begun { OnOk result (IsBegun used.now.book.now.rules used.now.owners.now parts.old.known.count used.now.enabled.now ledger.old.entries (run_of (record { made = record { clauses = used.now.book.now.rules; owners = used.now.owners.now; packages = parts.old.known.count }; in_use = record { kept = parts.old.numbers.kept.items; first = parts.old.numbers.first; clauses = parts.old.learnt.rules } }) used.now.enabled.now ledger.old.entries).kept parts.new.numbers.kept.items parts.new.numbers.first parts.new.learnt.rules) }
+    ensures added { OnOk result (ledger.new.runs ≡ ledger.old.runs ++ run_of (record { made = record { clauses = used.now.book.now.rules; owners = used.now.owners.now; packages = parts.old.known.count }; in_use = record { kept = parts.old.numbers.kept.items; first = parts.old.numbers.first; clauses = parts.old.learnt.rules } }) used.now.enabled.now ledger.old.entries ∷ []) }
     ensures refused { OnErr result (ledger.new ≡ ledger.old) }
     ensures refused_numbers { OnErr result (parts.new.numbers ≡ parts.old.numbers) }
     ensures refused_learnt { OnErr result (parts.new.learnt ≡ parts.old.learnt) }
     ensures known { parts.new.known ≡ parts.old.known }
     ensures search { parts.new.search ≡ parts.old.search }
-    ensures book { parts.new.book ≡ parts.old.book }
     ensures watches { parts.new.watches ≡ parts.old.watches }
 {
     let count = parts.learnt.len();
@@ -117,7 +120,7 @@ fn begin(
     Ok(())
 }
 
-/// A run that is noted, over the parts of a core.
+/// A run that is noted, over the parts of a core. It looks at its end for the rules of these clauses.
 fn run_over<G: Guide + Recaller>(
     alloc: Global,
     parts: &mut Parts,
@@ -126,19 +129,20 @@ fn run_over<G: Guide + Recaller>(
     guide: &G,
     ledger: &mut Ledger,
     run: usize,
-) -> Result<Verdict, AllocError>
+    clauses: &[RuleNo],
+) -> Result<Looked, AllocError>
     requires count { packages ≡ parts.old.known.count }
-    requires over { are_over parts.old.known.count parts.old.book.rules ≡ true }
-    requires each { length used.now.owners.now ≡ length parts.old.book.rules }
+    requires over { are_over parts.old.known.count used.now.book.now.rules ≡ true }
+    requires each { length used.now.owners.now ≡ length used.now.book.now.rules }
     requires owners { list_all (λ o. nat_lt o (length used.now.enabled.now)) used.now.owners.now ≡ true }
-    requires book { length parts.old.book.rules ≤ 2 ^ 27 }
+    requires book { length used.now.book.now.rules ≤ 2 ^ 27 }
     requires marked { parts.old.search.marked.count ≡ parts.old.known.count }
-    requires guide { G.is_for guide.now parts.old.book.rules used.now.owners.now }
+    requires guide { G.is_for guide.now used.now.book.now.rules used.now.owners.now }
     requires packages { G.is_for_packages guide.now parts.old.known.count }
-    requires chained { AreChained parts.old.known.count parts.old.book.rules parts.old.watches.book.heads.items parts.old.book.links parts.old.watches.book.watched.items }
-    requires narrow { AreNarrow parts.old.book.rules parts.old.watches.narrow.items }
+    requires chained { AreChained parts.old.known.count used.now.book.now.rules parts.old.watches.book.heads.items parts.old.watches.book.links.items parts.old.watches.book.watched.items }
+    requires narrow { AreNarrow used.now.book.now.rules parts.old.watches.narrow.items }
     requires heads { AreHeads parts.old.known.count parts.old.watches.learnt.heads.items parts.old.watches.learnt.watched.items }
-    requires begun { IsBegun parts.old.book.rules used.now.owners.now parts.old.known.count used.now.enabled.now ledger.old.entries parts.old.numbers.kept.items parts.old.numbers.kept.items parts.old.numbers.first parts.old.learnt.rules }
+    requires begun { IsBegun used.now.book.now.rules used.now.owners.now parts.old.known.count used.now.enabled.now ledger.old.entries parts.old.numbers.kept.items parts.old.numbers.kept.items parts.old.numbers.first parts.old.learnt.rules }
     requires budget { ledger.old.budget ≤ 1000000 }
     requires unspent { length ledger.old.entries ≤ ledger.old.budget }
     ensures count { parts.new.known.count ≡ parts.old.known.count }
@@ -146,21 +150,21 @@ fn run_over<G: Guide + Recaller>(
     ensures budget { ledger.new.budget ≡ ledger.old.budget }
     ensures runs { ledger.new.runs ≡ ledger.old.runs }
     ensures few { length ledger.new.entries ≤ ledger.new.budget + 1 }
-    ensures learnt { (new : List Entry) × HasLearnt parts.old.book.rules parts.old.learnt.rules (in_use used.now.owners.now used.now.enabled.now) (λ facts. G.asks guide.now facts used.now.enabled.now) (entry_of parts.old.numbers.kept.items parts.old.numbers.first) parts.old.known.count run ledger.old.entries ledger.new.entries parts.new.learnt.rules new }
+    ensures learnt { (new : List Entry) × HasLearnt used.now.book.now.rules parts.old.learnt.rules (in_use used.now.owners.now used.now.enabled.now) (λ facts. G.asks guide.now facts used.now.enabled.now) (entry_of parts.old.numbers.kept.items parts.old.numbers.first) parts.old.known.count run ledger.old.entries ledger.new.entries parts.new.learnt.rules new }
     ensures numbers { parts.new.numbers ≡ parts.old.numbers }
-    ensures spent { IfOk result (λ v. is_spent_verdict v ≡ (length ledger.new.entries == ledger.new.budget + 1)) }
-    ensures refutation { IfOk result (IsRefutation parts.old.book.rules used.now.owners.now used.now.enabled.now) }
-    ensures log_over { IfOk result (λ v. is_log_over parts.old.known.count v ≡ true) }
-    ensures found { IfOk result (IsFound parts.old.known.count parts.old.book.rules used.now.owners.now used.now.enabled.now (λ facts. G.asks guide.now facts used.now.enabled.now)) }
-    ensures rules { parts.new.book.rules ≡ parts.old.book.rules }
-    ensures chained { AreChained parts.old.known.count parts.old.book.rules parts.new.watches.book.heads.items parts.new.book.links parts.new.watches.book.watched.items }
-    ensures narrow { AreNarrow parts.old.book.rules parts.new.watches.narrow.items }
+    ensures spent { IfOk result (λ v. is_spent_verdict (verdict_of v) ≡ (length ledger.new.entries == ledger.new.budget + 1)) }
+    ensures refutation { IfOk result (λ v. IsRefutation used.now.book.now.rules used.now.owners.now used.now.enabled.now (verdict_of v)) }
+    ensures log_over { IfOk result (λ v. is_log_over parts.old.known.count (verdict_of v) ≡ true) }
+    ensures found { IfOk result (λ v. IsFound parts.old.known.count used.now.book.now.rules used.now.owners.now used.now.enabled.now (λ facts. G.asks guide.now facts used.now.enabled.now) (verdict_of v)) }
+    ensures looked { IfOk result (AreRefutedBeside used.now.book.now.rules used.now.owners.now parts.old.known.count used.now.enabled.now clauses.now) }
+    ensures chained { AreChained parts.old.known.count used.now.book.now.rules parts.new.watches.book.heads.items parts.new.watches.book.links.items parts.new.watches.book.watched.items }
+    ensures narrow { AreNarrow used.now.book.now.rules parts.new.watches.narrow.items }
     ensures heads { AreHeads parts.old.known.count parts.new.watches.learnt.heads.items parts.new.watches.learnt.watched.items }
 {
     parts.known.clear();
-    parts.watches.learnt.hang_anew(&mut parts.learnt, packages)?;
+    parts.watches.learnt.hang_anew(&parts.learnt, packages)?;
     match settle(alloc, parts, used, guide, ledger, run)? {
-        Outcome::Spent => Ok(Verdict::Spent),
+        Outcome::Spent => Ok(Looked::Spent),
         Outcome::Refuted => {
             let count = parts.learnt.len();
             let log = log_of(
@@ -170,26 +174,28 @@ fn run_over<G: Guide + Recaller>(
                 count,
                 &parts.search.hints,
             )?;
-            Ok(Verdict::Unsat(log))
+            Ok(Looked::Unsat(log))
         }
         Outcome::Settled => {
             parts.known.keep_apart();
             let events = events_of(alloc, &parts.known)?;
-            Ok(Verdict::Sat(Trail {
+            let refuted = refuted_at_end(alloc, parts, used, ledger.entries.held(), clauses)?;
+            let trail = Trail {
                 events: Items::wrap(events),
-            }))
+            };
+            Ok(Looked::Sat(trail, Items::wrap(refuted)))
         }
     }
 }
 
-impl Core {
-    /// A core over these clauses, the owner of each, and packages from 1 to `packages`.
+impl<'a> Core<'a> {
+    /// A core over these clauses, which are lent to it, the owner of each, and packages from 1 to `packages`.
     pub fn new(
         alloc: Global,
-        memory: &RuleMem,
-        owners: &[usize],
+        memory: &'a RuleMem,
+        owners: &'a [usize],
         packages: u32,
-    ) -> Result<Core, AllocError>
+    ) -> Result<Core<'a>, AllocError>
         requires each { length owners.now ≡ length memory.now.rules }
         requires few { length memory.now.rules ≤ 2 ^ 27 }
         requires over { are_over packages memory.now.rules ≡ true }
@@ -197,15 +203,15 @@ impl Core {
         ensures core { IfOk result (λ core. core ≡ record { made = record { clauses = memory.now.rules; owners = owners.now; packages = packages }; in_use = none_in_use }) }
         ensures held { IfOk result (λ core. (ledger : LedgerOf) → IsHeldBy core ledger) }
     {
-        let mut book = copy_of(alloc, memory)?;
-        let watches = Watches::over(alloc, &mut book, packages)?;
+        let watches = Watches::over(alloc, memory, packages)?;
         Ok(Core {
+            alloc,
             packages,
-            owners: Vec::from_slice(alloc, owners)?,
+            book: memory,
+            owners,
             parts: Parts {
                 known: Known::new(alloc, packages)?,
                 search: Search::for_packages(alloc, packages)?,
-                book,
                 learnt: RuleMem::new(alloc),
                 numbers: Numbers {
                     kept: Vec::new(alloc),
@@ -213,36 +219,6 @@ impl Core {
                 },
                 watches,
             },
-        })
-    }
-
-    /// Lets a core serve other clauses, of which the first ones are its own: what it has learnt goes, and only what stands behind the
-    /// shared clauses is copied.
-    pub fn refit(
-        self,
-        memory: &RuleMem,
-        owners: &[usize],
-        shared: usize,
-    ) -> Result<Core, AllocError>
-        requires each { length owners.now ≡ length memory.now.rules }
-        requires few { length memory.now.rules ≤ 2 ^ 27 }
-        requires over { are_over self.made.packages memory.now.rules ≡ true }
-        requires shared { take shared self.made.clauses ≡ take shared memory.now.rules }
-        ensures core { IfOk result (λ core. core ≡ record { made = record { clauses = memory.now.rules; owners = owners.now; packages = self.made.packages }; in_use = none_in_use }) }
-        ensures held { IfOk result (λ core. (ledger : LedgerOf) → IsHeldBy core ledger) }
-    {
-        let Core {
-            packages,
-            owners: mut owned,
-            mut parts,
-        } = self;
-        let alloc = *owned.allocator();
-        refit_parts(alloc, &mut parts, memory, shared, packages)?;
-        refill(&mut owned, owners)?;
-        Ok(Core {
-            packages,
-            owners: owned,
-            parts,
         })
     }
 
@@ -306,15 +282,48 @@ impl Core {
         ensures log_over { IfOk result (λ v. is_log_over self.old.made.packages v ≡ true) }
         ensures found { IfOk result (IsFound self.old.made.packages self.old.made.clauses self.old.made.owners enabled.now (λ facts. G.asks guide.now facts enabled.now)) }
     {
-        let alloc = *self.owners.allocator();
+        let looked = self.run_looking(enabled, guide, ledger, &[])?;
+        Ok(looked.into_verdict())
+    }
+
+    /// As `run_recalling`, and where a set is found, some of the rules of these clauses are named, each with a derivation that the enabled
+    /// ones refute it: those that are falsified where all choices are taken back, by what is learnt as well. Of the others nothing is told.
+    pub fn run_looking<G: Guide + Recaller>(
+        &mut self,
+        enabled: &[bool],
+        guide: &G,
+        ledger: &mut Ledger,
+        clauses: &[RuleNo],
+    ) -> Result<Looked, AllocError>
+        requires enabled { list_all (λ o. nat_lt o (length enabled.now)) self.old.made.owners ≡ true }
+        requires guide { G.is_for guide.now self.old.made.clauses self.old.made.owners }
+        requires packages { G.is_for_packages guide.now self.old.made.packages }
+        requires budget { ledger.old.budget ≤ 1000000 }
+        requires few { length ledger.old.entries ≤ ledger.old.budget + 1 }
+        requires held { IsHeldBy self.old ledger.old }
+        ensures core { self.new.made ≡ self.old.made }
+        ensures held { IsHeldBy self.new ledger.new }
+        ensures ledger { GrowsLedger ledger.old ledger.new }
+        ensures run { OnOk result (ledger.new.runs ≡ ledger.old.runs ++ run_of self.old enabled.now ledger.old.entries ∷ []) }
+        ensures in_use { OnOk result (numbers_in_use self.new.in_use ≡ in_use_after (run_of self.old enabled.now ledger.old.entries) ledger.old.entries ledger.new.entries) }
+        ensures refused { OnErr result (LeftByRefusal enabled.now ledger.old ledger.new self.old self.new) }
+        ensures good { IsGoodLedger self.old.made.clauses self.old.made.owners self.old.made.packages (G.asks guide.now) ledger.old → IsGoodLedger self.old.made.clauses self.old.made.owners self.old.made.packages (G.asks guide.now) ledger.new }
+        ensures spent { IfOk result (λ v. is_spent_verdict (verdict_of v) ≡ (length ledger.new.entries == ledger.new.budget + 1)) }
+        ensures refutation { IfOk result (λ v. IsRefutation self.old.made.clauses self.old.made.owners enabled.now (verdict_of v)) }
+        ensures log_over { IfOk result (λ v. is_log_over self.old.made.packages (verdict_of v) ≡ true) }
+        ensures found { IfOk result (λ v. IsFound self.old.made.packages self.old.made.clauses self.old.made.owners enabled.now (λ facts. G.asks guide.now facts enabled.now) (verdict_of v)) }
+        ensures looked { IfOk result (AreRefutedBeside self.old.made.clauses self.old.made.owners self.old.made.packages enabled.now clauses.now) }
+    {
+        let alloc = self.alloc;
         let run = ledger.runs.len();
         let used = Used {
-            owners: &self.owners,
+            book: self.book,
+            owners: self.owners,
             enabled,
         };
         begin(alloc, &mut self.parts, &used, ledger)?;
         if ledger.spent() {
-            return Ok(Verdict::Spent);
+            return Ok(Looked::Spent);
         }
         run_over(
             alloc,
@@ -324,6 +333,7 @@ impl Core {
             guide,
             ledger,
             run,
+            clauses,
         )
     }
 
@@ -338,9 +348,10 @@ impl Core {
         ensures core { self.new ≡ self.old }
         ensures refuted { IfOk result (IsWhatRefutes self.old.made.clauses self.old.made.owners self.old.made.packages enabled.now clauses.now) }
     {
-        let alloc = *self.owners.allocator();
+        let alloc = self.alloc;
         let used = Used {
-            owners: &self.owners,
+            book: self.book,
+            owners: self.owners,
             enabled,
         };
         refuted_over(alloc, &mut self.parts, &used, clauses)

@@ -2,6 +2,7 @@
 ghost use Rattle.std.specs.Prelude.{◌≡◌, ◌<◌, ◌+◌, ◌^◌};
 ghost use Rattle.solv_core.specs.Inner.Holding.{entry_of};
 
+use crate::ledger::Entry;
 use solv_learn::Search;
 use solv_pack::RuleMem;
 use solv_trail::Known;
@@ -28,21 +29,29 @@ impl Numbers {
     }
 }
 
-/// The parts of a core that a run changes: what is known, the analysis of conflicts, the book, the learnt clauses in use with the
-/// numbers of their entries, and the watches of both. What is known, and where learnt clauses hang, begins anew with each run.
+/// The parts of a core that a run changes: what is known, the analysis of conflicts, the learnt clauses in use with the numbers of their
+/// entries, and the watches of these and of the book. What is known, and where learnt clauses hang, begins anew with each run.
 #[derive(Drop)]
 pub struct Parts {
     pub known: Known,
     pub search: Search,
-    pub book: RuleMem,
     pub learnt: RuleMem,
     pub numbers: Numbers,
     pub watches: Watches,
 }
 
-/// The owners of the book's clauses, and which of them are enabled.
+/// The book's clauses, their owners, and which of these are enabled.
 #[derive(Drop)]
 pub struct Used<'a> {
+    pub book: &'a RuleMem,
     pub owners: &'a [usize],
     pub enabled: &'a [bool],
+}
+
+/// Learnt clauses, and the entries that derive them, under these numbers.
+#[derive(Drop)]
+pub struct Learnt<'a> {
+    pub rules: &'a RuleMem,
+    pub numbers: &'a Numbers,
+    pub entries: &'a [Entry],
 }

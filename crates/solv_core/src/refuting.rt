@@ -1,5 +1,5 @@
 //! What enabled rules refute where nothing is chosen.
-ghost use Rattle.std.specs.Prelude.{◌≡◌, ◌<◌, ◌≤◌, ◌+◌, ◌*◌, ◌^◌, ◌||◌, ◌∷◌, [], ℕ, ℤ, Bool, true, List, length, nat_lt, slice_get, Some, IfOk};
+ghost use Rattle.std.specs.Prelude.{◌≡◌, ◌<◌, ◌≤◌, ◌+◌, ◌*◌, ◌^◌, ◌||◌, ◌∷◌, [], ℕ, ℤ, Bool, true, List, length, nat_lt, slice_get, slice_index, Some, IfOk};
 ghost use Rattle.std.specs.List.{list_all};
 ghost use Rattle.std.specs.Option.{IfSome};
 ghost use Rattle.solv_derive.specs.Forced.{is_falsified as is_false};
@@ -8,9 +8,11 @@ ghost use Rattle.solv_trail.specs.Propagated.{in_use};
 ghost use Rattle.solv_trail.specs.Inner.Propagated.{IsReasoned, Propagated};
 ghost use Rattle.solv_watch.specs.Inner.Watching.{AreChained, AreHeads, AreNarrow};
 ghost use Rattle.solv_core.specs.Inner.Contradictions.{AreRefuted, IsLogWith, IsRefutedRule, IsWhatRefutes};
+ghost use Rattle.solv_core.specs.Inner.Looking.{IsFounded};
 
-use crate::parts::{Parts, Used};
-use crate::refutation::last_step;
+use crate::ledger::Entry;
+use crate::parts::{Learnt, Numbers, Parts, Used};
+use crate::refutation::log_of;
 use solv_derive::Log;
 use solv_learn::Search;
 use solv_list::Items;
@@ -53,28 +55,24 @@ fn log_by(
     alloc: Global,
     known: &Known,
     search: &mut Search,
-    book: &RuleMem,
     used: &Used<'_>,
+    learnt: &Learnt<'_>,
     clause: u32,
 ) -> Result<Log, AllocError>
-    requires over { are_over known.now.count book.now.rules ≡ true }
+    requires over { are_over known.now.count used.now.book.now.rules ≡ true }
     requires count { search.old.marked.count ≡ known.now.count }
-    requires few { length book.now.rules ≤ 2 ^ 27 }
-    requires clause { clause < length book.now.rules }
-    requires clash { (c : List ℤ) → slice_get book.now.rules clause ≡ Some c → is_false known.now.lits c ≡ true }
-    requires reasoned { IsReasoned book.now.rules (in_use used.now.owners.now used.now.enabled.now) known.now }
+    requires few { length used.now.book.now.rules ≤ 2 ^ 27 }
+    requires clause { clause < length used.now.book.now.rules }
+    requires clash { (c : List ℤ) → slice_get used.now.book.now.rules clause ≡ Some c → is_false known.now.lits c ≡ true }
+    requires founded { IsFounded used.now.book.now.rules used.now.owners.now used.now.enabled.now known.now learnt.now.rules.now.rules learnt.now.numbers.now.kept.items learnt.now.numbers.now.first learnt.now.entries.now }
     requires no_choice { known.now.marks ≡ [] }
     ensures count { search.new.marked.count ≡ search.old.marked.count }
-    ensures log { IfOk result (λ log. (other : ℕ → Bool) → (in_use used.now.owners.now used.now.enabled.now clause || other clause) ≡ true → IsLogWith book.now.rules used.now.owners.now known.now.count used.now.enabled.now other log) }
+    ensures log { IfOk result (λ log. (other : ℕ → Bool) → (in_use used.now.owners.now used.now.enabled.now clause || other clause) ≡ true → IsLogWith used.now.book.now.rules used.now.owners.now known.now.count used.now.enabled.now other log) }
 {
-    let _ = used;
-    let none = RuleMem::new(alloc);
-    search.refute(known, book, &none, 0, clause)?;
-    let mut steps = Vec::new(alloc);
-    steps.push(last_step(alloc, &search.hints)?)?;
-    Ok(Log {
-        steps: Items::wrap(steps),
-    })
+    let count = learnt.rules.len();
+    search.refute(known, used.book, learnt.rules, 0, clause)?;
+    let log = log_of(alloc, learnt.numbers, learnt.entries, count, &search.hints)?;
+    Ok(log)
 }
 
 /// The rule of a clause, if the clause is falsified, and the derivation that refutes it.
@@ -82,26 +80,26 @@ fn consider(
     alloc: Global,
     known: &Known,
     search: &mut Search,
-    book: &RuleMem,
     used: &Used<'_>,
+    learnt: &Learnt<'_>,
     clause: RuleNo,
 ) -> Result<Option<RefutedRule>, AllocError>
-    requires over { are_over known.now.count book.now.rules ≡ true }
+    requires over { are_over known.now.count used.now.book.now.rules ≡ true }
     requires count { search.old.marked.count ≡ known.now.count }
-    requires each { length used.now.owners.now ≡ length book.now.rules }
-    requires few { length book.now.rules ≤ 2 ^ 27 }
-    requires reasoned { IsReasoned book.now.rules (in_use used.now.owners.now used.now.enabled.now) known.now }
+    requires each { length used.now.owners.now ≡ length used.now.book.now.rules }
+    requires few { length used.now.book.now.rules ≤ 2 ^ 27 }
+    requires founded { IsFounded used.now.book.now.rules used.now.owners.now used.now.enabled.now known.now learnt.now.rules.now.rules learnt.now.numbers.now.kept.items learnt.now.numbers.now.first learnt.now.entries.now }
     requires no_choice { known.now.marks ≡ [] }
     ensures count { search.new.marked.count ≡ search.old.marked.count }
-    ensures refuted { IfOk result (λ found. IfSome found (IsRefutedRule book.now.rules used.now.owners.now known.now.count used.now.enabled.now (clause ∷ []))) }
+    ensures refuted { IfOk result (λ found. IfSome found (IsRefutedRule used.now.book.now.rules used.now.owners.now known.now.count used.now.enabled.now (clause ∷ []))) }
 {
-    if clause.0 as usize >= book.len() {
+    if clause.0 as usize >= used.book.len() {
         return Ok(None);
     }
-    if !is_falsified(known, book.lits(clause)) {
+    if !is_falsified(known, used.book.lits(clause)) {
         return Ok(None);
     }
-    let log = log_by(alloc, known, search, book, used, clause.0)?;
+    let log = log_by(alloc, known, search, used, learnt, clause.0)?;
     Ok(Some(RefutedRule {
         rule: used.owners[clause.0 as usize],
         log,
@@ -119,64 +117,119 @@ fn is_last(found: &[RefutedRule], owners: &[usize], clause: RuleNo) -> bool {
     }
 }
 
-/// The rules of these clauses that are refuted. Of clauses of one rule that follow each other the first serves.
+/// Whether so many derivations, each put together from so many entries, are more than a look is worth.
+fn are_many(found: usize, entries: usize) -> bool {
+    found.saturating_mul(entries) > 1000000
+}
+
+/// The rules of these clauses that are refuted. Of clauses of one rule that follow each other the first serves. Where much was learnt, it stops
+/// after some.
 fn refuted_among(
     alloc: Global,
     known: &Known,
     search: &mut Search,
-    book: &RuleMem,
     used: &Used<'_>,
+    learnt: &Learnt<'_>,
     clauses: &[RuleNo],
 ) -> Result<Vec<RefutedRule>, AllocError>
-    requires over { are_over known.now.count book.now.rules ≡ true }
+    requires over { are_over known.now.count used.now.book.now.rules ≡ true }
     requires count { search.old.marked.count ≡ known.now.count }
-    requires each { length used.now.owners.now ≡ length book.now.rules }
-    requires few { length book.now.rules ≤ 2 ^ 27 }
-    requires reasoned { IsReasoned book.now.rules (in_use used.now.owners.now used.now.enabled.now) known.now }
+    requires each { length used.now.owners.now ≡ length used.now.book.now.rules }
+    requires few { length used.now.book.now.rules ≤ 2 ^ 27 }
+    requires founded { IsFounded used.now.book.now.rules used.now.owners.now used.now.enabled.now known.now learnt.now.rules.now.rules learnt.now.numbers.now.kept.items learnt.now.numbers.now.first learnt.now.entries.now }
     requires no_choice { known.now.marks ≡ [] }
     ensures count { search.new.marked.count ≡ search.old.marked.count }
-    ensures refuted { IfOk result (λ found. AreRefuted book.now.rules used.now.owners.now known.now.count used.now.enabled.now clauses.now found.items) }
+    ensures refuted { IfOk result (λ found. AreRefuted used.now.book.now.rules used.now.owners.now known.now.count used.now.enabled.now clauses.now found.items) }
 {
     let mut found = Vec::new(alloc);
     for clause in clauses {
+        if are_many(found.len(), learnt.entries.len()) {
+            return Ok(found);
+        }
         if is_last(&found, used.owners, *clause) {
             continue;
         }
-        if let Some(one) = consider(alloc, known, search, book, used, *clause)? {
+        if let Some(one) = consider(alloc, known, search, used, learnt, *clause)? {
             found.push(one)?;
         }
     }
     Ok(found)
 }
 
-/// Adds what enabled rules force where nothing is known yet, without learnt rules. Names the clause that is falsified, if one is.
-fn force(
+/// Takes back all choices.
+fn take_back(known: &mut Known)
+    requires { (i k : ℕ) → i < k → k < length known.old.marks → slice_index known.old.marks i < slice_index known.old.marks k }
+    ensures count { known.new.count ≡ known.old.count }
+    ensures no_choice { known.new.marks ≡ [] }
+    ensures reasoned { (rules : List (List ℤ)) (used : ℕ → Bool) → IsReasoned rules used known.old → IsReasoned rules used known.new }
+{
+    if known.choices() == 0 {
+        return;
+    }
+    known.cut(0);
+}
+
+/// The rules of these clauses that are refuted where all choices are taken back, by what a run has learnt as well.
+pub fn refuted_at_end(
     alloc: Global,
-    known: &mut Known,
-    book: &mut RuleMem,
-    watches: &mut Watches,
+    parts: &mut Parts,
     used: &Used<'_>,
-) -> Option<u32>
-    requires over { are_over known.old.count book.old.rules ≡ true }
-    requires each { length used.now.owners.now ≡ length book.old.rules }
+    entries: &[Entry],
+    clauses: &[RuleNo],
+) -> Result<Vec<RefutedRule>, AllocError>
+    requires over { are_over parts.old.known.count used.now.book.now.rules ≡ true }
+    requires count { parts.old.search.marked.count ≡ parts.old.known.count }
+    requires each { length used.now.owners.now ≡ length used.now.book.now.rules }
+    requires few { length used.now.book.now.rules ≤ 2 ^ 27 }
+    requires founded { IsFounded used.now.book.now.rules used.now.owners.now used.now.enabled.now parts.old.known parts.old.learnt.rules parts.old.numbers.kept.items parts.old.numbers.first entries.now }
+    requires rising { (i k : ℕ) → i < k → k < length parts.old.known.marks → slice_index parts.old.known.marks i < slice_index parts.old.known.marks k }
+    ensures count { parts.new.known.count ≡ parts.old.known.count }
+    ensures marked { parts.new.search.marked.count ≡ parts.old.search.marked.count }
+    ensures learnt { parts.new.learnt.rules ≡ parts.old.learnt.rules }
+    ensures numbers { parts.new.numbers ≡ parts.old.numbers }
+    ensures watches { parts.new.watches ≡ parts.old.watches }
+    ensures refuted { IfOk result (λ found. AreRefuted used.now.book.now.rules used.now.owners.now parts.old.known.count used.now.enabled.now clauses.now found.items) }
+{
+    if clauses.is_empty() {
+        return Ok(Vec::new(alloc));
+    }
+    take_back(&mut parts.known);
+    let learnt = Learnt {
+        rules: &parts.learnt,
+        numbers: &parts.numbers,
+        entries,
+    };
+    refuted_among(
+        alloc,
+        &parts.known,
+        &mut parts.search,
+        used,
+        &learnt,
+        clauses,
+    )
+}
+
+/// Adds what enabled rules force where nothing is known yet, without learnt rules. Names the clause that is falsified, if one is.
+fn force(alloc: Global, known: &mut Known, watches: &mut Watches, used: &Used<'_>) -> Option<u32>
+    requires over { are_over known.old.count used.now.book.now.rules ≡ true }
+    requires each { length used.now.owners.now ≡ length used.now.book.now.rules }
     requires owners { list_all (λ o. nat_lt o (length used.now.enabled.now)) used.now.owners.now ≡ true }
-    requires few { length book.old.rules ≤ 2 ^ 27 }
-    requires chained { AreChained known.old.count book.old.rules watches.old.book.heads.items book.old.links watches.old.book.watched.items }
-    requires narrow { AreNarrow book.old.rules watches.old.narrow.items }
+    requires few { length used.now.book.now.rules ≤ 2 ^ 27 }
+    requires chained { AreChained known.old.count used.now.book.now.rules watches.old.book.heads.items watches.old.book.links.items watches.old.book.watched.items }
+    requires narrow { AreNarrow used.now.book.now.rules watches.old.narrow.items }
     requires heads { AreHeads known.old.count watches.old.learnt.heads.items watches.old.learnt.watched.items }
     ensures count { known.new.count ≡ known.old.count }
     ensures no_choice { known.new.marks ≡ [] }
-    ensures reasoned { IsReasoned book.old.rules (in_use used.now.owners.now used.now.enabled.now) known.new }
-    ensures done { Propagated book.old.rules (in_use used.now.owners.now used.now.enabled.now) known.new.lits result }
-    ensures rules { book.new.rules ≡ book.old.rules }
-    ensures chained { AreChained known.old.count book.old.rules watches.new.book.heads.items book.new.links watches.new.book.watched.items }
-    ensures narrow { AreNarrow book.old.rules watches.new.narrow.items }
+    ensures reasoned { IsReasoned used.now.book.now.rules (in_use used.now.owners.now used.now.enabled.now) known.new }
+    ensures done { Propagated used.now.book.now.rules (in_use used.now.owners.now used.now.enabled.now) known.new.lits result }
+    ensures chained { AreChained known.old.count used.now.book.now.rules watches.new.book.heads.items watches.new.book.links.items watches.new.book.watched.items }
+    ensures narrow { AreNarrow used.now.book.now.rules watches.new.narrow.items }
     ensures heads { AreHeads known.old.count watches.new.learnt.heads.items watches.new.learnt.watched.items }
 {
     known.clear();
-    let mut none = RuleMem::new(alloc);
+    let none = RuleMem::new(alloc);
     watches.learnt.forget();
-    propagate(known, book, &mut none, watches, used.owners, used.enabled)
+    propagate(known, used.book, &none, watches, used.owners, used.enabled)
 }
 
 /// What enabled rules refute, over the parts of a core: themselves, or some of the rules of these clauses.
@@ -186,38 +239,41 @@ pub fn refuted_over(
     used: &Used<'_>,
     clauses: &[RuleNo],
 ) -> Result<Contradiction, AllocError>
-    requires over { are_over parts.old.known.count parts.old.book.rules ≡ true }
+    requires over { are_over parts.old.known.count used.now.book.now.rules ≡ true }
     requires count { parts.old.search.marked.count ≡ parts.old.known.count }
-    requires each { length used.now.owners.now ≡ length parts.old.book.rules }
+    requires each { length used.now.owners.now ≡ length used.now.book.now.rules }
     requires owners { list_all (λ o. nat_lt o (length used.now.enabled.now)) used.now.owners.now ≡ true }
-    requires few { length parts.old.book.rules ≤ 2 ^ 27 }
-    requires chained { AreChained parts.old.known.count parts.old.book.rules parts.old.watches.book.heads.items parts.old.book.links parts.old.watches.book.watched.items }
-    requires narrow { AreNarrow parts.old.book.rules parts.old.watches.narrow.items }
+    requires few { length used.now.book.now.rules ≤ 2 ^ 27 }
+    requires chained { AreChained parts.old.known.count used.now.book.now.rules parts.old.watches.book.heads.items parts.old.watches.book.links.items parts.old.watches.book.watched.items }
+    requires narrow { AreNarrow used.now.book.now.rules parts.old.watches.narrow.items }
     requires heads { AreHeads parts.old.known.count parts.old.watches.learnt.heads.items parts.old.watches.learnt.watched.items }
     ensures count { parts.new.known.count ≡ parts.old.known.count }
     ensures marked { parts.new.search.marked.count ≡ parts.old.search.marked.count }
-    ensures rules { parts.new.book.rules ≡ parts.old.book.rules }
-    ensures chained { AreChained parts.old.known.count parts.old.book.rules parts.new.watches.book.heads.items parts.new.book.links parts.new.watches.book.watched.items }
-    ensures narrow { AreNarrow parts.old.book.rules parts.new.watches.narrow.items }
+    ensures chained { AreChained parts.old.known.count used.now.book.now.rules parts.new.watches.book.heads.items parts.new.watches.book.links.items parts.new.watches.book.watched.items }
+    ensures narrow { AreNarrow used.now.book.now.rules parts.new.watches.narrow.items }
     ensures heads { AreHeads parts.old.known.count parts.new.watches.learnt.heads.items parts.new.watches.learnt.watched.items }
     ensures learnt { parts.new.learnt.rules ≡ parts.old.learnt.rules }
     ensures numbers { parts.new.numbers ≡ parts.old.numbers }
-    ensures refuted { IfOk result (IsWhatRefutes parts.old.book.rules used.now.owners.now parts.old.known.count used.now.enabled.now clauses.now) }
+    ensures refuted { IfOk result (IsWhatRefutes used.now.book.now.rules used.now.owners.now parts.old.known.count used.now.enabled.now clauses.now) }
 {
-    match force(
-        alloc,
-        &mut parts.known,
-        &mut parts.book,
-        &mut parts.watches,
-        used,
-    ) {
+    let none = RuleMem::new(alloc);
+    let numbers = Numbers {
+        kept: Vec::new(alloc),
+        first: 0,
+    };
+    let learnt = Learnt {
+        rules: &none,
+        numbers: &numbers,
+        entries: &[],
+    };
+    match force(alloc, &mut parts.known, &mut parts.watches, used) {
         Some(clause) => {
             let log = log_by(
                 alloc,
                 &parts.known,
                 &mut parts.search,
-                &parts.book,
                 used,
+                &learnt,
                 clause,
             )?;
             Ok(Contradiction::Themselves(log))
@@ -227,8 +283,8 @@ pub fn refuted_over(
                 alloc,
                 &parts.known,
                 &mut parts.search,
-                &parts.book,
                 used,
+                &learnt,
                 clauses,
             )?;
             Ok(Contradiction::Others(Items::wrap(others)))

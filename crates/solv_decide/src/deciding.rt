@@ -1,11 +1,12 @@
 //! The answer for a task: one run with every rule enabled.
-ghost use Rattle.std.specs.Prelude.{◌≡◌, ◌≤◌, ◌+◌, ◌==◌, ◌∷◌, [], None, true, length, take, replicate, IfOk};
+ghost use Rattle.std.specs.Prelude.{◌≡◌, ◌≤◌, ◌+◌, ◌==◌, ◌∷◌, [], None, true, length, replicate, IfOk};
 ghost use Rattle.std.specs.List.{list_all, range_with_len};
 ghost use Rattle.solv_pool.specs.Catalog.{catalog_of};
 ghost use Rattle.solv_pool.specs.TaskBelonging.{IsClosed};
 ghost use Rattle.solv_prov.specs.Index.{IsIndexOf};
 ghost use Rattle.solv_jobs.specs.Marking.{HasMarks};
 ghost use Rattle.solv_rules.specs.Books.{IsBook, first_fault, is_bookable, read_rules};
+ghost use Rattle.solv_core.specs.Cores.{CoreOf};
 ghost use Rattle.solv_core.specs.Inner.Cores.{none_in_use, numbers_in_use};
 ghost use Rattle.solv_core.specs.Inner.Holding.{IsHeldBy};
 ghost use Rattle.solv_core.specs.Ledgers.{IsGoodLedger};
@@ -29,30 +30,27 @@ use std::alloc::{AllocError, Global};
 
 /// What a task is answered, the ledger of the one run, and what made it: the questions and the core, which further runs may use.
 #[derive(Drop)]
-pub struct Decided {
+pub struct Decided<'a> {
     pub verdict: Verdict,
     pub ledger: Ledger,
     pub phases: Phases,
-    pub core: Core,
+    pub core: Core<'a>,
 }
 
-/// What a decision leaves for a later one: what stands in its plan behind the demands and the installed packages, and its core.
+/// What a decision leaves for a later one: what stands in its plan behind the demands and the installed packages.
 #[derive(Drop)]
 pub struct Left {
     pub rest: Rest,
-    pub core: Core,
 }
 
 impl Left {
-    /// What is left of a decision: its questions and its core.
-    pub fn of(phases: Phases, core: Core) -> Left
+    /// What is left of a decision by its questions.
+    pub fn of(phases: Phases) -> Left
         ensures rest { result.rest ≡ rest_in phases.plan }
-        ensures asked { (r : Request) → IsAskedFor r phases core.made → result.rest ≡ rest_by r.catalog r.flags r.marks }
-        ensures core { result.core ≡ core }
+        ensures asked { (r : Request) (core : CoreOf) → IsAskedFor r phases core → result.rest ≡ rest_by r.catalog r.flags r.marks }
     {
         Left {
             rest: phases.into_rest(),
-            core,
         }
     }
 }
@@ -66,7 +64,7 @@ fn all_enabled(alloc: Global, rules: usize) -> Result<Vec<bool>, AllocError>
 }
 
 /// A core over the clauses of a book.
-fn core_of(alloc: Global, task: &Task, book: &Book) -> Result<Core, AllocError>
+fn core_of<'a>(alloc: Global, task: &Task, book: &'a Book) -> Result<Core<'a>, AllocError>
     requires book { IsBook (catalog_of task.now) book.now }
     requires bookable { list_all (is_bookable (catalog_of task.now)) (read_rules book.now.rules) ≡ true }
     requires fits { first_fault (catalog_of task.now) 0 (read_rules book.now.rules) ≡ None }
@@ -78,16 +76,16 @@ fn core_of(alloc: Global, task: &Task, book: &Book) -> Result<Core, AllocError>
     Core::new(alloc, book.memory(), book.owners(), task.universe.count())
 }
 
-/// Decides a task with a core over the clauses of its book that has learnt nothing, and the part of its plan that no job changes.
-fn decide_with(
+/// Decides a task with the part of its plan that no job changes.
+fn decide_with<'a>(
     alloc: Global,
     task: &Task,
     prov: &Providers,
     marks: &Marks,
-    book: &Book,
-    left: Left,
+    book: &'a Book,
+    rest: Rest,
     budget: u32,
-) -> Result<Decided, AllocError>
+) -> Result<Decided<'a>, AllocError>
     requires index { IsIndexOf prov.now (catalog_of task.now) }
     requires closed { IsClosed task.now }
     requires marks { HasMarks (length task.now.universe.packages) marks.now }
@@ -95,10 +93,9 @@ fn decide_with(
     requires book { IsBook (catalog_of task.now) book.now }
     requires rules { read_rules book.now.rules ≡ rules_of (request_of task.now marks.now) }
     requires bookable { list_all (is_bookable (catalog_of task.now)) (read_rules book.now.rules) ≡ true }
+    requires fits { first_fault (catalog_of task.now) 0 (read_rules book.now.rules) ≡ None }
     requires budget { budget ≤ 1000000 }
-    requires rest { left.rest ≡ rest_by (catalog_of task.now) task.now.flags marks.now }
-    requires core { left.core ≡ record { made = record { clauses = book.now.clauses; owners = book.now.owners; packages = length task.now.universe.packages }; in_use = none_in_use } }
-    requires held { (ledger : LedgerOf) → IsHeldBy left.core ledger }
+    requires rest { rest ≡ rest_by (catalog_of task.now) task.now.flags marks.now }
     ensures budget { IfOk result (λ d. d.ledger.budget ≡ budget) }
     ensures few { IfOk result (λ d. length d.ledger.entries ≤ d.ledger.budget + 1) }
     ensures asked { IfOk result (λ d. IsAskedFor (request_of task.now marks.now) d.phases d.core.made) }
@@ -112,7 +109,7 @@ fn decide_with(
 {
     clauses_name_packages();
     task.pool.holds_each_once();
-    let Left { rest, mut core } = left;
+    let mut core = core_of(alloc, task, book)?;
     let phases = Phases::on(alloc, task, prov, marks, book, rest)?;
     let enabled = all_enabled(alloc, book.rules().list.len())?;
     let mut ledger = Ledger::new(alloc, budget);
@@ -126,14 +123,14 @@ fn decide_with(
 }
 
 /// Decides a task whose hard rules, by these marks, a book has: a set that meets them, a refutation, or that a budget of learnt rules is spent.
-pub fn decide(
+pub fn decide<'a>(
     alloc: Global,
     task: &Task,
     prov: &Providers,
     marks: &Marks,
-    book: &Book,
+    book: &'a Book,
     budget: u32,
-) -> Result<Decided, AllocError>
+) -> Result<Decided<'a>, AllocError>
     requires index { IsIndexOf prov.now (catalog_of task.now) }
     requires closed { IsClosed task.now }
     requires marks { HasMarks (length task.now.universe.packages) marks.now }
@@ -155,22 +152,19 @@ pub fn decide(
     ensures decided { IfOk result (λ d. IsDecided (request_of task.now marks.now) (replicate (length book.now.rules.list) true) (record { clauses = book.now.clauses; owners = book.now.owners; packages = length task.now.universe.packages }) d.verdict) }
 {
     let rest = make_rest(alloc, task, prov, marks, book.rules())?;
-    let core = core_of(alloc, task, book)?;
-    decide_with(alloc, task, prov, marks, book, Left { rest, core }, budget)
+    decide_with(alloc, task, prov, marks, book, rest, budget)
 }
 
-/// As `decide`, with what an earlier decision left: one for the same packages, flags and marks, of whose clauses the book has so many
-/// at its beginning.
-pub fn decide_on(
+/// As `decide`, with what an earlier decision left: one for the same packages, flags and marks.
+pub fn decide_on<'a>(
     alloc: Global,
     task: &Task,
     prov: &Providers,
     marks: &Marks,
-    book: &Book,
+    book: &'a Book,
     left: Left,
-    shared: usize,
     budget: u32,
-) -> Result<Decided, AllocError>
+) -> Result<Decided<'a>, AllocError>
     requires index { IsIndexOf prov.now (catalog_of task.now) }
     requires closed { IsClosed task.now }
     requires marks { HasMarks (length task.now.universe.packages) marks.now }
@@ -181,8 +175,6 @@ pub fn decide_on(
     requires fits { first_fault (catalog_of task.now) 0 (read_rules book.now.rules) ≡ None }
     requires budget { budget ≤ 1000000 }
     requires rest { left.rest ≡ rest_by (catalog_of task.now) task.now.flags marks.now }
-    requires shared { take shared left.core.made.clauses ≡ take shared book.now.clauses }
-    requires packages { left.core.made.packages ≡ length task.now.universe.packages }
     ensures budget { IfOk result (λ d. d.ledger.budget ≡ budget) }
     ensures few { IfOk result (λ d. length d.ledger.entries ≤ d.ledger.budget + 1) }
     ensures asked { IfOk result (λ d. IsAskedFor (request_of task.now marks.now) d.phases d.core.made) }
@@ -194,8 +186,6 @@ pub fn decide_on(
     ensures spent { IfOk result (λ d. is_spent_verdict d.verdict ≡ (length d.ledger.entries == budget + 1)) }
     ensures decided { IfOk result (λ d. IsDecided (request_of task.now marks.now) (replicate (length book.now.rules.list) true) (record { clauses = book.now.clauses; owners = book.now.owners; packages = length task.now.universe.packages }) d.verdict) }
 {
-    clauses_name_packages();
-    let Left { rest, core } = left;
-    let core = core.refit(book.memory(), book.owners(), shared)?;
-    decide_with(alloc, task, prov, marks, book, Left { rest, core }, budget)
+    let Left { rest } = left;
+    decide_with(alloc, task, prov, marks, book, rest, budget)
 }

@@ -6,6 +6,7 @@ ghost use Rattle.solv_core.specs.Inner.Holding.{IsHeldBy};
 ghost use Rattle.solv_core.specs.Inner.Ledgers.{GrowsLedger, LeftByRefusal, in_use_after, run_of};
 ghost use Rattle.solv_pool.specs.Propagation.{is_fact};
 ghost use Rattle.solv_core.specs.Ledgers.{IsGoodLedger};
+ghost use Rattle.solv_core.specs.Inner.Looking.{AreRefutedBeside, verdict_of};
 ghost use Rattle.solv_core.specs.Inner.Running.{IsFound, IsRefutation, is_log_over, is_spent_verdict};
 ghost use Rattle.solv_plan.specs.Inner.Plans.{plan_asks};
 ghost use Rattle.solv_plan.specs.Inner.Settling.{AreFit, is_right_for};
@@ -15,7 +16,8 @@ ghost use Rattle.solv_decide.specs.Inner.GuideLaw.{lawful};
 ghost use Rattle.solv_decide.specs.Inner.Serving.{serves_on, still_fits};
 
 use crate::phases::Phases;
-use solv_core::{Ask, Core, Guide, Known, Ledger, Recaller, Verdict};
+use solv_core::{Ask, Core, Guide, Known, Ledger, Looked, Recaller};
+use solv_pack::RuleNo;
 use solv_plan::{Memory, next_recalling};
 use std::alloc::AllocError;
 use std::cell::Cell;
@@ -64,7 +66,7 @@ impl<'a, K: Planned> Guide for Recalling<'a, K> {
 impl<'a, K: Planned> Recaller for Recalling<'a, K> {
     type Memory = Option<Remembered<K>>;
 
-    ghost serves = { λ guide lent lits. IfSome lent (λ remembered. AreFit (is_fact lits) remembered.memory) };
+    ghost serves = { λ guide lent lits. IfSome lent (λ remembered. AreFit K.plan (is_fact lits) remembered.memory) };
 
     fn begin(&self, known: &Known) -> Option<Remembered<K>> {
         let Some(remembered) = self.remembered.take() else {
@@ -97,17 +99,18 @@ impl<'a, K: Planned> Recaller for Recalling<'a, K> {
         self.remembered.set(memory);
     }
 
-    ghost keeps_serving = { λ guide lent before after grown serves. serves_on lent serves (λ remembered fits. still_fits remembered.memory before after grown fits) };
+    ghost keeps_serving = { λ guide lent before after grown serves. serves_on lent serves (λ remembered fits. still_fits K.plan remembered.memory before after grown fits) };
 }
 
-/// A run in which what is settled of the questions is remembered.
-pub(crate) fn run_recalling<K: Planned>(
+/// A run in which what is settled of the questions is remembered. It looks at its end for the rules of these clauses.
+pub(crate) fn run_looking<K: Planned>(
     phases: &Phases,
     memory: Memory,
-    core: &mut Core,
+    core: &mut Core<'_>,
     enabled: &[bool],
     ledger: &mut Ledger,
-) -> Result<Verdict, AllocError>
+    clauses: &[RuleNo],
+) -> Result<Looked, AllocError>
     requires plan { phases.now.plan ≡ K.plan }
     requires right { is_right_for phases.now.plan memory ≡ true }
     requires enabled { list_all (λ o. nat_lt o (length enabled.now)) core.old.made.owners ≡ true }
@@ -123,10 +126,11 @@ pub(crate) fn run_recalling<K: Planned>(
     ensures in_use { OnOk result (numbers_in_use core.new.in_use ≡ in_use_after (run_of core.old enabled.now ledger.old.entries) ledger.old.entries ledger.new.entries) }
     ensures refused { OnErr result (LeftByRefusal enabled.now ledger.old ledger.new core.old core.new) }
     ensures good { IsGoodLedger core.old.made.clauses core.old.made.owners core.old.made.packages (plan_asks phases.now.plan) ledger.old → IsGoodLedger core.old.made.clauses core.old.made.owners core.old.made.packages (plan_asks phases.now.plan) ledger.new }
-    ensures spent { IfOk result (λ v. is_spent_verdict v ≡ (length ledger.new.entries == ledger.new.budget + 1)) }
-    ensures refutation { IfOk result (IsRefutation core.old.made.clauses core.old.made.owners enabled.now) }
-    ensures log_over { IfOk result (λ v. is_log_over core.old.made.packages v ≡ true) }
-    ensures found { IfOk result (IsFound core.old.made.packages core.old.made.clauses core.old.made.owners enabled.now (λ facts. plan_asks phases.now.plan facts enabled.now)) }
+    ensures spent { IfOk result (λ v. is_spent_verdict (verdict_of v) ≡ (length ledger.new.entries == ledger.new.budget + 1)) }
+    ensures refutation { IfOk result (λ v. IsRefutation core.old.made.clauses core.old.made.owners enabled.now (verdict_of v)) }
+    ensures log_over { IfOk result (λ v. is_log_over core.old.made.packages (verdict_of v) ≡ true) }
+    ensures found { IfOk result (λ v. IsFound core.old.made.packages core.old.made.clauses core.old.made.owners enabled.now (λ facts. plan_asks phases.now.plan facts enabled.now) (verdict_of v)) }
+    ensures looked { IfOk result (AreRefutedBeside core.old.made.clauses core.old.made.owners core.old.made.packages enabled.now clauses.now) }
 {
     let remembered = Remembered::<K> {
         memory,
@@ -136,5 +140,5 @@ pub(crate) fn run_recalling<K: Planned>(
         phases,
         remembered: Cell::new(Some(remembered)),
     };
-    core.run_recalling(enabled, &guide, ledger)
+    core.run_looking(enabled, &guide, ledger, clauses)
 }

@@ -5,14 +5,16 @@ ghost use Rattle.solv_core.specs.Inner.Cores.{numbers_in_use};
 ghost use Rattle.solv_core.specs.Inner.Holding.{IsHeldBy};
 ghost use Rattle.solv_core.specs.Inner.Ledgers.{GrowsLedger, LeftByRefusal, in_use_after, run_of};
 ghost use Rattle.solv_core.specs.Ledgers.{IsGoodLedger};
+ghost use Rattle.solv_core.specs.Inner.Looking.{AreRefutedBeside, verdict_of};
 ghost use Rattle.solv_core.specs.Inner.Running.{is_log_over, is_spent_verdict};
 ghost use Rattle.solv_questions.specs.Questions.{Request, asks};
 ghost use Rattle.solv_decide.specs.Inner.Deciding.{IsAskedFor, IsDecided};
 
 use crate::phases::Phases;
-use crate::recalling::run_recalling;
-use solv_core::{Core, Ledger, Verdict};
+use crate::recalling::run_looking;
+use solv_core::{Core, Ledger, Looked, Verdict};
 use solv_derive::laws::good_logs_refute;
+use solv_pack::RuleNo;
 use solv_plan::laws::plans_ask_the_questions;
 use solv_pool::laws::clauses_say_the_rule;
 use solv_questions::questions_keep_the_law;
@@ -25,7 +27,7 @@ use std::marker::Brand;
 /// Where memory runs out, it may be tried again: core and ledger are as before, or both have this run, and what it learnt until then.
 pub fn solve(
     phases: &Phases,
-    core: &mut Core,
+    core: &mut Core<'_>,
     enabled: &[bool],
     ledger: &mut Ledger,
 ) -> Result<Verdict, AllocError>
@@ -45,10 +47,40 @@ pub fn solve(
     ensures log_over { IfOk result (λ v. is_log_over core.old.made.packages v ≡ true) }
     ensures decided { (r : Request) → IsAskedFor r phases.now core.old.made → IfOk result (IsDecided r enabled.now core.old.made) }
 {
+    let looked = solve_looking(phases, core, enabled, ledger, &[])?;
+    Ok(looked.into_verdict())
+}
+
+/// As `solve`, and where a set is found, some of the rules of these clauses are named, each with a derivation that the enabled ones refute it, whatever
+/// is chosen. Of the others nothing is told.
+pub fn solve_looking(
+    phases: &Phases,
+    core: &mut Core<'_>,
+    enabled: &[bool],
+    ledger: &mut Ledger,
+    clauses: &[RuleNo],
+) -> Result<Looked, AllocError>
+    requires enabled { list_all (λ o. nat_lt o (length enabled.now)) core.old.made.owners ≡ true }
+    requires asked { (r : Request) × IsAskedFor r phases.now core.old.made }
+    requires budget { ledger.old.budget ≤ 1000000 }
+    requires few { length ledger.old.entries ≤ ledger.old.budget + 1 }
+    requires held { IsHeldBy core.old ledger.old }
+    ensures core { core.new.made ≡ core.old.made }
+    ensures held { IsHeldBy core.new ledger.new }
+    ensures ledger { GrowsLedger ledger.old ledger.new }
+    ensures run { OnOk result (ledger.new.runs ≡ ledger.old.runs ++ run_of core.old enabled.now ledger.old.entries ∷ []) }
+    ensures in_use { OnOk result (numbers_in_use core.new.in_use ≡ in_use_after (run_of core.old enabled.now ledger.old.entries) ledger.old.entries ledger.new.entries) }
+    ensures refused { OnErr result (LeftByRefusal enabled.now ledger.old ledger.new core.old core.new) }
+    ensures good { (r : Request) → IsAskedFor r phases.now core.old.made → IsGoodLedger core.old.made.clauses core.old.made.owners core.old.made.packages (asks r) ledger.old → IsGoodLedger core.old.made.clauses core.old.made.owners core.old.made.packages (asks r) ledger.new }
+    ensures spent { IfOk result (λ v. is_spent_verdict (verdict_of v) ≡ (length ledger.new.entries == ledger.new.budget + 1)) }
+    ensures log_over { IfOk result (λ v. is_log_over core.old.made.packages (verdict_of v) ≡ true) }
+    ensures decided { (r : Request) → IsAskedFor r phases.now core.old.made → IfOk result (λ v. IsDecided r enabled.now core.old.made (verdict_of v)) }
+    ensures looked { IfOk result (AreRefutedBeside core.old.made.clauses core.old.made.owners core.old.made.packages enabled.now clauses.now) }
+{
     clauses_say_the_rule();
     questions_keep_the_law();
     plans_ask_the_questions();
     good_logs_refute();
     let memory = phases.memory()?;
-    run_recalling::<Brand>(phases, memory, core, enabled, ledger)
+    run_looking::<Brand>(phases, memory, core, enabled, ledger, clauses)
 }

@@ -4,5 +4,6 @@ pub mod Conditions
 pub mod Drafts
 pub mod Entering
 pub mod Points
+pub mod Signs
 pub mod Singles
 pub mod Words

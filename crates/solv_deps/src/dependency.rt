@@ -1,11 +1,12 @@
 //! Reading a dependency into a pool.
-ghost use Rattle.std.specs.Prelude.{ℕ, List, ◌≡◌, ◌<◌, length, IfOk, IfErr, IsTrue, Ok, Err, ◌↔◌};
-ghost use Rattle.solv_base.specs.Dependency.{one, plain, versioned, namespace};
+ghost use Rattle.std.specs.Prelude.{ℕ, List, ◌≡◌, ◌<◌, length, IfOk, IfErr, IsTrue, Ok, Err, ◌↔◌, true};
+ghost use Rattle.solv_base.specs.Dependency.{Capability, one, plain, versioned, namespace, or};
 ghost use Rattle.solv_base.specs.Pool.{Grows, text_at, text_tree};
 ghost use Rattle.solv_base.specs.Inner.Pool.{text_tree_of_node, uses_below};
 ghost use Rattle.solv_deps.specs.declared.fault.DepFault.{DepFault as Cause};
 ghost use Rattle.solv_deps.specs.Inner.Drafts.{said};
 ghost use Rattle.solv_deps.specs.Reading.{dependency};
+ghost use Rattle.solv_deps.specs.Table.{stands_at};
 ghost use Rattle.solv_deps.specs.Inner.Singles.{capability_of};
 ghost use Rattle.solv_deps.specs.Entering.{text_entered, relation_entered, dependency_entered};
 ghost use Rattle.solv_deps.specs.Inner.Entering.{text_read, IsEntered, IsRefusal, IsOfPool, refusal, link_node, under_node, under_else_node};
@@ -16,7 +17,7 @@ use crate::forms::may_stand;
 use crate::place::Place;
 use crate::reading::read_tree;
 use crate::sign::{Conditional, Joint};
-use crate::single::{Single, single_of};
+use crate::single::{Single, pair_of, single_of};
 use solv_base::{Cmp, DepId, DepNode, NameId, Pool, PoolFault};
 
 /// The refusal that a pool's is.
@@ -182,6 +183,18 @@ fn enter_single(pool: &mut Pool, single: &Single<'_>) -> Result<DepId, DepFault>
     }
 }
 
+/// Enters two names, each with or without a comparison and an EVR, between which `|` stands.
+fn enter_either(pool: &mut Pool, left: &Single<'_>, right: &Single<'_>) -> Result<DepId, DepFault>
+    ensures entered { IfOk result (λ id. IsEntered (or (one (capability_of left.now)) (one (capability_of right.now))) pool.old pool.new id) }
+    ensures refused { IfErr result (λ e. IsRefusal e (dependency_entered (or (one (capability_of left.now)) (one (capability_of right.now))) pool.old)) }
+    ensures of_pool { IfErr result IsOfPool }
+    ensures grows { Grows pool.old pool.new }
+{
+    let first = enter_single(pool, left)?;
+    let second = enter_single(pool, right)?;
+    enter_relation(pool, DepNode::Or(first, second))
+}
+
 /// The dependency that any text spells at a place.
 fn read_any(pool: &mut Pool, text: &[u8], place: Place) -> Result<DepId, DepFault>
     ensures read { IfOk result (λ id. dependency place text.now ≡ Ok (text_tree pool.new id)) }
@@ -200,6 +213,23 @@ fn read_any(pool: &mut Pool, text: &[u8], place: Place) -> Result<DepId, DepFaul
     enter(pool, &draft, number)
 }
 
+/// The dependency that any text spells at a place where `|` may stand. Two names with `|` between need no draft.
+fn read_joined(pool: &mut Pool, text: &[u8], place: Place) -> Result<DepId, DepFault>
+    requires { (c d : Capability (List ℕ)) → stands_at place (or (one c) (one d)) ≡ true }
+    ensures read { IfOk result (λ id. dependency place text.now ≡ Ok (text_tree pool.new id)) }
+    ensures within { IfOk result (λ id. id < length pool.new.nodes) }
+    ensures entered { IfOk result (λ id. text_read place text.now pool.old ≡ Ok (record { id = id; held = pool.new })) }
+    ensures cause { (e : Cause) → (IsOfPool e → ⊥) → (result ≡ Err e ↔ dependency place text.now ≡ Err e) }
+    ensures unchanged { (e : Cause) → dependency place text.now ≡ Err e → pool.new ≡ pool.old }
+    ensures refused { IfErr result (λ e. IsRefusal e (text_read place text.now pool.old)) }
+    ensures grows { Grows pool.old pool.new }
+{
+    match pair_of(text) {
+        Some((left, right)) => enter_either(pool, &left, &right),
+        None => read_any(pool, text, place),
+    }
+}
+
 /// The dependency that a text spells at a place. Its texts are entered from left to right, and each relation directly
 /// after its operands; a text with a cause of its own enters nothing. After a refusal the pool may hold more than before.
 pub fn read_dep(pool: &mut Pool, text: &[u8], place: Place) -> Result<DepId, DepFault>
@@ -211,8 +241,12 @@ pub fn read_dep(pool: &mut Pool, text: &[u8], place: Place) -> Result<DepId, Dep
     ensures refused { IfErr result (λ e. IsRefusal e (text_read place text.now pool.old)) }
     ensures grows { Grows pool.old pool.new }
 {
-    match single_of(text) {
-        Some(single) => enter_single(pool, &single),
-        None => read_any(pool, text, place),
+    if let Some(single) = single_of(text) {
+        return enter_single(pool, &single);
+    }
+    match place {
+        Place::Plain => read_any(pool, text, place),
+        Place::Requires => read_joined(pool, text, place),
+        Place::Conflicts => read_joined(pool, text, place),
     }
 }

@@ -16,13 +16,25 @@ fn count_blanks(text: &[u8]) -> usize
     i
 }
 
+/// How many bytes a text begins with that are above `)` and so neither blanks nor parentheses.
+fn count_plain(text: &[u8]) -> usize
+    ensures rest { (unpaired : ℕ) → word_rest unpaired text.now ≡ result + word_rest unpaired (drop result text.now) }
+    ensures within { result ≤ length text.now }
+{
+    let mut i = 0;
+    while i < text.len() && text[i] > b')' {
+        i += 1;
+    }
+    i
+}
+
 /// How many bytes a word goes on for.
 fn count_rest(text: &[u8]) -> usize
     ensures rest { result ≡ word_rest 0 text.now }
     ensures within { result ≤ length text.now }
 {
     let mut unpaired: usize = 0;
-    let mut i = 0;
+    let mut i = count_plain(text);
     while i < text.len() {
         let c = text[i];
         if is_blank(c) {

@@ -1,6 +1,9 @@
 //! Operators and comparisons.
 
-ghost use Rattle.std.specs.Prelude.{◌≡◌, Some};
+ghost use Rattle.std.specs.Prelude.{◌≡◌, Some, None, IsTrue};
+ghost use Rattle.solv_deps.specs.declared.sign.Joint.TheVariants.{Either};
+ghost use Rattle.solv_deps.specs.declared.sign.Operator.TheVariants.{Link};
+ghost use Rattle.solv_deps.specs.Inner.Signs.{begins_as_sign};
 ghost use Rattle.solv_deps.specs.Grammar.{operator, operator_spelled, sign, rpm_word, comparison, word_is, opens, closes, is_plain, is_namespace};
 
 use solv_base::Cmp;
@@ -138,6 +141,14 @@ pub fn comparison_of(word: &[u8]) -> Option<Cmp>
     None
 }
 
+/// Whether a word is `|`.
+pub(crate) fn is_either(word: &[u8]) -> bool
+    ensures operator { IsTrue result → operator word.now ≡ Some (Link Either) }
+    ensures no_comparison { IsTrue result → comparison word.now ≡ None }
+{
+    is_word(word, b"|")
+}
+
 /// Whether a word opens a parenthesis.
 pub(crate) fn opens_one(word: &[u8]) -> bool
     ensures { result ≡ opens word.now }
@@ -152,10 +163,28 @@ pub(crate) fn closes_one(word: &[u8]) -> bool
     is_word(word, b")")
 }
 
+/// Whether a word begins as the parentheses, the operators' signs and the comparisons do.
+fn begins_as_sign(word: &[u8]) -> bool
+    ensures { result ≡ begins_as_sign word.now }
+{
+    match word.first() {
+        None => false,
+        Some(c) => {
+            matches!(
+                *c,
+                b'(' | b')' | b'&' | b'|' | b'+' | b'-' | b'<' | b'=' | b'>'
+            )
+        }
+    }
+}
+
 /// Whether a word is a name or an EVR where one is due. There rpm's words for operators are names and EVRs like others.
 pub(crate) fn is_plain_word(word: &[u8]) -> bool
     ensures { result ≡ is_plain word.now }
 {
+    if !begins_as_sign(word) {
+        return true;
+    }
     if opens_one(word) || closes_one(word) {
         return false;
     }

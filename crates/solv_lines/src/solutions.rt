@@ -35,7 +35,7 @@ fn package_text(alloc: Global, task: &Task, words: &[u8], pack: PackNo) -> Resul
 fn write_job(task: &Task, job: JobNo, into: &mut Vec<u8>) -> Result<(), AllocError>
     ensures { OnOk result (into.new.items ≡ into.old.items ++ job_text task.now job) }
 {
-    match task.jobs.held().get(job.0) {
+    match task.jobs.held().get(job.0 as usize) {
         Some(job) => into.extend_from_slice(job.text.held()),
         None => Ok(()),
     }

@@ -138,7 +138,7 @@ fn write_installed(task: &Task, pack: PackNo, into: &mut Vec<u8>) -> Result<(), 
 fn dependency_of_job(task: &Task, job: JobNo) -> Option<DepId>
     ensures { result ≡ dependency_of_job task.now job }
 {
-    let job = task.jobs.held().get(job.0)?;
+    let job = task.jobs.held().get(job.0 as usize)?;
     match &job.choice {
         Choice::Name(dep) => Some(*dep),
         Choice::Provides(dep) => Some(*dep),
@@ -150,7 +150,7 @@ fn dependency_of_job(task: &Task, job: JobNo) -> Option<DepId>
 fn is_empty_set(sets: &[Items<PackNo>], set: SetNo) -> bool
     ensures { result ≡ (length (set_at sets.now set) == 0) }
 {
-    match sets.get(set.0) {
+    match sets.get(set.0 as usize) {
         Some(packs) => packs.is_empty(),
         None => true,
     }

@@ -2,3 +2,4 @@ pub mod Booleans
 pub mod Lists
 pub mod Numbers
 pub mod Answers
+pub mod Layouts

@@ -7,14 +7,18 @@
 //! - [`Items`]: a list of values.
 //! - [`Text`]: a text, which contracts see as its bytes in UTF-8.
 //! - [`Bytes`]: bytes that may be no text.
+//!
+//! [`Rows`] holds many lists one behind another, by their numbers.
 #![tactic(auto)]
 
 mod bytes;
 mod items;
 mod pieces;
+mod rows;
 mod text;
 
 pub use bytes::Bytes;
 pub use items::Items;
 pub use pieces::append_all;
+pub use rows::Rows;
 pub use text::Text;

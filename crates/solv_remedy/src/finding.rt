@@ -24,6 +24,7 @@ use crate::collecting::{Collected, all_conflicts};
 use crate::conflicts::{clauses_of, unlisted_rules};
 use crate::laws::good_logs_refute_their_rules;
 use crate::listing::rules_of_log;
+use crate::parting::Guess;
 use crate::problems::{Problem, Remedies, Solution};
 use crate::singles::singles;
 use crate::smallest::{Conflict, conflict_of};
@@ -52,7 +53,7 @@ fn fixed_rules(alloc: Global, rules: &[Rule]) -> Result<Vec<bool>, AllocError>
 fn ways_out(
     alloc: Global,
     phases: &Phases,
-    core: &mut Core,
+    core: &mut Core<'_>,
     ledger: &mut Ledger,
     book: &Book,
     fixed: &[bool],
@@ -60,6 +61,7 @@ fn ways_out(
     rules: &[usize],
     unlisted: &[usize],
     clauses: &[RuleNo],
+    guess: &mut Guess,
 ) -> Result<Option<Vec<Solution>>, AllocError>
     requires set_up { (r : Request) × (IsSetUp r phases.now core.old.made book.now fixed.now × IsSettled r core.old.made conflict.now) }
     requires rules { rules.now ≡ conflict.now.rules }
@@ -78,7 +80,7 @@ fn ways_out(
     let mut solutions = Vec::new(alloc);
     for rule in rules {
         match way_out(
-            alloc, phases, core, ledger, book, fixed, conflict, *rule, unlisted, clauses,
+            alloc, phases, core, ledger, book, fixed, conflict, *rule, unlisted, clauses, guess,
         )? {
             Some(solution) => solutions.push(solution)?,
             None => return Ok(None),
@@ -108,7 +110,7 @@ fn lone_way_out(
 fn each_way_out(
     alloc: Global,
     phases: &Phases,
-    core: &mut Core,
+    core: &mut Core<'_>,
     ledger: &mut Ledger,
     book: &Book,
     fixed: &[bool],
@@ -116,6 +118,7 @@ fn each_way_out(
     unlisted: &[usize],
     clauses: &[RuleNo],
     trail: &Trail,
+    guess: &mut Guess,
 ) -> Result<Option<Vec<Solution>>, AllocError>
     requires set_up { (r : Request) × (IsSetUp r phases.now core.old.made book.now fixed.now × IsSettled r core.old.made conflict.now) }
     requires droppable { list_all (is_off_in fixed.now) conflict.now.rules ≡ true }
@@ -135,7 +138,7 @@ fn each_way_out(
         return Ok(Some(lone_way_out(alloc, conflict, own[0], trail)?));
     }
     ways_out(
-        alloc, phases, core, ledger, book, fixed, conflict, own, unlisted, clauses,
+        alloc, phases, core, ledger, book, fixed, conflict, own, unlisted, clauses, guess,
     )
 }
 
@@ -143,7 +146,7 @@ fn each_way_out(
 fn problem_with(
     alloc: Global,
     phases: &Phases,
-    core: &mut Core,
+    core: &mut Core<'_>,
     ledger: &mut Ledger,
     book: &Book,
     fixed: &[bool],
@@ -151,6 +154,7 @@ fn problem_with(
     unlisted: &[usize],
     clauses: &[RuleNo],
     trail: &Trail,
+    guess: &mut Guess,
 ) -> Result<Option<Problem>, AllocError>
     requires set_up { (r : Request) × (IsSetUp r phases.now core.old.made book.now fixed.now × IsSettled r core.old.made conflict.now) }
     requires droppable { list_all (is_off_in fixed.now) conflict.now.rules ≡ true }
@@ -166,7 +170,7 @@ fn problem_with(
     ensures problem { (r : Request) (listed : List ℕ) → IsSetUp r phases.now core.old.made book.now fixed.now → IsConflictAmong r core.old.made conflict.now.rules conflict.now.log listed unlisted.now → IsFoundOn r (λ k. not (is_among listed k)) trail.now → IfOk result (λ o. IfSome o (IsProblemOf r core.old.made listed conflict.now)) }
 {
     match each_way_out(
-        alloc, phases, core, ledger, book, fixed, conflict, unlisted, clauses, trail,
+        alloc, phases, core, ledger, book, fixed, conflict, unlisted, clauses, trail, guess,
     )? {
         Some(solutions) => Ok(Some(Problem {
             rules: Items::wrap(rules_of_log(alloc, book, &conflict.log)?),
@@ -177,11 +181,11 @@ fn problem_with(
     }
 }
 
-/// The problems of conflicts, with their solutions. Nothing, where the ledger is spent.
+/// The problems of conflicts, with their solutions. What a way out had to drop is a guess at what the next one has to. Nothing, where the ledger is spent.
 fn problems_with(
     alloc: Global,
     phases: &Phases,
-    core: &mut Core,
+    core: &mut Core<'_>,
     ledger: &mut Ledger,
     book: &Book,
     fixed: &[bool],
@@ -204,9 +208,11 @@ fn problems_with(
     ensures problems { (r : Request) → IsSetUp r phases.now core.old.made book.now fixed.now → AreSettled r core.old.made conflicts.now → IsFoundOn r (λ k. not (is_among (listed_of conflicts.now) k)) trail.now → IfOk result (λ o. IfSome o (λ found. AllZip (IsProblemOf r core.old.made (listed_of conflicts.now)) conflicts.now found.items)) }
 {
     let mut problems = Vec::new(alloc);
+    let mut guess = Guess::none_of(alloc, fixed.len())?;
     for conflict in conflicts {
         match problem_with(
             alloc, phases, core, ledger, book, fixed, conflict, unlisted, clauses, trail,
+            &mut guess,
         )? {
             Some(problem) => problems.push(problem)?,
             None => return Ok(None),
@@ -219,7 +225,7 @@ fn problems_with(
 fn remedies_of(
     alloc: Global,
     phases: &Phases,
-    core: &mut Core,
+    core: &mut Core<'_>,
     ledger: &mut Ledger,
     book: &Book,
     fixed: &[bool],
@@ -262,7 +268,7 @@ fn remedies_of(
 fn remedies_from(
     alloc: Global,
     phases: &Phases,
-    core: &mut Core,
+    core: &mut Core<'_>,
     ledger: &mut Ledger,
     book: &Book,
     fixed: &[bool],
@@ -294,7 +300,7 @@ pub fn problems(
     alloc: Global,
     phases: &Phases,
     book: &Book,
-    core: &mut Core,
+    core: &mut Core<'_>,
     first: Log,
     ledger: &mut Ledger,
 ) -> Result<Remedies, AllocError>

@@ -74,3 +74,32 @@ pub(crate) fn package_with(alloc: Global, repo: RepoNo, ids: PackageIds) -> Pack
         files: Items::wrap(Vec::new(alloc)),
     }
 }
+
+/// Empties a list. It keeps its room.
+fn empty<T: Drop>(alloc: Global, list: &mut Items<T>)
+    ensures { list.new ≡ [] }
+{
+    let mut items = std::mem::replace(list, Items::wrap(Vec::new(alloc))).into_vec();
+    items.clear();
+    *list = Items::wrap(items);
+}
+
+/// Makes a package one of these ids without a vendor, dependencies or files. Its lists keep their room.
+pub(crate) fn refill(alloc: Global, held: &mut Package, repo: RepoNo, ids: PackageIds)
+    ensures { held.new ≡ package_of repo ids }
+{
+    held.name = ids.name;
+    held.evr = ids.evr;
+    held.arch = ids.arch;
+    held.vendor = None;
+    held.repo = repo;
+    empty(alloc, &mut held.provides);
+    empty(alloc, &mut held.requires_);
+    empty(alloc, &mut held.conflicts);
+    empty(alloc, &mut held.obsoletes);
+    empty(alloc, &mut held.recommends);
+    empty(alloc, &mut held.suggests);
+    empty(alloc, &mut held.supplements);
+    empty(alloc, &mut held.enhances);
+    empty(alloc, &mut held.files);
+}

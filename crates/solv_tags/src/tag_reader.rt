@@ -1,5 +1,5 @@
 //! The reader of testtags lines.
-ghost use Rattle.std.specs.Prelude.{◌≡◌, ◌≤◌, ◌&&◌, length, option_to_list, Some, None, IfSome, IfErr, OnOk, OnErr};
+ghost use Rattle.std.specs.Prelude.{◌≡◌, ◌∷◌, [], ◌≤◌, ◌&&◌, length, option_to_list, Some, None, IfSome, IfErr, OnOk, OnErr};
 ghost use Rattle.solv_base.specs.Pool.{Held, Grows};
 ghost use Rattle.std.specs.Option.{option_map};
 ghost use Rattle.std.specs.Str.{bytes_eq};
@@ -8,12 +8,12 @@ ghost use Rattle.solv_tags.specs.Entries.{evr_text};
 ghost use Rattle.solv_tags.specs.Headings.{closing_sign, is_heading, letters, tag};
 ghost use Rattle.solv_io.specs.Words.{words_of};
 ghost use Rattle.solv_tags.specs.Inner.RepositoryReading.{IsTagRefusal, HasOneForm};
-ghost use Rattle.solv_tags.specs.Inner.TagReading.{IsCause, IsReading, IsRead, IsHand, HasReadHand, HasEndedHand, IsEnded, HasMore, with_packages, tagged_of};
+ghost use Rattle.solv_tags.specs.Inner.TagReading.{IsCause, IsReading, IsRead, IsHand, HasReadHand, HasEndedHand, IsEnded, HasMore, package_of, with_packages, tagged_of};
 ghost use Rattle.solv_tags.specs.Testtags.{begun, package_entry, entry, entry_of_hand, entry_if_tag, opens_block, outside_block, inside_block, line_read, end_read};
 
 use crate::hand::{enter_package, take_entry};
 use crate::headings::{after_heading, is_heading, letters, tag_of, trimmed};
-use crate::package_words::{four_words, package_with, write_evr};
+use crate::package_words::{PackageIds, four_words, package_with, refill, write_evr};
 use crate::tag::Tag;
 use crate::tag_fault::{TagCause, TagFault};
 use solv_base::Pool;
@@ -86,6 +86,47 @@ fn put_behind(universe: &mut Universe, finished: Option<Package>) -> Result<(), 
     }
 }
 
+/// Appends the package in hand, and makes it one with these ids.
+fn turn_over(
+    alloc: Global,
+    universe: &mut Universe,
+    hand: &mut Package,
+    repo: RepoNo,
+    ids: PackageIds,
+) -> Result<(), TagCause>
+    ensures hand { OnOk result (hand.new ≡ package_of repo ids) }
+    ensures ok { OnOk result (universe.new ≡ with_packages universe.old (hand.old ∷ [])) }
+    ensures refused { OnErr result (universe.new ≡ universe.old) }
+    ensures cause { IfErr result (λ c. c ≡ TagCause.Memory) }
+{
+    if universe.copy_package(hand).is_err() {
+        return Err(TagCause::Memory);
+    }
+    refill(alloc, hand, repo, ids);
+    Ok(())
+}
+
+/// Appends the package in hand, if there is one, and takes one with these ids.
+fn take_next(
+    alloc: Global,
+    universe: &mut Universe,
+    hand: &mut Option<Package>,
+    repo: RepoNo,
+    ids: PackageIds,
+) -> Result<(), TagCause>
+    ensures hand { OnOk result (hand.new ≡ Some (package_of repo ids)) }
+    ensures ok { OnOk result (universe.new ≡ with_packages universe.old (option_to_list hand.old)) }
+    ensures refused { OnErr result (universe.new ≡ universe.old) }
+    ensures cause { IfErr result (λ c. c ≡ TagCause.Memory) }
+{
+    match hand {
+        None => {}
+        Some(held) => return turn_over(alloc, universe, held, repo, ids),
+    }
+    *hand = Some(package_with(alloc, repo, ids));
+    Ok(())
+}
+
 impl TagReader {
     /// Before the first line.
     pub fn new(alloc: Global, repo: RepoNo, before: u32) -> TagReader
@@ -104,14 +145,18 @@ impl TagReader {
     }
 
     /// Takes a package with these ids, and appends the one in hand.
-    fn hold(&mut self, universe: &mut Universe, next: Package) -> Result<(), TagCause>
-        ensures reader { OnOk result (self.new ≡ record self.old { hand = Some next }) }
+    fn hold(
+        &mut self,
+        alloc: Global,
+        universe: &mut Universe,
+        ids: PackageIds,
+    ) -> Result<(), TagCause>
+        ensures reader { OnOk result (self.new ≡ record self.old { hand = Some (package_of self.old.repo ids) }) }
         ensures ok { OnOk result (universe.new ≡ with_packages universe.old (option_to_list self.old.hand)) }
         ensures refused { OnErr result (universe.new ≡ universe.old) }
         ensures cause { IfErr result (λ c. c ≡ TagCause.Memory) }
     {
-        let finished = std::mem::replace(&mut self.hand, Some(next));
-        put_behind(universe, finished)
+        take_next(alloc, universe, &mut self.hand, self.repo, ids)
     }
 
     /// Begins a package.
@@ -144,7 +189,7 @@ impl TagReader {
             Ok(ids) => ids,
             Err(cause) => return Err(cause),
         };
-        self.hold(universe, package_with(pool.alloc(), self.repo, ids))
+        self.hold(pool.alloc(), universe, ids)
     }
 
     /// Reads the words of a package.

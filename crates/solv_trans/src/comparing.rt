@@ -9,16 +9,16 @@ ghost use Rattle.solv_trans.specs.Inner.Order.{greater_of};
 
 use crate::kinds::Change;
 use solv_base::evr_compare;
-use solv_pool::{PackNo, Package, Task};
+use solv_pool::{PackNo, PackageRef, Task};
 use std::cmp::Ordering;
 
 /// The record of a package.
-pub(crate) fn package(task: &Task, pack: PackNo) -> &Package
+pub(crate) fn package(task: &Task, pack: PackNo) -> PackageRef<'_>
     requires over { IsOver task.now.pool task.now.universe }
     requires pack { is_pack (length task.now.universe.packages) pack ≡ true }
-    ensures at { package_at (catalog_of task.now) pack ≡ Some result.now }
-    ensures named { result.now.name < length task.now.pool.names }
-    ensures versioned { result.now.evr < length task.now.pool.names }
+    ensures at { package_at (catalog_of task.now) pack ≡ Some result }
+    ensures named { result.name < length task.now.pool.names }
+    ensures versioned { result.evr < length task.now.pool.names }
 {
     task.universe.package(pack)
 }
@@ -29,7 +29,7 @@ fn evr_of(task: &Task, pack: PackNo) -> &[u8]
     requires pack { is_pack (length task.now.universe.packages) pack ≡ true }
     ensures { result.now ≡ evr_of (catalog_of task.now) pack }
 {
-    let evr = package(task, pack).evr;
+    let evr = package(task, pack).evr();
     task.pool.name(evr)
 }
 
@@ -61,10 +61,10 @@ pub(crate) fn greater_of(task: &Task, best: Option<PackNo>, other: PackNo) -> Pa
 }
 
 /// Whether two packages have one architecture and one vendor.
-fn is_same_build(from: &Package, to: &Package) -> bool
+fn is_same_build(from: &PackageRef<'_>, to: &PackageRef<'_>) -> bool
     ensures { result ≡ is_same_build from.now to.now }
 {
-    from.arch == to.arch && from.vendor == to.vendor
+    from.arch() == to.arch() && from.vendor() == to.vendor()
 }
 
 /// The same of packages by their numbers.
@@ -74,7 +74,7 @@ fn same_build(task: &Task, pack: PackNo, other: PackNo) -> bool
     requires other { is_pack (length task.now.universe.packages) other ≡ true }
     ensures { result ≡ same_build (catalog_of task.now) pack other }
 {
-    is_same_build(package(task, pack), package(task, other))
+    is_same_build(&package(task, pack), &package(task, other))
 }
 
 /// The change from a package to one of its name.

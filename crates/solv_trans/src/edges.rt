@@ -188,7 +188,7 @@ fn join_coming(
     requires comes { comes (catalog_of task.now) (is_marked in_set.now) pack ≡ true }
     ensures { OnOk result (Joins (owned_by (catalog_of task.now) (is_marked in_set.now)) (pack ∷ []) links.old.items links.new.items) }
 {
-    for need in task.universe.package(pack).requires_.held() {
+    for need in task.universe.package(pack).requires_() {
         join_need_coming(task, prov, in_set, turns, pack, *need, links)?;
     }
     Ok(())
@@ -284,7 +284,7 @@ fn join_going(
     requires held { pack ≤ length task.now.universe.packages }
     ensures { (set : ℕ → Bool) → AreTurns (catalog_of task.now) set turns.now → goes (catalog_of task.now) set pack ≡ true → OnOk result (Joins (owned_by (catalog_of task.now) set) (pack ∷ []) links.old.items links.new.items) }
 {
-    for need in task.universe.package(pack).requires_.held() {
+    for need in task.universe.package(pack).requires_() {
         join_need_going(task, prov, turns, pack, *need, links)?;
     }
     Ok(())

@@ -37,7 +37,7 @@ fn namesakes<'a>(task: &Task, prov: &'a Providers, pack: PackNo) -> &'a [PackNo]
     ensures exact { result.now ≡ filter (same_name (catalog_of task.now) pack) (packages (catalog_of task.now)) }
     ensures within { list_all (is_pack (length task.now.universe.packages)) result.now ≡ true }
 {
-    prov.of_name(package(task, pack).name)
+    prov.of_name(package(task, pack).name())
 }
 
 /// Of the packages of a list that come the first one with the greatest EVR.

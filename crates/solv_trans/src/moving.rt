@@ -29,7 +29,7 @@ fn mark_name(task: &Task, in_set: &[bool], pack: PackNo, names: &mut [bool])
     ensures { (n : ℕ) → is_marked names.new n ≡ (is_marked names.old n || comes_named (catalog_of task.now) (is_marked in_set.now) n pack) }
 {
     if does_come(task, in_set, pack) {
-        let name = task.universe.package(pack).name;
+        let name = task.universe.package(pack).name();
         names[name.0 as usize] = true;
     }
 }
@@ -59,7 +59,7 @@ fn does_go(task: &Task, in_set: &[bool], names: &[bool], pack: PackNo) -> bool
     if !task.universe.installed(pack) || in_set[pack.0 as usize] {
         return false;
     }
-    let name = task.universe.package(pack).name;
+    let name = task.universe.package(pack).name();
     !names[name.0 as usize]
 }
 

@@ -39,7 +39,7 @@ fn near(alloc: Global, ready: &Ready<'_>, pack: PackNo) -> Result<Vec<PackNo>, A
     ensures within { IfOk result (λ packs. list_all (is_pack (length ready.now.task.now.universe.packages)) packs.items ≡ true) }
     ensures itself { OnOk result (is_near (catalog_of ready.now.task.now) pack pack ≡ true) }
 {
-    let name = package(ready.task, pack).name;
+    let name = package(ready.task, pack).name();
     let mut found = Vec::from_slice(alloc, ready.prov.of_name(name))?;
     found.extend_from_slice(ready.prov.obsoleted_by(pack))?;
     put_in_order(&mut found);

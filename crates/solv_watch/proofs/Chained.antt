@@ -5,8 +5,7 @@ use Rattle.std.proofs.lemmas.Bool.{cases_lt, cases_eq, cases_Bool}
 use Rattle.std.proofs.lemmas.List.{length-set, length_push, get_or_append_left, get_or_push, take_at}
 use Rattle.std.proofs.lemmas.Option.{slice_get_within}
 use Rattle.solv_pack.specs.Inner.Literals.{place_of}
-use Rattle.solv_pack.specs.Inner.Packing.{no_link}
-use Rattle.solv_watch.specs.Inner.Chains.{Has, IsChain, AreHung, AreAllHung, other}
+use Rattle.solv_watch.specs.Inner.Chains.{no_link, Has, IsChain, AreHung, AreAllHung, other}
 use Rattle.solv_watch.specs.Inner.Spares.{AreTwoOf}
 use Rattle.solv_watch.specs.Inner.Watching.{literal_of, place_at, IsWatch, ArePairs, AreChained, AreChainedTo, AreNarrow}
 use Rattle.std.specs.Ordering.{int_eq}
@@ -216,8 +215,8 @@ none_chained count rules heads links room each linked few = record {
   all = λ w is. absurd (let m : w / 2 < 0 = is_below rules 0 w is in omega arith);
 }
 
-pub none_at_all : (count : ℕ) (heads : List ℕ) → length heads ≡ 2 * count + 2 → ((p : ℕ) → p < length heads → get_or heads p 0 ≡ no_link) → AreChained count [] heads [] []
-none_at_all count heads room each = all_chained count [] heads [] [] (none_chained count [] heads [] room each refl (omega arith))
+pub none_at_all : (count : ℕ) (heads links : List ℕ) → length heads ≡ 2 * count + 2 → ((p : ℕ) → p < length heads → get_or heads p 0 ≡ no_link) → length links ≡ 0 → AreChained count [] heads links []
+none_at_all count heads links room each none = all_chained count [] heads links [] (none_chained count [] heads links room each none (omega arith))
 
 -- the first two literals stand at two places
 pub first_two : (c : List ℤ) (a b : ℤ) → 2 ≤ length c → a ≡ get_or c 0 (pos 0) → b ≡ get_or c 1 (pos 0) → AreTwoOf a b c

@@ -7,6 +7,7 @@ use Rattle.std.proofs.lemmas.List.{length_push, length-take-le, get_or-take}
 use Rattle.solv_pool.specs.Propagation.{is_fact, is_refuted, is_open}
 use Rattle.solv_derive.specs.Forced.{forced}
 use Rattle.solv_derive.proofs.Facts.{open_parts, known_here, same_self}
+use Rattle.solv_watch.specs.Inner.Chains.{no_link}
 use Rattle.solv_watch.specs.Inner.Spares.{AreTwoOf}
 use Rattle.solv_watch.proofs.Pairs.{two_flip, without_here}
 use Rattle.solv_trail.specs.Inner.Derivation.{IsConsistent, IsQuiet}
@@ -133,15 +134,14 @@ concluded book learnt2 learnt used watches new lits watched marks e f g h b l =
     )
 
 -- a rule was put behind and hung
-pub chained_after : (count n : ℕ) (rules : List (List ℤ)) (d : List ℤ) (heads links : List ℕ) (watched : List ℤ) (rules1 : List (List ℤ)) (links1 : List ℕ) (watched1 : List ℤ) (rules2 : List (List ℤ)) (heads2 links2 : List ℕ) (watched2 : List ℤ)
-    → AreChained count rules heads links watched → length rules < 2 ^ 28 → n ≡ length rules → rules1 ≡ rules ++ d ∷ [] → links1 ≡ links ++ 4294967295 ∷ 4294967295 ∷ [] → watched1 ≡ watched → rules2 ≡ rules1
-    → (AreChainedTo count n rules1 heads links1 watched1 → AreChainedTo count (n + 1) rules1 heads2 links2 watched2) → AreChained count rules2 heads2 links2 watched2
-chained_after count n rules d heads links watched rules1 links1 watched1 rules2 heads2 links2 watched2 chained few e f g h k step =
-    let before : AreChainedTo count n rules1 heads links1 watched1 = rw (e, f, g, h) (chained_more count rules heads links watched d 4294967295 4294967295 few chained) in
+pub chained_after : (count n : ℕ) (rules : List (List ℤ)) (d : List ℤ) (heads links : List ℕ) (watched : List ℤ) (rules1 : List (List ℤ)) (links1 : List ℕ) (watched1 : List ℤ) (heads2 links2 : List ℕ) (watched2 : List ℤ)
+    → AreChained count rules heads links watched → length rules < 2 ^ 28 → n ≡ length rules → rules1 ≡ rules ++ d ∷ [] → links1 ≡ links ++ no_link ∷ no_link ∷ [] → watched1 ≡ watched
+    → (AreChainedTo count n rules1 heads links1 watched1 → AreChainedTo count (n + 1) rules1 heads2 links2 watched2) → AreChained count rules1 heads2 links2 watched2
+chained_after count n rules d heads links watched rules1 links1 watched1 heads2 links2 watched2 chained few e f g h step =
+    let before : AreChainedTo count n rules1 heads links1 watched1 = rw (e, f, g, h) (chained_more count rules heads links watched d no_link no_link few chained) in
     let long : length rules1 ≡ n + 1 = ap (λ v. length v) f ∙ length_push rules d ∙ ap (λ v. v + 1) (sym e) in
     let P : ℕ → Type 0 = λ v. AreChainedTo count v rules1 heads2 links2 watched2 in
-    let Q : List (List ℤ) → Type 0 = λ v. AreChained count v heads2 links2 watched2 in
-    subst Q (sym k) (all_chained count rules1 heads2 links2 watched2 (subst P (sym long) (step before)))
+    all_chained count rules1 heads2 links2 watched2 (subst P (sym long) (step before))
 
 pub get_last : (rules : List (List ℤ)) (d : List ℤ) (r : ℕ) → r ≡ length rules → slice_get (rules ++ d ∷ []) r ≡ Some d
 get_last [] d zero h = refl

@@ -1,8 +1,7 @@
 -- Which heads lead somewhere.
 use Rattle.std.proofs.Common.{◌≡◌, ℕ, ◌<◌, ◌≤◌, ◌⊎◌, List, [], ◌∷◌, length, get_or, inl, inr, refl, sym, subst, arith}
 use Rattle.std.specs.Prelude.{ℤ}
-use Rattle.solv_pack.specs.Inner.Packing.{no_link}
-use Rattle.solv_watch.specs.Inner.Chains.{Has, IsChain}
+use Rattle.solv_watch.specs.Inner.Chains.{no_link, Has, IsChain}
 use Rattle.solv_watch.specs.Inner.Watching.{place_at, AreChained, AreHeads}
 
 -- a head that leads somewhere leads to a watch, which is at its literal
@@ -18,12 +17,12 @@ heads_of count rules heads links watched h = record { room = h.room; each = λ p
         inr (w, (omega arith, (omega (arith, h.linked, h.two), o.2)))
 
 -- where no rule hangs, no head leads somewhere
-pub leads_nowhere : (count : ℕ) (heads : List ℕ) (watched : List ℤ) → AreChained count [] heads [] watched → (p : ℕ) → p < length heads → get_or heads p 0 ≡ no_link
-leads_nowhere count heads watched h p n = elim ((heads_of count [] heads [] watched h).each p n) [
+pub leads_nowhere : (count : ℕ) (heads links : List ℕ) (watched : List ℤ) → AreChained count [] heads links watched → (p : ℕ) → p < length heads → get_or heads p 0 ≡ no_link
+leads_nowhere count heads links watched h p n = elim ((heads_of count [] heads links watched h).each p n) [
   | inl e ↦ e
   | inr f ↦ let less : f.0 < length watched = f.1.1.0 in absurd (omega (arith, less, h.two))
 ]
 
-pub none_watched : (count : ℕ) (heads : List ℕ) (watched : List ℤ) → AreChained count [] heads [] watched → watched ≡ []
-none_watched count heads [] h = refl
-none_watched count heads (w ∷ ws) h = absurd (omega (arith, h.two))
+pub none_watched : (count : ℕ) (heads links : List ℕ) (watched : List ℤ) → AreChained count [] heads links watched → watched ≡ []
+none_watched count heads links [] h = refl
+none_watched count heads links (w ∷ ws) h = absurd (omega (arith, h.two))

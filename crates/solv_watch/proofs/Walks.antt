@@ -11,11 +11,10 @@ use Rattle.std.proofs.lemmas.List.Folds.{list_any-append}
 use Rattle.std.proofs.lemmas.Map.Steps.{length-le_from_distinct_below}
 use Rattle.solv_pool.specs.Propagation.{is_fact, is_refuted}
 use Rattle.solv_pack.specs.Inner.Literals.{place_of}
-use Rattle.solv_pack.specs.Inner.Packing.{no_link}
 use Rattle.solv_derive.proofs.Facts.{neg-neg, known_here}
 use Rattle.solv_trail.specs.Inner.Derivation.{IsConsistent}
 use Rattle.solv_trail.proofs.Walk.{take_known, known_at}
-use Rattle.solv_watch.specs.Inner.Chains.{Has, AreOnce, IsChain, AreHung, AreAllHung, other, heads_past, links_past}
+use Rattle.solv_watch.specs.Inner.Chains.{no_link, Has, AreOnce, IsChain, AreHung, AreAllHung, other, heads_past, links_past}
 use Rattle.solv_watch.specs.Inner.Spares.{AreTwoOf}
 use Rattle.solv_watch.specs.Inner.Watching.{literal_of, place_at, IsWatch, ArePairs, AreGuards, AreGuardsAtChoices, Each, AreChained, IsPart, Looked, stays, falsified, forces, moves}
 use Rattle.solv_watch.specs.declared.walking.Visit.TheVariants.{Stays, Falsified, Forces, Moves}

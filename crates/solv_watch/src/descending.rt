@@ -15,30 +15,28 @@ use solv_trail::{Guide, Known, Recaller, taken};
 /// back meanwhile, so the guide is asked to begin once. It takes no memory.
 pub fn descend<G: Guide + Recaller>(
     known: &mut Known,
-    book: &mut RuleMem,
-    learnt: &mut RuleMem,
+    book: &RuleMem,
+    learnt: &RuleMem,
     watches: &mut Watches,
     owners: &[usize],
     enabled: &[bool],
     guide: &G,
 ) -> Option<u32>
-    requires over { are_over known.old.count (book.old.rules ++ learnt.old.rules) ≡ true }
+    requires over { are_over known.old.count (book.now.rules ++ learnt.now.rules) ≡ true }
     requires owners { list_all (λ o. nat_lt o (length enabled.now)) owners.now ≡ true }
-    requires each { length owners.now ≡ length book.old.rules }
-    requires rules { length (book.old.rules ++ learnt.old.rules) ≤ 2 ^ 28 }
+    requires each { length owners.now ≡ length book.now.rules }
+    requires rules { length (book.now.rules ++ learnt.now.rules) ≤ 2 ^ 28 }
     requires next { (clauses : List (List ℤ)) × ((all : List ℕ) × (G.is_for guide.now clauses all × (list_all (λ o. nat_lt o (length enabled.now)) all ≡ true))) }
-    requires asks { AsksUnknown known.old.count (book.old.rules ++ learnt.old.rules) (in_use owners.now enabled.now) (λ facts. G.asks guide.now facts enabled.now) }
-    requires kept { IsKept (book.old.rules ++ learnt.old.rules) (in_use owners.now enabled.now) (λ facts. G.asks guide.now facts enabled.now) known.old }
-    requires watched { AreWatched known.old.count book.old learnt.old watches.old }
-    requires choices { AreKeptAtChoices book.old.rules learnt.old.rules (in_use owners.now enabled.now) watches.old known.old }
-    requires ready { AreReady book.old.rules learnt.old.rules (in_use owners.now enabled.now) watches.old known.old }
+    requires asks { AsksUnknown known.old.count (book.now.rules ++ learnt.now.rules) (in_use owners.now enabled.now) (λ facts. G.asks guide.now facts enabled.now) }
+    requires kept { IsKept (book.now.rules ++ learnt.now.rules) (in_use owners.now enabled.now) (λ facts. G.asks guide.now facts enabled.now) known.old }
+    requires watched { AreWatched known.old.count book.now.rules learnt.now.rules watches.old }
+    requires choices { AreKeptAtChoices book.now.rules learnt.now.rules (in_use owners.now enabled.now) watches.old known.old }
+    requires ready { AreReady book.now.rules learnt.now.rules (in_use owners.now enabled.now) watches.old known.old }
     ensures count { known.new.count ≡ known.old.count }
-    ensures rules { book.new.rules ≡ book.old.rules }
-    ensures learnt_rules { learnt.new.rules ≡ learnt.old.rules }
-    ensures kept { IsKept (book.old.rules ++ learnt.old.rules) (in_use owners.now enabled.now) (λ facts. G.asks guide.now facts enabled.now) known.new }
-    ensures ended { Ended (book.old.rules ++ learnt.old.rules) (in_use owners.now enabled.now) (λ facts. G.asks guide.now facts enabled.now) known.new.lits result }
-    ensures watched { AreWatched known.old.count book.new learnt.new watches.new }
-    ensures choices { AreKeptAtChoices book.old.rules learnt.old.rules (in_use owners.now enabled.now) watches.new known.new }
+    ensures kept { IsKept (book.now.rules ++ learnt.now.rules) (in_use owners.now enabled.now) (λ facts. G.asks guide.now facts enabled.now) known.new }
+    ensures ended { Ended (book.now.rules ++ learnt.now.rules) (in_use owners.now enabled.now) (λ facts. G.asks guide.now facts enabled.now) known.new.lits result }
+    ensures watched { AreWatched known.old.count book.now.rules learnt.now.rules watches.new }
+    ensures choices { AreKeptAtChoices book.now.rules learnt.now.rules (in_use owners.now enabled.now) watches.new known.new }
 {
     let mut memory = guide.begin(known);
     loop {

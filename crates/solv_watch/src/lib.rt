@@ -4,12 +4,12 @@
 //! watches another that is not false, if it has one; else it forces the literal beside, or is falsified. So all rules are
 //! never gone through, and what is taken back from the trail changes no watch. Clauses keep the order of their literals.
 //!
-//! It stands on `solv_pack`, whose memory holds two links for each rule, and on `solv_trail`, which holds what is known and says
-//! what is owed for it.
+//! It stands on `solv_pack`, which holds the rules and lends them, and on `solv_trail`, which holds what is known and says what is
+//! owed for it.
 //!
 //! - [`Watches`]: the watches of a book and of learnt rules; `Watches::over` makes those of a book.
-//! - [`Chains`]: the watches of one memory. `add` hangs a rule that was learnt, `pass` passes one with fewer than two
-//!   literals, `forget` lets all go, and `hang_anew` hangs the rules of a memory in their place.
+//! - [`Chains`]: the watches of one memory. `link_next` makes the links of a rule that was learnt, `add` hangs it, `pass` passes one
+//!   with fewer than two literals, `forget` lets all go, and `hang_anew` hangs the rules of a memory in their place.
 //! - [`propagate`]: adds what is forced, until a rule is falsified or nothing more is forced.
 //! - [`descend`]: propagation and choices in turn, until a rule is falsified or nothing is asked.
 //!

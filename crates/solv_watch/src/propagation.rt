@@ -18,31 +18,31 @@ use solv_trail::{Known, is_in_use};
 /// Walks through the rules of a memory that watch the negation of the literal at a place.
 fn walk_in(
     known: &mut Known,
-    rules: &mut RuleMem,
+    rules: &RuleMem,
     chains: &mut Chains,
     owners: &[usize],
     enabled: &[bool],
     base: u32,
     at: usize,
 ) -> Option<u32>
-    requires over { are_over known.old.count rules.old.rules ≡ true }
+    requires over { are_over known.old.count rules.now.rules ≡ true }
     requires owners { list_all (λ o. nat_lt o (length enabled.now)) owners.now ≡ true }
-    requires base { base + length rules.old.rules ≤ 2 ^ 28 }
+    requires base { base + length rules.now.rules ≤ 2 ^ 28 }
     requires at { at < length known.old.lits }
-    requires chained { AreChained known.old.count rules.old.rules chains.old.heads.items rules.old.links chains.old.watched.items }
-    requires guards { AreGuards rules.old.rules (in_use owners.now enabled.now) chains.old.watched.items Each (take at known.old.lits) known.old.lits }
-    requires choices { AreGuardsAtChoices rules.old.rules (in_use owners.now enabled.now) chains.old.watched.items known.old.lits known.old.marks }
-    ensures rules { rules.new.rules ≡ rules.old.rules }
-    ensures grown { (all : List (List ℤ)) (used : ℕ → Bool) → IsPart all used base rules.old.rules (in_use owners.now enabled.now) → IsGrown all used known.old known.new }
-    ensures chained { AreChained known.old.count rules.old.rules chains.new.heads.items rules.new.links chains.new.watched.items }
-    ensures choices { AreGuardsAtChoices rules.old.rules (in_use owners.now enabled.now) chains.new.watched.items known.new.lits known.new.marks }
-    ensures guards { result ≡ None → AreGuards rules.old.rules (in_use owners.now enabled.now) chains.new.watched.items Each (take (at + 1) known.new.lits) known.new.lits }
-    ensures clash { IfSome result (λ rule. (all : List (List ℤ)) (used : ℕ → Bool) → IsPart all used base rules.old.rules (in_use owners.now enabled.now) → (c : List ℤ) × IsUsed all used rule c × (is_falsified known.new.lits c ≡ true)) }
+    requires chained { AreChained known.old.count rules.now.rules chains.old.heads.items chains.old.links.items chains.old.watched.items }
+    requires guards { AreGuards rules.now.rules (in_use owners.now enabled.now) chains.old.watched.items Each (take at known.old.lits) known.old.lits }
+    requires choices { AreGuardsAtChoices rules.now.rules (in_use owners.now enabled.now) chains.old.watched.items known.old.lits known.old.marks }
+    ensures grown { (all : List (List ℤ)) (used : ℕ → Bool) → IsPart all used base rules.now.rules (in_use owners.now enabled.now) → IsGrown all used known.old known.new }
+    ensures chained { AreChained known.old.count rules.now.rules chains.new.heads.items chains.new.links.items chains.new.watched.items }
+    ensures choices { AreGuardsAtChoices rules.now.rules (in_use owners.now enabled.now) chains.new.watched.items known.new.lits known.new.marks }
+    ensures guards { result ≡ None → AreGuards rules.now.rules (in_use owners.now enabled.now) chains.new.watched.items Each (take (at + 1) known.new.lits) known.new.lits }
+    ensures clash { IfSome result (λ rule. (all : List (List ℤ)) (used : ℕ → Bool) → IsPart all used base rules.now.rules (in_use owners.now enabled.now) → (c : List ℤ) × IsUsed all used rule c × (is_falsified known.new.lits c ≡ true)) }
 {
     walk(
         known,
         rules,
         chains.heads.as_mut_slice(),
+        chains.links.as_mut_slice(),
         chains.watched.as_mut_slice(),
         owners,
         enabled,
@@ -54,35 +54,33 @@ fn walk_in(
 /// Follows what the literals from a place on force, until a rule is falsified (which it names) or nothing more is forced.
 fn follow(
     known: &mut Known,
-    book: &mut RuleMem,
-    learnt: &mut RuleMem,
+    book: &RuleMem,
+    learnt: &RuleMem,
     watches: &mut Watches,
     owners: &[usize],
     enabled: &[bool],
     from: usize,
 ) -> Option<u32>
-    requires over { are_over known.old.count (book.old.rules ++ learnt.old.rules) ≡ true }
+    requires over { are_over known.old.count (book.now.rules ++ learnt.now.rules) ≡ true }
     requires owners { list_all (λ o. nat_lt o (length enabled.now)) owners.now ≡ true }
-    requires each { length owners.now ≡ length book.old.rules }
-    requires rules { length (book.old.rules ++ learnt.old.rules) ≤ 2 ^ 28 }
+    requires each { length owners.now ≡ length book.now.rules }
+    requires rules { length (book.now.rules ++ learnt.now.rules) ≤ 2 ^ 28 }
     requires from { from ≤ length known.old.lits }
-    requires book { AreChained known.old.count book.old.rules watches.old.book.heads.items book.old.links watches.old.book.watched.items }
-    requires learnt { AreChained known.old.count learnt.old.rules watches.old.learnt.heads.items learnt.old.links watches.old.learnt.watched.items }
-    requires book_choices { IsKeptAtChoices book.old.rules (in_use owners.now enabled.now) watches.old.book.watched.items known.old.lits known.old.marks }
-    requires learnt_choices { IsKeptAtChoices learnt.old.rules always watches.old.learnt.watched.items known.old.lits known.old.marks }
-    requires book_kept { IsKeptUpto book.old.rules (in_use owners.now enabled.now) watches.old.book.watched.items known.old.lits from }
-    requires learnt_kept { IsKeptUpto learnt.old.rules always watches.old.learnt.watched.items known.old.lits from }
-    ensures rules { book.new.rules ≡ book.old.rules }
-    ensures learnt_rules { learnt.new.rules ≡ learnt.old.rules }
+    requires book { AreChained known.old.count book.now.rules watches.old.book.heads.items watches.old.book.links.items watches.old.book.watched.items }
+    requires learnt { AreChained known.old.count learnt.now.rules watches.old.learnt.heads.items watches.old.learnt.links.items watches.old.learnt.watched.items }
+    requires book_choices { IsKeptAtChoices book.now.rules (in_use owners.now enabled.now) watches.old.book.watched.items known.old.lits known.old.marks }
+    requires learnt_choices { IsKeptAtChoices learnt.now.rules always watches.old.learnt.watched.items known.old.lits known.old.marks }
+    requires book_kept { IsKeptUpto book.now.rules (in_use owners.now enabled.now) watches.old.book.watched.items known.old.lits from }
+    requires learnt_kept { IsKeptUpto learnt.now.rules always watches.old.learnt.watched.items known.old.lits from }
     ensures narrow { watches.new.narrow ≡ watches.old.narrow }
-    ensures grown { IsGrown (book.old.rules ++ learnt.old.rules) (in_use owners.now enabled.now) known.old known.new }
-    ensures done { Propagated (book.old.rules ++ learnt.old.rules) (in_use owners.now enabled.now) known.new.lits result }
-    ensures book { AreChained known.old.count book.old.rules watches.new.book.heads.items book.new.links watches.new.book.watched.items }
-    ensures learnt { AreChained known.old.count learnt.old.rules watches.new.learnt.heads.items learnt.new.links watches.new.learnt.watched.items }
-    ensures book_choices { IsKeptAtChoices book.old.rules (in_use owners.now enabled.now) watches.new.book.watched.items known.new.lits known.new.marks }
-    ensures learnt_choices { IsKeptAtChoices learnt.old.rules always watches.new.learnt.watched.items known.new.lits known.new.marks }
-    ensures book_kept { result ≡ None → IsKeptUpto book.old.rules (in_use owners.now enabled.now) watches.new.book.watched.items known.new.lits (length known.new.lits) }
-    ensures learnt_kept { result ≡ None → IsKeptUpto learnt.old.rules always watches.new.learnt.watched.items known.new.lits (length known.new.lits) }
+    ensures grown { IsGrown (book.now.rules ++ learnt.now.rules) (in_use owners.now enabled.now) known.old known.new }
+    ensures done { Propagated (book.now.rules ++ learnt.now.rules) (in_use owners.now enabled.now) known.new.lits result }
+    ensures book { AreChained known.old.count book.now.rules watches.new.book.heads.items watches.new.book.links.items watches.new.book.watched.items }
+    ensures learnt { AreChained known.old.count learnt.now.rules watches.new.learnt.heads.items watches.new.learnt.links.items watches.new.learnt.watched.items }
+    ensures book_choices { IsKeptAtChoices book.now.rules (in_use owners.now enabled.now) watches.new.book.watched.items known.new.lits known.new.marks }
+    ensures learnt_choices { IsKeptAtChoices learnt.now.rules always watches.new.learnt.watched.items known.new.lits known.new.marks }
+    ensures book_kept { result ≡ None → IsKeptUpto book.now.rules (in_use owners.now enabled.now) watches.new.book.watched.items known.new.lits (length known.new.lits) }
+    ensures learnt_kept { result ≡ None → IsKeptUpto learnt.now.rules always watches.new.learnt.watched.items known.new.lits (length known.new.lits) }
 {
     let base = book.len() as u32;
     let mut at = from;
@@ -227,26 +225,24 @@ fn begin(
 /// been looked at. It takes no memory.
 pub fn propagate(
     known: &mut Known,
-    book: &mut RuleMem,
-    learnt: &mut RuleMem,
+    book: &RuleMem,
+    learnt: &RuleMem,
     watches: &mut Watches,
     owners: &[usize],
     enabled: &[bool],
 ) -> Option<u32>
-    requires over { are_over known.old.count (book.old.rules ++ learnt.old.rules) ≡ true }
+    requires over { are_over known.old.count (book.now.rules ++ learnt.now.rules) ≡ true }
     requires owners { list_all (λ o. nat_lt o (length enabled.now)) owners.now ≡ true }
-    requires each { length owners.now ≡ length book.old.rules }
-    requires rules { length (book.old.rules ++ learnt.old.rules) ≤ 2 ^ 28 }
-    requires watched { AreWatched known.old.count book.old learnt.old watches.old }
-    requires kept { AreKeptAtChoices book.old.rules learnt.old.rules (in_use owners.now enabled.now) watches.old known.old }
-    requires ready { AreReady book.old.rules learnt.old.rules (in_use owners.now enabled.now) watches.old known.old }
-    ensures rules { book.new.rules ≡ book.old.rules }
-    ensures learnt_rules { learnt.new.rules ≡ learnt.old.rules }
-    ensures grown { IsGrown (book.old.rules ++ learnt.old.rules) (in_use owners.now enabled.now) known.old known.new }
-    ensures done { Propagated (book.old.rules ++ learnt.old.rules) (in_use owners.now enabled.now) known.new.lits result }
-    ensures watched { AreWatched known.old.count book.new learnt.new watches.new }
-    ensures kept { AreKeptAtChoices book.old.rules learnt.old.rules (in_use owners.now enabled.now) watches.new known.new }
-    ensures seen { result ≡ None → AreSeen book.old.rules learnt.old.rules (in_use owners.now enabled.now) watches.new known.new }
+    requires each { length owners.now ≡ length book.now.rules }
+    requires rules { length (book.now.rules ++ learnt.now.rules) ≤ 2 ^ 28 }
+    requires watched { AreWatched known.old.count book.now.rules learnt.now.rules watches.old }
+    requires kept { AreKeptAtChoices book.now.rules learnt.now.rules (in_use owners.now enabled.now) watches.old known.old }
+    requires ready { AreReady book.now.rules learnt.now.rules (in_use owners.now enabled.now) watches.old known.old }
+    ensures grown { IsGrown (book.now.rules ++ learnt.now.rules) (in_use owners.now enabled.now) known.old known.new }
+    ensures done { Propagated (book.now.rules ++ learnt.now.rules) (in_use owners.now enabled.now) known.new.lits result }
+    ensures watched { AreWatched known.old.count book.now.rules learnt.now.rules watches.new }
+    ensures kept { AreKeptAtChoices book.now.rules learnt.now.rules (in_use owners.now enabled.now) watches.new known.new }
+    ensures seen { result ≡ None → AreSeen book.now.rules learnt.now.rules (in_use owners.now enabled.now) watches.new known.new }
 {
     let from = known.len().saturating_sub(1);
     if let Some(rule) = begin(known, book, learnt, &watches.narrow, owners, enabled) {

@@ -47,19 +47,12 @@ fn knows(known: &Known, numbers: &[i32]) -> bool {
 fn propagated(alloc: Global, enabled: &[bool]) -> Result<(Known, bool), Fail>
     requires { length enabled.now ≡ 4 }
 {
-    let mut book = book_of_chain(alloc)?;
-    let mut watches = Watches::over(alloc, &mut book, 3)?;
-    let mut learnt = RuleMem::new(alloc);
+    let book = book_of_chain(alloc)?;
+    let mut watches = Watches::over(alloc, &book, 3)?;
+    let learnt = RuleMem::new(alloc);
     let mut known = Known::new(alloc, 3)?;
     let owners = [0, 1, 2, 3];
-    let clash = propagate(
-        &mut known,
-        &mut book,
-        &mut learnt,
-        &mut watches,
-        &owners,
-        enabled,
-    );
+    let clash = propagate(&mut known, &book, &learnt, &mut watches, &owners, enabled);
     Ok((known, clash.is_some()))
 }
 
@@ -131,15 +124,15 @@ impl Recaller for OnePackage {
 fn descended(alloc: Global, enabled: &[bool]) -> Result<(Known, bool), Fail>
     requires { length enabled.now ≡ 4 }
 {
-    let mut book = book_of_four(alloc)?;
-    let mut watches = Watches::over(alloc, &mut book, 3)?;
-    let mut learnt = RuleMem::new(alloc);
+    let book = book_of_four(alloc)?;
+    let mut watches = Watches::over(alloc, &book, 3)?;
+    let learnt = RuleMem::new(alloc);
     let mut known = Known::new(alloc, 3)?;
     let owners = [0, 1, 2, 3];
     let clash = descend(
         &mut known,
-        &mut book,
-        &mut learnt,
+        &book,
+        &learnt,
         &mut watches,
         &owners,
         enabled,
@@ -178,13 +171,13 @@ fn one_package_is_taken(rt: HostRuntime) -> Result<(), Fail> {
 /// Two learnt rules are hung, the second with fewer than two literals, and forgotten.
 #[test]
 fn learnt_rules_are_hung_and_forgotten(rt: HostRuntime) -> Result<(), Fail> {
-    let mut book = RuleMem::new(rt.alloc());
-    let mut watches = Watches::over(rt.alloc(), &mut book, 3)?;
+    let book = RuleMem::new(rt.alloc());
+    let mut watches = Watches::over(rt.alloc(), &book, 3)?;
     let chains = &mut watches.learnt;
-    let mut learnt = RuleMem::new(rt.alloc());
-    learnt.push(&[Lit::new(1), Lit::new(-2)])?;
+    chains.links.reserve(2)?;
     chains.watched.reserve(4)?;
-    chains.add(&mut learnt, 0, Lit::new(1), Lit::new(-2));
+    chains.link_next();
+    chains.add(0, Lit::new(1), Lit::new(-2));
     chains.pass();
     assert_eq!(rt;
         (chains.heads[2], chains.heads[5], chains.watched.len()),

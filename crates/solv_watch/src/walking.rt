@@ -3,15 +3,14 @@ ghost use Rattle.std.specs.Prelude.{◌≡◌, ◌<◌, ◌≤◌, ◌+◌, ◌*
 ghost use Rattle.std.specs.List.{list_all};
 ghost use Rattle.solv_pool.specs.Propagation.{is_fact};
 ghost use Rattle.solv_pack.specs.Inner.Literals.{place_of};
-ghost use Rattle.solv_pack.specs.Inner.Packing.{no_link, link_place};
 ghost use Rattle.solv_derive.specs.Range.{is_over, are_over, names_package};
 ghost use Rattle.solv_derive.specs.Forced.{is_falsified};
 ghost use Rattle.solv_trail.specs.Propagated.{in_use};
 ghost use Rattle.solv_trail.specs.Inner.Propagated.{IsUsed, IsGrown};
-ghost use Rattle.solv_watch.specs.Inner.Chains.{other, heads_past, links_past};
+ghost use Rattle.solv_watch.specs.Inner.Chains.{no_link, other, heads_past, links_past};
 ghost use Rattle.solv_watch.specs.Inner.Watching.{literal_of, AreChained, AreGuards, AreGuardsAtChoices, Each, IsPart, Looked};
 
-use crate::chains::{NOWHERE, beside, link_of, rewatch};
+use crate::chains::{NOWHERE, beside, rewatch};
 use crate::spares::spare;
 use solv_pack::{Lit, RuleMem, RuleNo};
 use solv_trail::{Known, is_in_use};
@@ -65,34 +64,34 @@ fn look(
 /// falsified, which it names, by its number among all rules, where these begin at base. It takes no memory.
 pub fn walk(
     known: &mut Known,
-    rules: &mut RuleMem,
+    rules: &RuleMem,
     heads: &mut [u32],
+    links: &mut [u32],
     watched: &mut [Lit],
     owners: &[usize],
     enabled: &[bool],
     base: u32,
     at: usize,
 ) -> Option<u32>
-    requires over { are_over known.old.count rules.old.rules ≡ true }
+    requires over { are_over known.old.count rules.now.rules ≡ true }
     requires owners { list_all (λ o. nat_lt o (length enabled.now)) owners.now ≡ true }
-    requires base { base + length rules.old.rules ≤ 2 ^ 28 }
+    requires base { base + length rules.now.rules ≤ 2 ^ 28 }
     requires at { at < length known.old.lits }
-    requires chained { AreChained known.old.count rules.old.rules heads.old rules.old.links watched.old }
-    requires guards { AreGuards rules.old.rules (in_use owners.now enabled.now) watched.old Each (take at known.old.lits) known.old.lits }
-    requires choices { AreGuardsAtChoices rules.old.rules (in_use owners.now enabled.now) watched.old known.old.lits known.old.marks }
-    ensures rules { rules.new.rules ≡ rules.old.rules }
-    ensures grown { (all : List (List ℤ)) (used : ℕ → Bool) → IsPart all used base rules.old.rules (in_use owners.now enabled.now) → IsGrown all used known.old known.new }
-    ensures chained { AreChained known.old.count rules.old.rules heads.new rules.new.links watched.new }
-    ensures choices { AreGuardsAtChoices rules.old.rules (in_use owners.now enabled.now) watched.new known.new.lits known.new.marks }
-    ensures guards { result ≡ None → AreGuards rules.old.rules (in_use owners.now enabled.now) watched.new Each (take (at + 1) known.new.lits) known.new.lits }
-    ensures clash { IfSome result (λ rule. (all : List (List ℤ)) (used : ℕ → Bool) → IsPart all used base rules.old.rules (in_use owners.now enabled.now) → (c : List ℤ) × IsUsed all used rule c × (is_falsified known.new.lits c ≡ true)) }
+    requires chained { AreChained known.old.count rules.now.rules heads.old links.old watched.old }
+    requires guards { AreGuards rules.now.rules (in_use owners.now enabled.now) watched.old Each (take at known.old.lits) known.old.lits }
+    requires choices { AreGuardsAtChoices rules.now.rules (in_use owners.now enabled.now) watched.old known.old.lits known.old.marks }
+    ensures grown { (all : List (List ℤ)) (used : ℕ → Bool) → IsPart all used base rules.now.rules (in_use owners.now enabled.now) → IsGrown all used known.old known.new }
+    ensures chained { AreChained known.old.count rules.now.rules heads.new links.new watched.new }
+    ensures choices { AreGuardsAtChoices rules.now.rules (in_use owners.now enabled.now) watched.new known.new.lits known.new.marks }
+    ensures guards { result ≡ None → AreGuards rules.now.rules (in_use owners.now enabled.now) watched.new Each (take (at + 1) known.new.lits) known.new.lits }
+    ensures clash { IfSome result (λ rule. (all : List (List ℤ)) (used : ℕ → Bool) → IsPart all used base rules.now.rules (in_use owners.now enabled.now) → (c : List ℤ) × IsUsed all used rule c × (is_falsified known.new.lits c ≡ true)) }
 {
     let place = known.lit_at(at).negated().place();
     let mut last = NOWHERE;
     let mut watch = heads[place];
     while watch != NOWHERE {
         let rule = watch / 2;
-        let next = link_of(rules, watch);
+        let next = links[watch as usize];
         let other = watched[beside(watch) as usize];
         known.keep_apart();
         match look(known, rules, owners, enabled, rule, other) {
@@ -102,7 +101,7 @@ pub fn walk(
                 known.push(other, base + rule);
                 last = watch;
             }
-            Visit::Moves(to) => rewatch(rules, heads, watched, place, last, watch, to),
+            Visit::Moves(to) => rewatch(heads, links, watched, place, last, watch, to),
         }
         watch = next;
     }

@@ -10,18 +10,18 @@ use crate::entry_lines::{heading, push_deps, push_names, push_needs, push_text};
 use crate::evr::append_evr;
 use solv_base::{NameId, Pool};
 use solv_list::{Bytes, Items};
-use solv_pool::Package;
+use solv_pool::PackageRef;
 use std::alloc::{AllocError, Global};
 
 /// Appends `name version release arch`.
-fn append_words(pool: &Pool, pack: &Package, line: &mut Vec<u8>) -> Result<(), AllocError>
+fn append_words(pool: &Pool, pack: &PackageRef<'_>, line: &mut Vec<u8>) -> Result<(), AllocError>
     requires { HasNames pool.now pack.now }
     ensures { OnOk result (line.new.items ≡ line.old.items ++ (package_entry (written_package pool.now pack.now)).text) }
 {
-    line.extend_from_slice(pool.name(pack.name))?;
-    append_evr(line, pool.name(pack.evr))?;
+    line.extend_from_slice(pool.name(pack.name()))?;
+    append_evr(line, pool.name(pack.evr()))?;
     line.push(b' ')?;
-    line.extend_from_slice(pool.name(pack.arch))?;
+    line.extend_from_slice(pool.name(pack.arch()))?;
     Ok(())
 }
 
@@ -29,7 +29,7 @@ fn append_words(pool: &Pool, pack: &Package, line: &mut Vec<u8>) -> Result<(), A
 fn push_first(
     alloc: Global,
     pool: &Pool,
-    pack: &Package,
+    pack: &PackageRef<'_>,
     lines: &mut Items<Bytes>,
 ) -> Result<(), AllocError>
     requires { HasNames pool.now pack.now }
@@ -44,13 +44,13 @@ fn push_first(
 fn push_vendor(
     alloc: Global,
     pool: &Pool,
-    vendor: &Option<NameId>,
+    vendor: Option<NameId>,
     lines: &mut Items<Bytes>,
 ) -> Result<(), AllocError>
-    requires { list_all (λ n. nat_lt n (length pool.now.names)) (option_to_list vendor.now) ≡ true }
-    ensures { OnOk result (lines.new ≡ lines.old ++ map (λ n. tag_line (codes "Vnd") (text_at pool.now n)) (option_to_list vendor.now)) }
+    requires { list_all (λ n. nat_lt n (length pool.now.names)) (option_to_list vendor) ≡ true }
+    ensures { OnOk result (lines.new ≡ lines.old ++ map (λ n. tag_line (codes "Vnd") (text_at pool.now n)) (option_to_list vendor)) }
 {
-    match *vendor {
+    match vendor {
         Some(name) => push_text(alloc, b"Vnd", pool.name(name), lines),
         None => Ok(()),
     }
@@ -60,16 +60,16 @@ fn push_vendor(
 fn push_strong(
     alloc: Global,
     pool: &Pool,
-    pack: &Package,
+    pack: &PackageRef<'_>,
     lines: &mut Items<Bytes>,
 ) -> Result<(), AllocError>
     requires { HasRelations pool.now pack.now }
     ensures { OnOk result (lines.new ≡ lines.old ++ strong_lines pool.now pack.now) }
 {
-    push_deps(alloc, pool, b"Prv", pack.provides.held(), lines)?;
-    push_needs(alloc, pool, pack.requires_.held(), lines)?;
-    push_deps(alloc, pool, b"Con", pack.conflicts.held(), lines)?;
-    push_deps(alloc, pool, b"Obs", pack.obsoletes.held(), lines)?;
+    push_deps(alloc, pool, b"Prv", pack.provides(), lines)?;
+    push_needs(alloc, pool, pack.requires_(), lines)?;
+    push_deps(alloc, pool, b"Con", pack.conflicts(), lines)?;
+    push_deps(alloc, pool, b"Obs", pack.obsoletes(), lines)?;
     Ok(())
 }
 
@@ -77,16 +77,16 @@ fn push_strong(
 fn push_weak(
     alloc: Global,
     pool: &Pool,
-    pack: &Package,
+    pack: &PackageRef<'_>,
     lines: &mut Items<Bytes>,
 ) -> Result<(), AllocError>
     requires { HasRelations pool.now pack.now }
     ensures { OnOk result (lines.new ≡ lines.old ++ weak_lines pool.now pack.now) }
 {
-    push_deps(alloc, pool, b"Rec", pack.recommends.held(), lines)?;
-    push_deps(alloc, pool, b"Sug", pack.suggests.held(), lines)?;
-    push_deps(alloc, pool, b"Sup", pack.supplements.held(), lines)?;
-    push_deps(alloc, pool, b"Enh", pack.enhances.held(), lines)?;
+    push_deps(alloc, pool, b"Rec", pack.recommends(), lines)?;
+    push_deps(alloc, pool, b"Sug", pack.suggests(), lines)?;
+    push_deps(alloc, pool, b"Sup", pack.supplements(), lines)?;
+    push_deps(alloc, pool, b"Enh", pack.enhances(), lines)?;
     Ok(())
 }
 
@@ -94,7 +94,7 @@ fn push_weak(
 pub(crate) fn push_package(
     alloc: Global,
     pool: &Pool,
-    pack: &Package,
+    pack: &PackageRef<'_>,
     lines: &mut Items<Bytes>,
 ) -> Result<(), AllocError>
     requires names { HasNames pool.now pack.now }
@@ -102,9 +102,9 @@ pub(crate) fn push_package(
     ensures { OnOk result (lines.new ≡ lines.old ++ package_lines (written_package pool.now pack.now)) }
 {
     push_first(alloc, pool, pack, lines)?;
-    push_vendor(alloc, pool, &pack.vendor, lines)?;
+    push_vendor(alloc, pool, pack.vendor(), lines)?;
     push_strong(alloc, pool, pack, lines)?;
     push_weak(alloc, pool, pack, lines)?;
-    push_names(alloc, pool, b"Fls", pack.files.held(), lines)?;
+    push_names(alloc, pool, b"Fls", pack.files(), lines)?;
     Ok(())
 }

@@ -9,14 +9,14 @@ ghost use Rattle.solv_writing.specs.Inner.PackageLines.{HasNames, HasRelations};
 use crate::package_lines::push_package;
 use solv_base::Pool;
 use solv_list::{Bytes, Items};
-use solv_pool::{PackNo, Package, RepoNo, Universe};
+use solv_pool::{PackNo, PackageRef, RepoNo, Universe};
 use std::alloc::{AllocError, Global};
 
 /// Appends the lines of a package, where it is of this repository.
 fn push_if_own(
     alloc: Global,
     pool: &Pool,
-    pack: &Package,
+    pack: &PackageRef<'_>,
     repo: RepoNo,
     lines: &mut Items<Bytes>,
 ) -> Result<(), AllocError>
@@ -24,7 +24,7 @@ fn push_if_own(
     requires relations { HasRelations pool.now pack.now }
     ensures { OnOk result (lines.new ≡ lines.old ++ tag_lines (packages_of repo (written_package pool.now pack.now ∷ []))) }
 {
-    if pack.repo == repo {
+    if pack.repo() == repo {
         return push_package(alloc, pool, pack, lines);
     }
     Ok(())
@@ -32,12 +32,12 @@ fn push_if_own(
 
 /// The package of a number.
 #[tactic(auto, using(crate::proofs::PackageById::names_there, crate::proofs::PackageById::relations_there))]
-pub(crate) fn package_there<'a>(pool: &Pool, universe: &'a Universe, number: u32) -> &'a Package
+pub(crate) fn package_there<'a>(pool: &Pool, universe: &'a Universe, number: u32) -> PackageRef<'a>
     requires over { IsOver pool.now universe.now }
     requires there { number < length universe.now.packages }
-    ensures is { slice_get universe.now.packages number ≡ Some result.now }
-    ensures names { HasNames pool.now result.now }
-    ensures relations { HasRelations pool.now result.now }
+    ensures is { slice_get universe.now.packages number ≡ Some result }
+    ensures names { HasNames pool.now result }
+    ensures relations { HasRelations pool.now result }
 {
     let _count = universe.count();
     universe.package(PackNo(number + 1))
@@ -58,7 +58,7 @@ pub fn write_testtags(
         push_if_own(
             alloc,
             pool,
-            package_there(pool, universe, number),
+            &package_there(pool, universe, number),
             repo,
             &mut lines,
         )?;

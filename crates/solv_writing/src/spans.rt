@@ -44,7 +44,7 @@ fn fill(universe: &Universe, spans: &mut [Span])
     ensures spans { AreSpans universe.now.packages (length universe.now.packages) spans.new }
 {
     for place in 0..universe.count() {
-        widen(spans, universe.package(PackNo(place + 1)).repo, place);
+        widen(spans, universe.package(PackNo(place + 1)).repo(), place);
     }
 }
 

@@ -16,14 +16,14 @@ use crate::repository_heads::repository_head;
 use crate::spans::{Span, spans_of};
 use solv_base::Pool;
 use solv_list::Items;
-use solv_pool::{Package, RepoNo, Universe};
+use solv_pool::{PackageRef, RepoNo, Universe};
 use std::alloc::{AllocError, Global};
 
 /// Appends the block of a package.
 fn put_package(
     alloc: Global,
     pool: &Pool,
-    pack: &Package,
+    pack: &PackageRef<'_>,
     into: &mut Vec<u8>,
 ) -> Result<(), AllocError>
     requires names { HasNames pool.now pack.now }
@@ -39,7 +39,7 @@ fn put_package(
 fn put_if_own(
     alloc: Global,
     pool: &Pool,
-    pack: &Package,
+    pack: &PackageRef<'_>,
     repo: RepoNo,
     into: &mut Vec<u8>,
 ) -> Result<(), AllocError>
@@ -47,7 +47,7 @@ fn put_if_own(
     requires relations { HasRelations pool.now pack.now }
     ensures { OnOk result (into.new.items ≡ into.old.items ++ ended_lines (inlined (tag_lines (packages_of repo (written_package pool.now pack.now ∷ []))))) }
 {
-    if pack.repo == repo {
+    if pack.repo() == repo {
         return put_package(alloc, pool, pack, into);
     }
     Ok(())
@@ -70,7 +70,7 @@ fn put_packages(
         put_if_own(
             alloc,
             pool,
-            package_there(pool, universe, number),
+            &package_there(pool, universe, number),
             repo,
             into,
         )?;

@@ -1,7 +1,6 @@
 -- What the rounds of a script share. Inner contracts alone speak of it.
-use Rattle.std.specs.Prelude.{ℕ, ◌≡◌, ◌≤◌, List, ◌++◌, None, IfSome, flat_map, length, map, take}
+use Rattle.std.specs.Prelude.{ℕ, ◌≡◌, ◌≤◌, List, ◌++◌, None, IfSome, length, map, take}
 use Rattle.solv_pool.specs.Catalog.{Catalog}
-use Rattle.solv_pool.specs.Clauses.{rule_clauses}
 use Rattle.solv_pool.specs.HardRules.{package_rules, infarch_rules}
 use Rattle.solv_pool.specs.RuleMeaning.{HardRule, rule_with}
 use Rattle.solv_pool.specs.declared.hard_rules.Rules.{Rules}
@@ -28,11 +27,9 @@ pub record HasFront (made : List HardRule) (rules : Rules) (front : Front) : Typ
   pub enough_sets : front.sets ≤ length rules.sets
   pub reads : Reads (record { list = take front.rules rules.list; sets = take front.sets rules.sets }) made
 
--- what a decision left serves each task for these packages, flags and marks: its plan rests on these alone, and its first clauses are those of the first rules
+-- what a decision left serves each task for these packages, flags and marks, on which its plan rests
 pub record IsLeftFor (catalog : Catalog) (flags : Flags) (marks : Marks) (left : Left) : Type 0 where
   pub rest : left.rest ≡ rest_by catalog flags marks
-  pub core : take (length (flat_map (rule_clauses catalog) (front_rules catalog flags marks))) left.core.made.clauses ≡ flat_map (rule_clauses catalog) (front_rules catalog flags marks)
-  pub packages : left.core.made.packages ≡ length catalog.universe.packages
 
 -- the next round over the same packages may begin with what was prepared, and with what an answer left
 pub record MayGoOn (catalog : Catalog) (prepared : Prepared) : Type 0 where
@@ -40,5 +37,4 @@ pub record MayGoOn (catalog : Catalog) (prepared : Prepared) : Type 0 where
   pub book : IsBook catalog prepared.book
   pub fits : first_fault catalog 0 (read_rules prepared.book.rules) ≡ None
   pub front : HasFront (front_rules catalog prepared.flags prepared.marks) prepared.book.rules prepared.front
-  pub clauses : prepared.front.clauses ≡ length (flat_map (rule_clauses catalog) (front_rules catalog prepared.flags prepared.marks))
   pub left : IfSome prepared.left (IsLeftFor catalog prepared.flags prepared.marks)

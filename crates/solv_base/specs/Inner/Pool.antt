@@ -1,13 +1,9 @@
 -- What a pool holds: one id for each text and for each node.
-use Rattle.std.specs.Prelude.{ℕ, Bool, ◌&&◌, List, map, if◌then◌else◌, nat_lt, Vec}
+use Rattle.std.specs.Prelude.{ℕ, Bool, ◌&&◌, List, nat_lt}
 use Rattle.std.specs.List.{list_all}
 use Rattle.solv_base.specs.declared.relation.DepNode.{DepNode}
 use Rattle.solv_base.specs.Dependency.{Dep, plain, versioned, one, namespace, and, or, with, without, if_then, if_else, unless, unless_else, names_in, operands}
 use Rattle.solv_base.specs.declared.relation.DepNode.TheVariants.{Simple, Versioned, Namespace, And, Or, With, Without, If, IfElse, Unless, UnlessElse}
-
--- the texts that a list of vectors holds
-abbrev pub texts_of : {A : Type 0} → List (Vec ℕ A) → List (List ℕ)
-texts_of vs = map (λ v. v.items) vs
 
 -- a node over texts, its operands being read by `at`
 abbrev pub text_tree_of_node : (ℕ → List ℕ) → (ℕ → Dep (List ℕ)) → DepNode → Dep (List ℕ)

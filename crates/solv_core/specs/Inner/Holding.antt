@@ -39,6 +39,12 @@ pub record AreDerived (book : List (List ℤ)) (packages : ℕ) (clauses : List 
   pub good : are_good_steps book [] steps ≡ true
   pub over : steps_over packages steps ≡ true
 
+-- clauses in use, with a derivation of which each leaf is a rule in use
+pub record AreInUse (book : List (List ℤ)) (used : ℕ → Bool) (packages : ℕ) (entries : List Entry) (number : ℕ → ℕ) (learnt : List (List ℤ)) (steps : List Step) : Type 0 where
+  pub derived : AreDerived book packages learnt steps
+  pub held : AreEntries entries number steps
+  pub rests : list_all (λ rule. nat_lt rule (length book) && used rule) (named_rules steps) ≡ true
+
 -- the ledger holds what the core has learnt and still uses, under the same numbers
 pub record IsHeldBy (core : LearningCore) (ledger : Ledger) : Type 0 where
   pub steps : List Step

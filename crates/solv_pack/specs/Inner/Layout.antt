@@ -51,13 +51,11 @@ pub record Grows {X : Type 0} (old new : List (List X)) : Type 0 where
 abbrev pub most_blocks : ℕ
 most_blocks = 2 ^ 10
 
--- each rule lies in a block, in order; each has two links; and the spare words, if there are any, fit into the last block and into both tables, whose capacities these are
-pub record IsLaidOut {X : Type 0} (words : List (List X)) (rooms : List ℕ) (places : List Place) (links : List ℕ) (spare places_room links_room : ℕ) : Type 0 where
+-- each rule lies in a block, in order; and the spare words, if there are any, fit into the last block and into the table of places, whose capacity this is
+pub record IsLaidOut {X : Type 0} (words : List (List X)) (rooms : List ℕ) (places : List Place) (spare places_room : ℕ) : Type 0 where
   pub inside : AreInside words places
   pub behind : AreBehind 0 0 places
   pub few : length places ≤ most_rules
   pub few_blocks : length words ≤ most_blocks
-  pub linked : length links ≡ 2 * length places
   pub lits_fit : 0 < spare → spare ≤ left_in words rooms
   pub places_fit : 0 < spare → spare + 4 * length places ≤ 4 * places_room
-  pub links_fit : 0 < spare → spare + 2 * length links ≤ 2 * links_room

@@ -1,6 +1,9 @@
 -- Chains of watches, one for each literal. The watches of rule r are 2 r and 2 r + 1.
 use Rattle.std.specs.Prelude.{ℕ, ◌≡◌, ◌+◌, ◌-◌, ◌*◌, ◌/◌, ◌%◌, ◌<◌, ◌==◌, ◌⊎◌, List, [], ◌∷◌, length, slice_index, slice_set, if◌then◌else◌}
-use Rattle.solv_pack.specs.Inner.Packing.{no_link}
+
+-- the link that leads nowhere
+abbrev pub no_link : ℕ
+no_link = 4294967295
 
 abbrev pub Has : List ℕ → ℕ → Type 0
 Has [] x = ⊥

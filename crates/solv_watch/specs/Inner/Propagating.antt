@@ -1,15 +1,14 @@
 -- What propagation needs of the watches, and keeps.
 use Rattle.std.specs.Prelude.{ℕ, ℤ, ◌<◌, ◌-◌, Bool, List, length, take}
-use Rattle.solv_pack.specs.Inner.Packing.{Memory}
 use Rattle.solv_trail.specs.Inner.Held.{Held}
 use Rattle.solv_watch.specs.Inner.Watching.{AreChained, AreNarrow, AreNarrowTrue, AreGuards, Each, IsKeptAtChoices, IsKeptUpto, always}
 use Rattle.solv_watch.specs.declared.chains.Watches.{Watches}
 
 -- all rules hang at the literals that they watch, whatever is known
-pub record AreWatched (count : ℕ) (book learnt : Memory) (watches : Watches) : Type 0 where
-  pub book_chained : AreChained count book.rules watches.book.heads.items book.links watches.book.watched.items
-  pub learnt_chained : AreChained count learnt.rules watches.learnt.heads.items learnt.links watches.learnt.watched.items
-  pub narrow : AreNarrow book.rules watches.narrow.items
+pub record AreWatched (count : ℕ) (book learnt : List (List ℤ)) (watches : Watches) : Type 0 where
+  pub book_chained : AreChained count book watches.book.heads.items watches.book.links.items watches.book.watched.items
+  pub learnt_chained : AreChained count learnt watches.learnt.heads.items watches.learnt.links.items watches.learnt.watched.items
+  pub narrow : AreNarrow book watches.narrow.items
 
 -- what holds at each choice; learnt rules are always in use
 pub record AreKeptAtChoices (book learnt : List (List ℤ)) (used : ℕ → Bool) (watches : Watches) (held : Held) : Type 0 where

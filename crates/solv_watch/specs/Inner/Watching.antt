@@ -3,9 +3,8 @@ use Rattle.std.specs.Prelude.{ℕ, ℤ, pos, ◌≡◌, ◌+◌, ◌*◌, ◌/�
 use Rattle.solv_pool.specs.Propagation.{is_fact, is_refuted}
 use Rattle.solv_derive.specs.Forced.{is_satisfied, is_falsified, forced}
 use Rattle.solv_pack.specs.Inner.Literals.{place_of}
-use Rattle.solv_pack.specs.Inner.Packing.{no_link}
 use Rattle.solv_trail.specs.Inner.Propagated.{IsUsed}
-use Rattle.solv_watch.specs.Inner.Chains.{other, AreHung, AreAllHung}
+use Rattle.solv_watch.specs.Inner.Chains.{no_link, other, AreHung, AreAllHung}
 use Rattle.solv_watch.specs.Inner.Spares.{AreTwoOf}
 use Rattle.solv_watch.specs.declared.walking.Visit.{Visit}
 use Rattle.solv_watch.specs.declared.walking.Visit.TheVariants.{Stays, Falsified, Forces, Moves}

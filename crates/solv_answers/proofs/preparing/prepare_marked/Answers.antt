@@ -1,7 +1,7 @@
 use Rattle.std.proofs.Common.{◌∙◌, refl}
 use Rattle.solv_pool.specs.Catalog.{catalog_of}
 use Rattle.solv_answers.specs.Inner.Fronts.{front_rules}
-use Rattle.solv_answers.proofs.Shared.{clauses_of_front, front_of_book, is_prepared, may_go_on, same_front}
+use Rattle.solv_answers.proofs.Shared.{is_prepared, may_go_on, same_front}
 use Rattle.solv_answers.proofs.preparing.prepare_marked.Goals as goal
 
 pub returns-in-Ok-make-clause-prepared : goal.returns-in-Ok-make-clause-prepared
@@ -16,5 +16,4 @@ returns-in-Ok-make-clause-goes_on c =
     (is_prepared c.args.task.now c.args.prov.now _ c.in-Ok.made.0 c.requires.index refl refl c.requires.marks c.requires.each
     c.in-Ok-make.ensures.book c.in-Ok-make.ensures.rules c.in-Ok.ensures.rules c.in-Ok.ensures.bookable.each c.in-Ok-make.ensures.fits)
     c.in-Ok-make.ensures.rules (same_front made c.in-Ok.made.0 c.in-Ok.made.1 _ refl refl c.in-Ok.ensures.front)
-    (c.clauses_before-clauses.ensures ∙ clauses_of_front (catalog_of c.args.task.now) made c.in-Ok-make.book c.in-Ok.made.1 c.in-Ok-make.ensures.book (front_of_book made c.in-Ok.made.0 c.in-Ok-make.book.rules c.in-Ok.made.1 c.in-Ok-make.ensures.rules c.in-Ok.ensures.front))
     tt

@@ -21,12 +21,6 @@ go_on-requires-clause-front c =
     subst (λ (b : Written). HasFront (front_rules (catalog_of c.args.task.now) c.args.task.now.flags c.in-Ok.marks) b.rules c.args.before.front) (sym c.into_parts-book.ensures.book)
     (subst (λ (l : List HardRule). HasFront l c.args.before.book.rules c.args.before.front) same c.requires.before.front)
 
-pub go_on-requires-clause-clauses : goal.go_on-requires-clause-clauses
-go_on-requires-clause-clauses c =
-    let three = c.has_front.ensures c.if-has_front.true in
-    let same = front_alike (catalog_of c.args.task.now) c.args.before.flags c.args.task.now.flags c.args.before.marks c.in-Ok.marks three.0 three.1 three.2 in
-    c.requires.before.clauses ∙ ap (λ (l : List HardRule). length (flat_map (rule_clauses (catalog_of c.args.task.now)) l)) same
-
 pub go_on-requires-clause-left : goal.go_on-requires-clause-left
 go_on-requires-clause-left c =
     left_serves (catalog_of c.args.task.now) c.are_alike-alike.result c.args.before.flags c.args.task.now.flags c.args.before.marks c.in-Ok.marks c.args.before.left c.left_where-left.result

@@ -35,10 +35,10 @@ size_is : (c : In_ok-flags) → length c.in_ok-flags.flags.items ≡ length c.ar
 size_is c = c.in_ok-flags.ensures.size ∙ c.len-count.ensures.count
 
 flagged : (c : In_ok-flags) (rule : ℕ) → rule < length c.args.parts.now.learnt.rules
-    → is_on c.in_ok-flags.flags.items rule ≡ rests_on_enabled c.args.parts.now.book.rules c.args.used.now.owners.now c.args.used.now.enabled.now c.args.ledger.now.entries (entry_of c.args.parts.now.numbers.kept.items c.args.parts.now.numbers.first rule)
+    → is_on c.in_ok-flags.flags.items rule ≡ rests_on_enabled c.args.used.now.book.now.rules c.args.used.now.owners.now c.args.used.now.enabled.now c.args.ledger.now.entries (entry_of c.args.parts.now.numbers.kept.items c.args.parts.now.numbers.first rule)
 flagged c rule less =
-    c.in_ok-flags.ensures.each c.args.parts.now.book.rules c.requires.each rule (omega (arith, less, c.len-count.ensures.count))
-    ∙ ap (λ v. rests_on_enabled c.args.parts.now.book.rules c.args.used.now.owners.now c.args.used.now.enabled.now v (entry_of c.args.parts.now.numbers.kept.items c.args.parts.now.numbers.first rule)) c.held.ensures
+    c.in_ok-flags.ensures.each c.args.used.now.book.now.rules c.requires.each rule (omega (arith, less, c.len-count.ensures.count))
+    ∙ ap (λ v. rests_on_enabled c.args.used.now.book.now.rules c.args.used.now.owners.now c.args.used.now.enabled.now v (entry_of c.args.parts.now.numbers.kept.items c.args.parts.now.numbers.first rule)) c.held.ensures
 
 kept_is : (c : In_ok-kept) → c.in_ok-kept.kept.items ≡ numbers_on (is_on c.in_ok-flags.flags.items) (entry_of c.args.parts.now.numbers.kept.items c.args.parts.now.numbers.first) 0 (length c.in_ok-flags.flags.items)
 kept_is c = c.in_ok-kept.ensures ∙ ap (λ v. numbers_on (is_on v) (entry_of c.args.parts.now.numbers.kept.items c.args.parts.now.numbers.first) 0 (length v)) c.deref.ensures.value
@@ -48,7 +48,7 @@ returns-clause-begun c =
     let h = c.requires.held in
     let d = (goal.at.returns-clause-begun c).In_ok-flags in
     let k = (goal.at.returns-clause-begun c).In_ok-kept in
-    let book = c.args.parts.now.book.rules in
+    let book = c.args.used.now.book.now.rules in
     let owners = c.args.used.now.owners.now in
     let packages = c.args.parts.now.known.count in
     let enabled = c.args.used.now.enabled.now in
@@ -74,10 +74,10 @@ returns-clause-added c =
     let before = c.args.parts.now.numbers.kept.items in
     let start = c.args.parts.now.numbers.first in
     let learnt = c.args.parts.now.learnt.rules in
-    let noted : List ℕ = filter (rests_on_enabled c.args.parts.now.book.rules c.args.used.now.owners.now enabled c.args.ledger.now.entries) (before ++ range_with_len start (length learnt - length before)) in
+    let noted : List ℕ = filter (rests_on_enabled c.args.used.now.book.now.rules c.args.used.now.owners.now enabled c.args.ledger.now.entries) (before ++ range_with_len start (length learnt - length before)) in
     let list : c.wrap.result ≡ noted =
     c.wrap.ensures ∙ c.in_ok-noted.ensures.items ∙ c.deref-2.ensures.value ∙ kept_is k
-    ∙ numbers_kept c.args.parts.now.book.rules c.args.used.now.owners.now c.args.parts.now.known.count enabled c.args.ledger.now.entries before start learnt h.steps c.in_ok-flags.flags.items c.requires.each h.derived h.held h.few (size_is d) (flagged d) in
+    ∙ numbers_kept c.args.used.now.book.now.rules c.args.used.now.owners.now c.args.parts.now.known.count enabled c.args.ledger.now.entries before start learnt h.steps c.in_ok-flags.flags.items c.requires.each h.derived h.held h.few (size_is d) (flagged d) in
     c.in_ok-push.ensures.ok
     ∙ ap (λ v. c.args.ledger.now.runs ++ (record { enabled = c.in_ok-enabled.enabled; kept = v }) ∷ []) list
     ∙ ap (λ v. c.args.ledger.now.runs ++ (record { enabled = v; kept = noted }) ∷ []) c.in_ok-enabled.ensures

@@ -4,5 +4,5 @@ use Rattle.solv_core.proofs.tests.run_with_one.Goals as goal
 
 pub run-requires-clause-enabled : goal.run-requires-clause-enabled
 run-requires-clause-enabled g c =
-    ap (λ n. list_all (λ o. nat_lt o n) c.in_ok-core.core.made.owners) (c.deref.ensures.len ∙ c.in_ok-enabled.ensures.len ∙ c.len.ensures.count)
+    ap (λ n. list_all (λ o. nat_lt o n) c.in_ok-core.core.made.owners) (c.deref-2.ensures.len ∙ c.in_ok-enabled.ensures.len ∙ c.len.ensures.count)
     ∙ c.in_ok-core.ensures.owners

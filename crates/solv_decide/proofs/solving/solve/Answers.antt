@@ -1,14 +1,20 @@
-use Rattle.solv_decide.proofs.Answering.{is_lawful, ledger_by, ledger_from, decided_if}
+use Rattle.std.proofs.Common.{◌≡◌, ◌+◌, ◌==◌, true, length, sym, subst}
+use Rattle.solv_core.specs.Inner.Running.{is_log_over, is_spent_verdict}
+use Rattle.solv_core.specs.declared.verdicts.Verdict.{Verdict}
+use Rattle.solv_decide.specs.Inner.Deciding.{IsDecided}
 use Rattle.solv_decide.proofs.solving.solve.Goals as goal
 
-pub run_recalling-requires-clause-lawful : goal.run_recalling-requires-clause-lawful
-run_recalling-requires-clause-lawful c = is_lawful c.requires.asked.0 c.args.phases.now c.args.core.now.made c.requires.asked.1 c.plans_ask_the_questions.ensures c.questions_keep_the_law.ensures
+pub returns-clause-spent : goal.returns-clause-spent
+returns-clause-spent c =
+    let P : Verdict → Type 0 = λ v. is_spent_verdict v ≡ (length c.solve_looking.new.ledger.entries == c.solve_looking.new.ledger.budget + 1) in
+    subst P (sym c.into_verdict.ensures) c.in_ok-looked.ensures.spent
 
-pub returns-clause-good : goal.returns-clause-good
-returns-clause-good c = λ r asked good.
-    ledger_by r c.args.phases.now c.args.core.now.made asked c.plans_ask_the_questions.ensures c.run_recalling.new.ledger
-    (c.run_recalling.ensures.good (ledger_from r c.args.phases.now c.args.core.now.made asked c.plans_ask_the_questions.ensures c.args.ledger.now good))
+pub returns-clause-log_over : goal.returns-clause-log_over
+returns-clause-log_over c =
+    let P : Verdict → Type 0 = λ v. is_log_over c.args.core.now.made.packages v ≡ true in
+    subst P (sym c.into_verdict.ensures) c.in_ok-looked.ensures.log_over
 
 pub returns-clause-decided : goal.returns-clause-decided
 returns-clause-decided c = λ r asked.
-    decided_if r c.args.phases.now c.args.core.now.made asked c.plans_ask_the_questions.ensures c.clauses_say_the_rule.ensures c.args.enabled.now c.good_logs_refute.ensures c.run_recalling.result c.run_recalling.ensures.found c.run_recalling.ensures.refutation c.run_recalling.ensures.log_over
+    let P : Verdict → Type 0 = λ v. IsDecided r c.args.enabled.now c.args.core.now.made v in
+    subst P (sym c.into_verdict.ensures) (c.in_ok-looked.ensures.decided r asked)

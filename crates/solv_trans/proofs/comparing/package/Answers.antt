@@ -6,12 +6,12 @@ use Rattle.solv_list.proofs.Lists.{all_at}
 
 pub returns-clause-named : goal.returns-clause-named
 returns-clause-named c =
-    name_below (length c.args.task.now.pool.names) (length c.args.task.now.pool.nodes) (length c.args.task.now.universe.repos) c.package.result.now
+    name_below (length c.args.task.now.pool.names) (length c.args.task.now.pool.nodes) (length c.args.task.now.universe.repos) c.package.result
     (all_at (fits (length c.args.task.now.pool.names) (length c.args.task.now.pool.nodes) (length c.args.task.now.universe.repos))
-    c.args.task.now.universe.packages (c.args.pack - 1) c.package.result.now c.requires.over.packages c.package.ensures)
+    c.args.task.now.universe.packages (c.args.pack - 1) c.package.result c.requires.over.packages c.package.ensures)
 
 pub returns-clause-versioned : goal.returns-clause-versioned
 returns-clause-versioned c =
-    evr_below (length c.args.task.now.pool.names) (length c.args.task.now.pool.nodes) (length c.args.task.now.universe.repos) c.package.result.now
+    evr_below (length c.args.task.now.pool.names) (length c.args.task.now.pool.nodes) (length c.args.task.now.universe.repos) c.package.result
     (all_at (fits (length c.args.task.now.pool.names) (length c.args.task.now.pool.nodes) (length c.args.task.now.universe.repos))
-    c.args.task.now.universe.packages (c.args.pack - 1) c.package.result.now c.requires.over.packages c.package.ensures)
+    c.args.task.now.universe.packages (c.args.pack - 1) c.package.result c.requires.over.packages c.package.ensures)

@@ -10,21 +10,21 @@ use Rattle.solv_trans.proofs.edges.join_coming.Goals as goal
 
 pub join_need_coming-requires-clause-held : goal.join_need_coming-requires-clause-held
 join_need_coming-requires-clause-held c =
-    let items = c.held-need-items.ensures in
-    let lt : c.loop-need.need-index < length c.package.result.now.requires_ = omega (arith, ap length items) in
-    let is : c.need-item.result ≡ get_or c.package.result.now.requires_ c.loop-need.need-index c.need-item.result = rw items at c.need-item.is in
-    need_below c.args.task.now c.args.prov.now (c.args.pack - 1) c.package.result.now c.requires.ready c.package.ensures c.loop-need.need-index c.need-item.result lt is
+    let items = c.requires_-need-items.ensures in
+    let lt : c.loop-need.need-index < length c.package.result.requires_ = omega (arith, ap length items) in
+    let is : c.need-item.result ≡ get_or c.package.result.requires_ c.loop-need.need-index c.need-item.result = rw items at c.need-item.is in
+    need_below c.args.task.now c.args.prov.now (c.args.pack - 1) c.package.result c.requires.ready c.package.ensures c.loop-need.need-index c.need-item.result lt is
 
 pub loop-need-preserved : goal.loop-need-preserved
 loop-need-preserved c =
-    let inside : c.loop-need.need-index < length c.held-need-items.result.now = omega arith in
-    rw (take_next c.held-need-items.result.now c.loop-need.need-index c.need-item.result inside c.need-item.is)
-    (joins_more (to_coming (catalog_of c.args.task.now) (is_marked c.args.in_set.now) c.args.pack) (take c.loop-need.need-index c.held-need-items.result.now) (c.need-item.result ∷ []) c.args.links.now.items c.loop-need.links.items c.join_need_coming.new.links.items c.loop-need.invariant c.in_ok-join_need_coming.ensures)
+    let inside : c.loop-need.need-index < length c.requires_-need-items.result.now = omega arith in
+    rw (take_next c.requires_-need-items.result.now c.loop-need.need-index c.need-item.result inside c.need-item.is)
+    (joins_more (to_coming (catalog_of c.args.task.now) (is_marked c.args.in_set.now) c.args.pack) (take c.loop-need.need-index c.requires_-need-items.result.now) (c.need-item.result ∷ []) c.args.links.now.items c.loop-need.links.items c.join_need_coming.new.links.items c.loop-need.invariant c.in_ok-join_need_coming.ensures)
 
 pub returns : goal.returns
 returns c =
-    let items = c.held-need-items.ensures in
-    let whole = take_all c.loop-need.need-index c.held-need-items.result.now (omega arith) ∙ items in
-    let at = package_is (catalog_of c.args.task.now) (is_marked c.args.in_set.now) c.args.pack c.package.result.now c.requires.a_package c.package.ensures in
-    joins_same (to_coming (catalog_of c.args.task.now) (is_marked c.args.in_set.now) c.args.pack) (owned_by (catalog_of c.args.task.now) (is_marked c.args.in_set.now)) c.package.result.now.requires_ (c.args.pack ∷ []) c.args.links.now.items c.loop-need.links.items
-    (λ these a b. coming_owned (catalog_of c.args.task.now) (is_marked c.args.in_set.now) c.args.pack c.package.result.now at these a b c.requires.comes) (rw whole at c.loop-need.invariant)
+    let items = c.requires_-need-items.ensures in
+    let whole = take_all c.loop-need.need-index c.requires_-need-items.result.now (omega arith) ∙ items in
+    let at = package_is (catalog_of c.args.task.now) (is_marked c.args.in_set.now) c.args.pack c.package.result c.requires.a_package c.package.ensures in
+    joins_same (to_coming (catalog_of c.args.task.now) (is_marked c.args.in_set.now) c.args.pack) (owned_by (catalog_of c.args.task.now) (is_marked c.args.in_set.now)) c.package.result.requires_ (c.args.pack ∷ []) c.args.links.now.items c.loop-need.links.items
+    (λ these a b. coming_owned (catalog_of c.args.task.now) (is_marked c.args.in_set.now) c.args.pack c.package.result at these a b c.requires.comes) (rw whole at c.loop-need.invariant)

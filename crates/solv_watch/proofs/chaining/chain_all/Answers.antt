@@ -6,5 +6,5 @@ use Rattle.solv_watch.proofs.chaining.chain_all.Goals as goal
 pub returns-clause-chained : goal.returns-clause-chained
 returns-clause-chained c =
     let e : c.loop-rule.rule ≡ length c.args.rules.now.rules = omega (arith, c.len-count.ensures.count, c.loop-rule.auto.rule-end, c.loop-rule-test.false) in
-    let P : ℕ → Type 0 = λ r. AreChainedTo c.args.packages r c.args.rules.now.rules c.loop-rule.chains.heads.items c.loop-rule.rules.links c.loop-rule.chains.watched.items in
-    all_chained c.args.packages c.args.rules.now.rules c.loop-rule.chains.heads.items c.loop-rule.rules.links c.loop-rule.chains.watched.items (subst P e c.loop-rule.invariant.chained)
+    let P : ℕ → Type 0 = λ r. AreChainedTo c.args.packages r c.args.rules.now.rules c.loop-rule.chains.heads.items c.loop-rule.chains.links.items c.loop-rule.chains.watched.items in
+    all_chained c.args.packages c.args.rules.now.rules c.loop-rule.chains.heads.items c.loop-rule.chains.links.items c.loop-rule.chains.watched.items (subst P e c.loop-rule.invariant.chained)

@@ -4,7 +4,6 @@ use Rattle.solv_watch.proofs.chaining.hang_all.Given as goal
 
 abbrev pub invariant-loop-rule : goal.invariant-loop-rule
 invariant-loop-rule l = record {
-  rules : l.rules.rules ≡ l.fn.rules.rules;
-  room : 2 * length l.fn.rules.rules ≤ vec_capacity l.chains.watched;
-  chained : AreChainedTo l.packages l.rule l.fn.rules.rules l.chains.heads.items l.rules.links l.chains.watched.items;
+  room : 2 * length l.rules.rules ≤ vec_capacity l.chains.watched;
+  chained : AreChainedTo l.packages l.rule l.rules.rules l.chains.heads.items l.chains.links.items l.chains.watched.items;
 }

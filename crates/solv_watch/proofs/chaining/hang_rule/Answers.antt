@@ -42,4 +42,4 @@ add-requires-clause-second c =
 pub returns-clause-chained : goal.returns-clause-chained
 returns-clause-chained c =
     let d = (goal.at.returns-clause-chained c).After-index-clause-1 in
-    c.add.ensures.chained c.args.packages c.lits-clause.result.now c.requires.chained c.lits-clause.ensures.held (wide d) (two d)
+    c.add.ensures.chained c.args.packages c.args.rules.now.rules c.lits-clause.result.now c.requires.chained c.lits-clause.ensures.held (wide d) (two d)

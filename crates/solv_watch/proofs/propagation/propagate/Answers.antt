@@ -72,10 +72,10 @@ returns-clause-grown c = grown_then (c.args.book.now.rules ++ c.args.learnt.now.
 pub returns-clause-watched : goal.returns-clause-watched
 returns-clause-watched c =
     let n = (first (goal.at.returns-clause-watched c).After-begin).count in
-    let P : ℕ → List (List ℤ) → Type 0 = λ v rs. AreChained v rs c.follow.new.watches.book.heads.items c.follow.new.book.links c.follow.new.watches.book.watched.items in
-    let Q : ℕ → List (List ℤ) → Type 0 = λ v rs. AreChained v rs c.follow.new.watches.learnt.heads.items c.follow.new.learnt.links c.follow.new.watches.learnt.watched.items in
+    let P : ℕ → List (List ℤ) → Type 0 = λ v rs. AreChained v rs c.follow.new.watches.book.heads.items c.follow.new.watches.book.links.items c.follow.new.watches.book.watched.items in
+    let Q : ℕ → List (List ℤ) → Type 0 = λ v rs. AreChained v rs c.follow.new.watches.learnt.heads.items c.follow.new.watches.learnt.links.items c.follow.new.watches.learnt.watched.items in
     record {
-      book_chained = rw (c.follow.ensures.rules) (subst (λ v. P v c.args.book.now.rules) n c.follow.ensures.book);
-      learnt_chained = rw (c.follow.ensures.learnt_rules) (subst (λ v. Q v c.args.learnt.now.rules) n c.follow.ensures.learnt);
-      narrow = rw (c.follow.ensures.rules, c.follow.ensures.narrow) (c.requires.watched.narrow);
+      book_chained = (subst (λ v. P v c.args.book.now.rules) n c.follow.ensures.book);
+      learnt_chained = (subst (λ v. Q v c.args.learnt.now.rules) n c.follow.ensures.learnt);
+      narrow = rw (c.follow.ensures.narrow) (c.requires.watched.narrow);
     }

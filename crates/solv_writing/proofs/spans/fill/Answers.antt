@@ -1,4 +1,4 @@
-use Rattle.std.proofs.Common.{◌≡◌, ◌+◌, ◌-◌, ◌∙◌, slice_get, length, refl, ap, subst, arith}
+use Rattle.std.proofs.Common.{◌≡◌, ◌+◌, ◌-◌, ◌∙◌, slice_get, length, refl, ap, subst, arith, sym}
 use Rattle.solv_writing.specs.Inner.Spans.{AreSpans}
 use Rattle.solv_writing.proofs.spans.fill.Goals as goal
 
@@ -6,8 +6,8 @@ pub loop-place-preserved : goal.loop-place-preserved
 loop-place-preserved c = record {
   each = c.widen.ensures.each ∙ c.loop-place.invariant.each;
   spans =
-      c.widen.ensures.spans c.args.universe.now.packages c.package.result.now
-      (ap (λ k. slice_get c.args.universe.now.packages k) (let e : c.loop-place.place ≡ c.loop-place.place + 1 - 1 = omega arith in e) ∙ c.package.ensures) refl c.loop-place.invariant.spans;
+      c.widen.ensures.spans c.args.universe.now.packages c.package.result
+      (ap (λ k. slice_get c.args.universe.now.packages k) (let e : c.loop-place.place ≡ c.loop-place.place + 1 - 1 = omega arith in e) ∙ c.package.ensures) (sym c.repo.ensures) c.loop-place.invariant.spans;
 }
 
 pub returns-clause-spans : goal.returns-clause-spans

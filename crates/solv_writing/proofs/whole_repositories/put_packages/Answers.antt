@@ -11,7 +11,7 @@ loop-number-init c = ap (λ ps. c.args.into.now.items ++ ended_lines (inlined (t
 
 pub loop-number-preserved : goal.loop-number-preserved
 loop-number-preserved c =
-    block_turn c.args.pool.now c.args.repo c.args.universe.now.packages c.loop-number.number c.package_there.result.now c.loop-number.into.items c.put_if_own.new.into.items _
+    block_turn c.args.pool.now c.args.repo c.args.universe.now.packages c.loop-number.number c.package_there.result c.loop-number.into.items c.put_if_own.new.into.items _
     c.package_there.ensures.is c.in_ok-put_if_own.ensures c.loop-number.invariant
 
 pub returns : goal.returns

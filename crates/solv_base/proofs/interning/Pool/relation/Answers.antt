@@ -5,7 +5,7 @@ use Rattle.indexmap.proofs.CallerLemmas.{Contains-list_any}
 use Rattle.indexmap.specs.IndexSet.{insert_key}
 use Rattle.solv_base.specs.contracts.relation.DepNodePartialEq.TheImpl.{eq-value}
 use Rattle.solv_base.specs.Pool.{IsPool, most}
-use Rattle.solv_base.specs.Inner.Pool.{texts_of, uses_below}
+use Rattle.solv_base.specs.Inner.Pool.{uses_below}
 use Rattle.solv_base.proofs.Places.{if_ok, place_found, position_first}
 use Rattle.solv_base.proofs.Growth.{text_tree-is}
 use Rattle.solv_base.proofs.Trees.{tree-is}
@@ -49,25 +49,25 @@ pushed c =
     if_ok _ c.insert.result (sym c.is_err.ensures.value ∙ c.if-is_err.false) c.insert.ensures.keys in
     rw (keys, fresh c) refl
 
-uses : (c : Else-is_err) → uses_below (length (texts_of c.self.inside.texts.keys)) (length c.self.inside.relations.keys) c.args.node ≡ true
+uses : (c : Else-is_err) → uses_below (length c.self.inside.texts.keys) (length c.self.inside.relations.keys) c.args.node ≡ true
 uses c = rw (← c.self.view_is) at c.requires
 
 room : (c : Else-is_err) → length c.self.inside.relations.keys < most
 room c = let at = c.len-place.ensures.len in omega arith
 
 pub invariant_of-self-2 : goal.invariant_of-self-2
-invariant_of-self-2 c = rw (pushed c) (IsPool-node (texts_of c.self.inside.texts.keys) c.self.inside.relations.keys c.args.node c.self.invariant (uses c) (fresh c) (room c))
+invariant_of-self-2 c = rw (pushed c) (IsPool-node c.self.inside.texts.keys c.self.inside.relations.keys c.args.node c.self.invariant (uses c) (fresh c) (room c))
 
 pub returns-clause-id : goal.returns-clause-id
 returns-clause-id c = rw (pushed c, c.len-place.ensures.len) (at_end c.self.inside.relations.keys c.args.node)
 
 pub returns-clause-tree : goal.returns-clause-tree
 returns-clause-tree c =
-    rw (← c.self.view_is, pushed c, c.len-place.ensures.len) (tree_of_new (texts_of c.self.inside.texts.keys) c.self.inside.relations.keys c.args.node c.self.invariant (uses c))
+    rw (← c.self.view_is, pushed c, c.len-place.ensures.len) (tree_of_new c.self.inside.texts.keys c.self.inside.relations.keys c.args.node c.self.invariant (uses c))
 
 pub returns-clause-text_tree : goal.returns-clause-text_tree
 returns-clause-text_tree c =
-    rw (← c.self.view_is, pushed c, c.len-place.ensures.len) (text_tree_of_new (texts_of c.self.inside.texts.keys) c.self.inside.relations.keys c.args.node c.self.invariant (uses c))
+    rw (← c.self.view_is, pushed c, c.len-place.ensures.len) (text_tree_of_new c.self.inside.texts.keys c.self.inside.relations.keys c.args.node c.self.invariant (uses c))
 
 pub returns-clause-grows : goal.returns-clause-grows
-returns-clause-grows c = rw (← c.self.view_is, pushed c) (Grows-node (texts_of c.self.inside.texts.keys) c.self.inside.relations.keys c.args.node c.self.invariant (uses c))
+returns-clause-grows c = rw (← c.self.view_is, pushed c) (Grows-node c.self.inside.texts.keys c.self.inside.relations.keys c.args.node c.self.invariant (uses c))

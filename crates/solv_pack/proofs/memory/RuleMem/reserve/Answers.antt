@@ -10,15 +10,13 @@ invariant_of-self-2 c =
     let g = c.in_ok-make_room.ensures in
     let old = length-map c.self.inside.blocks.items (λ b. b.items) in
     let new = length-map c.make_room.new.blocks.items (λ b. b.items) in
-    rw (c.reserve.ensures.items, c.reserve-2.ensures.items) (record {
+    rw c.reserve.ensures.items (record {
       inside = (all_grown (words_of c.self.inside.blocks.items) (words_of c.make_room.new.blocks.items) c.self.inside.places.items g.grows h.inside).1;
       behind = h.behind;
       few = h.few;
       few_blocks = omega (arith, g.few (omega (arith, h.few_blocks, old)), new);
-      linked = h.linked;
       lits_fit = λ _. g.room;
       places_fit = λ _. omega (arith, c.in_ok-reserve.ensures.ok, c.reserve.ensures.len, c.self.inside.places.ok.0);
-      links_fit = λ _. omega (arith, c.in_ok-reserve-2.ensures.ok, c.reserve-2.ensures.len, c.self.inside.links.ok.0);
     })
 
 pub returns-clause-rules : goal.returns-clause-rules

@@ -1,4 +1,4 @@
-use Rattle.std.proofs.Common.{◌≡◌, ◌+◌, ap, ◌∙◌, false, Some, length, arith}
+use Rattle.std.proofs.Common.{◌≡◌, ◌+◌, ap, ◌∙◌, false, length, arith}
 use Rattle.std.specs.Prelude.{nat_le, option_to_list}
 use Rattle.std.proofs.lemmas.Bool.Decides.{nat_tests}
 use Rattle.solv_pool.specs.Contents.{most_packages}
@@ -19,5 +19,5 @@ returns-clause-ok c =
     (c.stays_over.ensures c.args.pool.now c.enter_package.new.pool c.args.universe.now grows c.requires.over)
     ids.ids c.args.name.now c.deref.result.now c.args.arch.now room ids.ensures.entered ids.ensures.within ids.ensures.texts
     (ap (λ (r : TagReader). r.repo) reader) (ap (λ (r : TagReader). r.before) reader) (ap (λ (r : TagReader). r.block) reader)
-    (ap (λ (r : TagReader). r.hand) reader ∙ ap Some c.package_with.ensures) put)
+    (ap (λ (r : TagReader). r.hand) reader) put)
     c.hold.ensures.reader c.hold.ensures.ok)

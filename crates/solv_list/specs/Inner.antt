@@ -1,0 +1,2 @@
+-- How values lie, which inner contracts alone name.
+pub mod Layout
