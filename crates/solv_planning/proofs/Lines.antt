@@ -1,9 +1,10 @@
 -- What rules add to the rows of jobs and of packages.
-use Rattle.std.proofs.Common.{◌≡◌, ℕ, suc, Bool, true, false, cond, List, [], ◌∷◌, ◌++◌, map, length, refl, sym, ap, ◌∙◌, arith, add-one, append_assoc, append-nil, eq-eqb}
+use Rattle.std.proofs.Common.{◌≡◌, ◌+◌, ◌<◌, ◌≤◌, not, ◌&&◌, ℕ, zero, suc, Bool, true, false, cond, List, [], ◌∷◌, ◌++◌, map, length, refl, sym, ap, ◌∙◌, arith, add-one, append_assoc, append-nil, eq-eqb}
 use Rattle.std.specs.Prelude.{filter, flat_map, ◌==◌, nat_le}
-use Rattle.std.specs.List.{list_all, enumerate_from}
+use Rattle.std.specs.List.{list_all, enumerate_from, range_with_len}
 use Rattle.solv_pool.specs.Words.{when}
-use Rattle.solv_pool.specs.Catalog.{packages, members}
+use Rattle.solv_pool.specs.Catalog.{packages, is_installed}
+use Rattle.solv_pool.specs.JobMarks.{is_to_move}
 use Rattle.solv_pool.specs.RuleMeaning.{HardRule, rule_with, install, best_job, best_update, update, dup, feature}
 use Rattle.solv_pool.specs.declared.hard_rules.Rule.{Rule}
 use Rattle.solv_pool.specs.declared.hard_rules.Rule.TheVariants as rule
@@ -67,6 +68,19 @@ module _ (r : Request) where
       ap (λ b. (b ++ (with_each (add_to_job r) n xs no_demands).own) ++ rest) (best_of_row n xs no_demands)
       ∙ ap (λ o. (flat_map (λ x. best_job_demand r n x.0 x.1) xs ++ o) ++ rest) (own_of_row n xs no_demands)
       ∙ ap (λ t. demands_of_job r xs n ++ t) (jobs_in_a_row xs (suc n) jobs ∙ ap (λ m. flat_map (λ job. demands_of_job r xs job.0) (enumerate_from m jobs)) (sym (add-one n)))
+
+-- numbers that pass a test are among the first ones, where none behind them does
+none_pass : (test : ℕ → Bool) (from count : ℕ) → ((p : ℕ) → from ≤ p → p < from + count → test p ≡ false) → filter test (range_with_len from count) ≡ []
+none_pass test from zero none = refl
+none_pass test from (suc count) none =
+    ap (λ b. cond b (from ∷ filter test (range_with_len (from + 1) count)) (filter test (range_with_len (from + 1) count))) (none from (omega arith) (omega arith))
+    ∙ none_pass test (from + 1) count (λ p low high. none p (omega (arith, low)) (omega (arith, high)))
+
+front_passes : (test : ℕ → Bool) (from few all : ℕ) → few ≤ all → ((p : ℕ) → from + few ≤ p → p < from + all → test p ≡ false) → filter test (range_with_len from few) ≡ filter test (range_with_len from all)
+front_passes test from zero all h none = sym (none_pass test from all (λ p low high. none p (omega (arith, low)) high))
+front_passes test from (suc few) zero h none = absurd (omega (arith, h))
+front_passes test from (suc few) (suc all) h none =
+    ap (λ l. cond (test from) (from ∷ l) l) (front_passes test (from + 1) few all (omega (arith, h)) (λ p low high. none p (omega (arith, low)) (omega (arith, high))))
 
 -- packages
 abbrev rules_on : ℕ → List Demand → List ℕ → List ℕ → PackRules
@@ -167,17 +181,23 @@ module _ (r : Request) where
       step true h = ap (λ k. k ∷ map (keep_with r) (filter (λ row. test row.pack) (map (λ p. with_each (add_to_pack r) p xs (no_rules p)) ps))) (row_keeps p xs) ∙ ap (λ t. keep_of r xs p ∷ t) h
       step false h = h
 
-  -- the table of the system and the packages, with what all rules add
-  abbrev pub pack_rows : List (ℕ × HardRule) → List PackRules
-  pack_rows xs = map (λ p. with_each (add_to_pack r) p xs (no_rules p)) (members r.catalog)
+  -- the table of the system and the packages up to one, with what all rules add
+  abbrev pub pack_rows : ℕ → List (ℕ × HardRule) → List PackRules
+  pack_rows last xs = map (λ p. with_each (add_to_pack r) p xs (no_rules p)) (range_with_len 0 (last + 1))
 
-  pub table_made : (xs : List (ℕ × HardRule)) → filled (add_to_pack r) 0 xs (map no_rules (members r.catalog)) ≡ pack_rows xs
-  table_made xs = filled_made (add_to_pack r) no_rules xs 0 (suc (length r.catalog.universe.packages))
+  pub table_made : (last : ℕ) (xs : List (ℕ × HardRule)) → filled (add_to_pack r) 0 xs (map no_rules (range_with_len 0 (last + 1))) ≡ pack_rows last xs
+  table_made last xs = filled_made (add_to_pack r) no_rules xs 0 (last + 1)
 
-  pub table_keeps : (xs : List (ℕ × HardRule)) → map (keep_with r) (filter (λ row. is_marked r row.pack) (pack_rows xs)) ++ map (keep_with r) (filter (λ row. is_other r row.pack) (pack_rows xs)) ≡ keeps_of r xs
-  table_keeps xs =
-      ap (λ t. t ++ map (keep_with r) (filter (λ row. is_other r row.pack) (pack_rows xs))) (rows_keep (is_marked r) xs (members r.catalog))
-      ∙ ap (λ t. map (keep_of r xs) (filter (is_marked r) (packages r.catalog)) ++ t) (rows_keep (is_other r) xs (members r.catalog))
+  -- where none is installed behind that one, it tells of all that are
+  module _ (last : ℕ) (within : last ≤ length r.catalog.universe.packages) (none : (p : ℕ) → last < p → p ≤ length r.catalog.universe.packages → is_installed r.catalog p ≡ false) where
+    behind : (also : ℕ → Bool) → filter (λ p. is_installed r.catalog p && also p) (range_with_len 0 (last + 1)) ≡ filter (λ p. is_installed r.catalog p && also p) (packages r.catalog)
+    behind also = front_passes (λ p. is_installed r.catalog p && also p) 0 (last + 1) (suc (length r.catalog.universe.packages)) (omega (arith, within))
+        (λ p from upto. ap (λ b. b && also p) (none p (omega (arith, from)) (omega (arith, upto))))
+
+    pub table_keeps : (xs : List (ℕ × HardRule)) → map (keep_with r) (filter (λ row. is_marked r row.pack) (pack_rows last xs)) ++ map (keep_with r) (filter (λ row. is_other r row.pack) (pack_rows last xs)) ≡ keeps_of r xs
+    table_keeps xs =
+        ap (λ t. t ++ map (keep_with r) (filter (λ row. is_other r row.pack) (pack_rows last xs))) (rows_keep (is_marked r) xs (range_with_len 0 (last + 1)) ∙ ap (map (keep_of r xs)) (behind (is_to_move r.marks)))
+        ∙ ap (λ t. map (keep_of r xs) (filter (is_marked r) (packages r.catalog)) ++ t) (rows_keep (is_other r) xs (range_with_len 0 (last + 1)) ∙ ap (map (keep_of r xs)) (behind (λ p. not (is_to_move r.marks p))))
 
 -- a rule that asks nothing of a job adds to no row
 pub none_of_jobs : (r : Request) (i : ℕ) (sets : List (List ℕ)) (x : Rule) → ((j s : ℕ) → x ≡ rule.BestJob j s → ⊥) → ((j s : ℕ) → x ≡ rule.Install j s → ⊥) → (rows : List JobDemands) → rows ≡ entered (add_to_job r) 0 (i, rule_with sets x) rows
@@ -194,8 +214,8 @@ none_on_packs r i sets (rule.BestUpdate j p s) updates dups features best rows =
 none_on_packs r i sets x updates dups features best rows = sym (entered_apart _ _ 0 rows (λ m row from upto. none_on_pack r i m (rule_with sets x) row refl refl refl))
 
 -- every row is that of the system or of a package
-pub rows_within : (r : Request) (xs : List (ℕ × HardRule)) → list_all (λ row. nat_le row.pack (length r.catalog.universe.packages)) (pack_rows r xs) ≡ true
-rows_within r xs = within (members r.catalog) (range_within 0 (suc (length r.catalog.universe.packages)) (length r.catalog.universe.packages) (omega arith))
+pub rows_within : (r : Request) (last : ℕ) (xs : List (ℕ × HardRule)) → last ≤ length r.catalog.universe.packages → list_all (λ row. nat_le row.pack (length r.catalog.universe.packages)) (pack_rows r last xs) ≡ true
+rows_within r last xs few = within (range_with_len 0 (last + 1)) (range_within 0 (last + 1) (length r.catalog.universe.packages) (omega (arith, few)))
   where
     within : (ps : List ℕ) → list_all (λ p. nat_le p (length r.catalog.universe.packages)) ps ≡ true
         → list_all (λ row. nat_le row.pack (length r.catalog.universe.packages)) (map (λ p. with_each (add_to_pack r) p xs (no_rules p)) ps) ≡ true

@@ -1,9 +1,9 @@
 //! What is asked of installed packages.
-ghost use Rattle.std.specs.Prelude.{ℕ, List, ◌≡◌, ◌∷◌, [], ◌++◌, true, length, map, filter, not, nat_le, ◌≤◌, IfOk, OnOk};
+ghost use Rattle.std.specs.Prelude.{ℕ, List, ◌≡◌, ◌∷◌, [], ◌++◌, ◌+◌, ◌<◌, true, false, length, map, filter, not, nat_le, ◌≤◌, IfOk, OnOk};
 ghost use Rattle.std.specs.BTreeSet.{contains};
-ghost use Rattle.std.specs.List.{list_all};
+ghost use Rattle.std.specs.List.{list_all, range_with_len};
 ghost use Rattle.std.specs.Ordering.{nat_cmp};
-ghost use Rattle.solv_pool.specs.Catalog.{catalog_of, members};
+ghost use Rattle.solv_pool.specs.Catalog.{catalog_of, is_installed};
 ghost use Rattle.solv_pool.specs.HardRules.{successors};
 ghost use Rattle.solv_pool.specs.JobMarks.{is_to_move};
 ghost use Rattle.solv_pool.specs.RuleMeaning.{rule_with, update, dup, feature, best_update};
@@ -146,13 +146,25 @@ fn no_rules(alloc: Global, pack: PackNo) -> PackRules
     }
 }
 
-/// A row for the system and for each package.
-fn pack_table(alloc: Global, task: &Task) -> Result<Vec<PackRules>, AllocError>
-    ensures { IfOk result (λ table. table.items ≡ map no_rules (members (catalog_of task.now))) }
+/// The number of the last installed package; 0, where none is.
+fn last_installed(task: &Task) -> u32
+    ensures within { result ≤ length task.now.universe.packages }
+    ensures last { (p : ℕ) → result < p → p ≤ length task.now.universe.packages → is_installed (catalog_of task.now) p ≡ false }
+{
+    let mut last = task.universe.count();
+    while last > 0 && !task.universe.installed(PackNo(last)) {
+        last -= 1;
+    }
+    last
+}
+
+/// A row for the system and for each package up to one.
+fn pack_table(alloc: Global, last: u32) -> Result<Vec<PackRules>, AllocError>
+    ensures { IfOk result (λ table. table.items ≡ map no_rules (range_with_len 0 (last + 1))) }
 {
     let mut table = Vec::new(alloc);
     table.push(no_rules(alloc, PackNo(0)))?;
-    for before in 0..task.universe.count() {
+    for before in 0..last {
         table.push(no_rules(alloc, PackNo(before + 1)))?;
     }
     Ok(table)
@@ -178,19 +190,20 @@ fn enter_all(
     Ok(())
 }
 
-/// The table of packages with all rules.
+/// The table of packages up to one with all rules.
 fn filled_table(
     alloc: Global,
     task: &Task,
     prov: &Providers,
     marks: &Marks,
     rules: &Rules,
+    last: u32,
 ) -> Result<Vec<PackRules>, AllocError>
     requires ready { IsReady task.now prov.now marks.now }
     requires packages { list_all (asks_for_packages (length task.now.universe.packages)) (read_rules rules.now) ≡ true }
-    ensures { IfOk result (λ table. table.items ≡ filled (add_to_pack (request_of task.now marks.now)) 0 (numbered (read_rules rules.now)) (map no_rules (members (catalog_of task.now)))) }
+    ensures { IfOk result (λ table. table.items ≡ filled (add_to_pack (request_of task.now marks.now)) 0 (numbered (read_rules rules.now)) (map no_rules (range_with_len 0 (last + 1)))) }
 {
-    let mut table = pack_table(alloc, task)?;
+    let mut table = pack_table(alloc, last)?;
     enter_all(alloc, task, prov, marks, rules, &mut table)?;
     Ok(table)
 }
@@ -223,6 +236,33 @@ fn outside(
     Ok(made)
 }
 
+/// So many packages are looked through for each one, and more are put into a set.
+const FEW: usize = 8;
+
+/// Whether a package is one of these.
+fn is_one_of(packs: &[PackNo], pack: PackNo) -> bool
+    ensures { result ≡ is_among packs.now pack }
+{
+    packs.iter().any(|one| *one == pack)
+}
+
+/// Those of these packages that are not among a few others.
+fn without_few(
+    alloc: Global,
+    others: &[PackNo],
+    packs: &[PackNo],
+) -> Result<Vec<PackNo>, AllocError>
+    ensures { IfOk result (λ made. made.items ≡ without_those others.now packs.now) }
+{
+    let mut made = Vec::new(alloc);
+    for pack in packs {
+        if !is_one_of(others, *pack) {
+            made.push(*pack)?;
+        }
+    }
+    Ok(made)
+}
+
 /// Those of these packages that are not among the others.
 fn without_those(
     alloc: Global,
@@ -231,6 +271,9 @@ fn without_those(
 ) -> Result<Vec<PackNo>, AllocError>
     ensures { IfOk result (λ made. made.items ≡ without_those others.now packs.now) }
 {
+    if others.len() <= FEW {
+        return without_few(alloc, others, packs);
+    }
     let numbers = numbers_of(alloc, others)?;
     let made = outside(alloc, &numbers, packs)?;
     Ok(made)
@@ -393,6 +436,6 @@ pub(crate) fn keeps(
     requires packages { list_all (asks_for_packages (length task.now.universe.packages)) (read_rules rules.now) ≡ true }
     ensures { IfOk result (λ made. made ≡ keeps_of (request_of task.now marks.now) (numbered (read_rules rules.now))) }
 {
-    let table = filled_table(alloc, task, prov, marks, rules)?;
+    let table = filled_table(alloc, task, prov, marks, rules, last_installed(task))?;
     keeps_of(alloc, task, prov, marks, table)
 }

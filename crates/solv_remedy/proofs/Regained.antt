@@ -1,5 +1,5 @@
 -- What is kept dropped without a run, beside what is kept by runs.
-use Rattle.std.proofs.Common.{◌≡◌, ℕ, Bool, true, false, not, ◌&&◌, ◌||◌, List, [], ◌++◌, refl, sym, subst, arith, ap, ◌∙◌, length}
+use Rattle.std.proofs.Common.{◌≡◌, ◌≤◌, ℕ, Bool, true, false, not, ◌&&◌, ◌||◌, List, [], ◌++◌, refl, sym, subst, arith, ap, ◌∙◌, length, ◌∷◌, cond, inl, inr}
 use Rattle.std.specs.Prelude.{◌==◌, filter}
 use Rattle.std.proofs.lemmas.List.Folds.{list_any-append}
 use Rattle.solv_pool.specs.Words.{is_among}
@@ -12,19 +12,21 @@ use Rattle.solv_remedy.specs.declared.giving_back.GivenBack.{GivenBack}
 use Rattle.solv_remedy.specs.declared.regaining.LookedBack.{LookedBack}
 use Rattle.solv_pool.proofs.Among.{among_filter}
 use Rattle.solv_list.proofs.Booleans.{and_true}
-use Rattle.solv_list.proofs.Lists.{empty_list}
-use Rattle.std.proofs.lemmas.Bool.{false≢true}
+use Rattle.std.proofs.lemmas.Bool.{eqb-true, false≢true, or_cases}
 use Rattle.solv_remedy.proofs.Back.{kept_wider}
 use Rattle.solv_remedy.proofs.Dropped.{no_longer}
 use Rattle.solv_remedy.proofs.Leaving.{kept_both, rules_both}
 
 module _ (r : Request) (own : List ℕ) (off : ℕ) (core : CoreOf) (left dropped : List ℕ) where
+  pub few_others : (p : ℕ → Bool) (others : List ℕ) → others ≡ filter p dropped → length others ≤ length dropped
+  few_others p others e = let n = no_longer p dropped in let s = ap length e in omega (arith, n, s)
+
   -- those that the look found and the others are all that was dropped
-  pub looked_back : (refuted : List RefutedRule) (others : List ℕ) → others ≡ filter (λ k. not (is_among (kept_rules refuted) k)) dropped → AreKept r own off core left refuted
+  looked_back : (refuted : List RefutedRule) (others : List ℕ) → others ≡ filter (λ k. not (is_among (kept_rules refuted) k)) dropped → AreKept r own off core left refuted
       → ((k : ℕ) → is_among (kept_rules refuted) k ≡ true → is_among dropped k ≡ true) → IsLookedBack r own off core left dropped (record { refuted = refuted; others = others })
   looked_back refuted others e kept among = record {
     refuted = kept;
-    few = let n = no_longer (λ k. not (is_among (kept_rules refuted) k)) dropped in let s = ap length e in omega (arith, n, s);
+    few = few_others (λ k. not (is_among (kept_rules refuted) k)) others e;
     all = λ k. by (is_among dropped k) (is_among (kept_rules refuted) k) (among k) ∙ ap (λ b. is_among (kept_rules refuted) k || b) (sym (ap (λ l. is_among l k) e ∙ among_filter (λ j. not (is_among (kept_rules refuted) j)) dropped k));
   }
     where
@@ -32,12 +34,33 @@ module _ (r : Request) (own : List ℕ) (off : ℕ) (core : CoreOf) (left droppe
       by d true h = h refl
       by d false h = sym (and_true d)
 
-  -- where nothing was dropped, there are none
-  pub none_dropped : (refuted : List RefutedRule) (others : List ℕ) → refuted ≡ [] → others ≡ [] → length dropped ≡ 0 → IsLookedBack r own off core left dropped (record { refuted = refuted; others = others })
-  none_dropped refuted others no_refuted no_others none =
+  kept_some : (p : RefutedRule → Bool) (found : List RefutedRule) → AreKept r own off core left found → AreKept r own off core left (filter p found)
+  kept_some p [] h = tt
+  kept_some p (one ∷ found) h = by (p one) (kept_some p found h.1)
+    where
+      by : (b : Bool) → AreKept r own off core left (filter p found) → AreKept r own off core left (cond b (one ∷ filter p found) (filter p found))
+      by true rest = (h.0, rest)
+      by false rest = rest
+
+  some_dropped : (found : List RefutedRule) (k : ℕ) → is_among (kept_rules (filter (λ (one : RefutedRule). is_among dropped one.rule) found)) k ≡ true → is_among dropped k ≡ true
+  some_dropped [] k h = absurd (false≢true h)
+  some_dropped (one ∷ found) k h = by (is_among dropped one.rule) refl (some_dropped found k) h
+    where
+      by : (b : Bool) → is_among dropped one.rule ≡ b → (is_among (kept_rules (filter (λ (o : RefutedRule). is_among dropped o.rule) found)) k ≡ true → is_among dropped k ≡ true)
+          → is_among (kept_rules (cond b (one ∷ filter (λ (o : RefutedRule). is_among dropped o.rule) found) (filter (λ (o : RefutedRule). is_among dropped o.rule) found))) k ≡ true → is_among dropped k ≡ true
+      by false e rest g = rest g
+      by true e rest g = elim (or_cases (one.rule == k) (is_among (kept_rules (filter (λ (o : RefutedRule). is_among dropped o.rule) found)) k) g) [
+        | inl same ↦ ap (is_among dropped) (sym (eqb-true one.rule k same)) ∙ e
+        | inr m ↦ rest m
+      ]
+
+  -- those of some refuted rules that were dropped, and the others that were
+  pub looked_among : (found refuted : List RefutedRule) (others : List ℕ) → refuted ≡ filter (λ (one : RefutedRule). is_among dropped one.rule) found
+      → others ≡ filter (λ k. not (is_among (kept_rules refuted) k)) dropped → AreKept r own off core left found → IsLookedBack r own off core left dropped (record { refuted = refuted; others = others })
+  looked_among found refuted others some e kept =
       let P : List RefutedRule → Type 0 = λ l. AreKept r own off core left l in
-      looked_back refuted others (no_others ∙ sym (ap (filter (λ k. not (is_among (kept_rules refuted) k))) (empty_list dropped none))) (subst P (sym no_refuted) tt)
-      (λ k h. absurd (false≢true (sym (ap (λ l. is_among (kept_rules l) k) no_refuted) ∙ h)))
+      looked_back refuted others e (subst P (sym some) (kept_some (λ (one : RefutedRule). is_among dropped one.rule) found kept))
+      (λ k h. some_dropped found k (ap (λ l. is_among (kept_rules l) k) (sym some) ∙ h))
 
   -- what was given back of the others, with those that the look found
   pub given_with : (b : LookedBack) (g all : GivenBack) → IsLookedBack r own off core left dropped b → IsGivenBack r own off core left b.others g → all.left ≡ g.left → all.kept ≡ g.kept ++ b.refuted → all.trail ≡ g.trail

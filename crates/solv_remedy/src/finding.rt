@@ -73,7 +73,7 @@ fn ways_out(
     requires held { IsHeldBy core.old ledger.old }
     ensures core { core.new.made ≡ core.old.made }
     ensures held { IsHeldBy core.new ledger.new }
-    ensures runs { HasRuns phases.now core.old.made fixed.now (length rules.now * ((length unlisted.now + 1) + length unlisted.now)) ledger.old ledger.new }
+    ensures runs { HasRuns phases.now core.old.made fixed.now (length rules.now * (((length unlisted.now + length unlisted.now) + 1) + length unlisted.now)) ledger.old ledger.new }
     ensures spent { IfOk result (λ o. is_none o ≡ is_spent ledger.new) }
     ensures ways_out { (r : Request) (listed : List ℕ) → IsSetUp r phases.now core.old.made book.now fixed.now → IsConflictAmong r core.old.made conflict.now.rules conflict.now.log listed unlisted.now → IfOk result (λ o. IfSome o (λ s. AllZip (IsWayOut r core.old.made conflict.now.rules listed) rules.now s.items)) }
 {
@@ -129,7 +129,7 @@ fn each_way_out(
     requires held { IsHeldBy core.old ledger.old }
     ensures core { core.new.made ≡ core.old.made }
     ensures held { IsHeldBy core.new ledger.new }
-    ensures runs { HasRuns phases.now core.old.made fixed.now (length conflict.now.rules * ((length unlisted.now + 1) + length unlisted.now)) ledger.old ledger.new }
+    ensures runs { HasRuns phases.now core.old.made fixed.now (length conflict.now.rules * (((length unlisted.now + length unlisted.now) + 1) + length unlisted.now)) ledger.old ledger.new }
     ensures spent { IfOk result (λ o. is_none o ≡ is_spent ledger.new) }
     ensures ways_out { (r : Request) (listed : List ℕ) → IsSetUp r phases.now core.old.made book.now fixed.now → IsConflictAmong r core.old.made conflict.now.rules conflict.now.log listed unlisted.now → IsFoundOn r (λ k. not (is_among listed k)) trail.now → IfOk result (λ o. IfSome o (λ s. AllZip (IsWayOut r core.old.made conflict.now.rules listed) conflict.now.rules s.items)) }
 {
@@ -165,7 +165,7 @@ fn problem_with(
     requires held { IsHeldBy core.old ledger.old }
     ensures core { core.new.made ≡ core.old.made }
     ensures held { IsHeldBy core.new ledger.new }
-    ensures runs { HasRuns phases.now core.old.made fixed.now (length conflict.now.rules * ((length unlisted.now + 1) + length unlisted.now)) ledger.old ledger.new }
+    ensures runs { HasRuns phases.now core.old.made fixed.now (length conflict.now.rules * (((length unlisted.now + length unlisted.now) + 1) + length unlisted.now)) ledger.old ledger.new }
     ensures spent { IfOk result (λ o. is_none o ≡ is_spent ledger.new) }
     ensures problem { (r : Request) (listed : List ℕ) → IsSetUp r phases.now core.old.made book.now fixed.now → IsConflictAmong r core.old.made conflict.now.rules conflict.now.log listed unlisted.now → IsFoundOn r (λ k. not (is_among listed k)) trail.now → IfOk result (λ o. IfSome o (IsProblemOf r core.old.made listed conflict.now)) }
 {
@@ -203,7 +203,7 @@ fn problems_with(
     requires held { IsHeldBy core.old ledger.old }
     ensures core { core.new.made ≡ core.old.made }
     ensures held { IsHeldBy core.new ledger.new }
-    ensures runs { HasRuns phases.now core.old.made fixed.now (length (listed_of conflicts.now) * ((length unlisted.now + 1) + length unlisted.now)) ledger.old ledger.new }
+    ensures runs { HasRuns phases.now core.old.made fixed.now (length (listed_of conflicts.now) * (((length unlisted.now + length unlisted.now) + 1) + length unlisted.now)) ledger.old ledger.new }
     ensures spent { IfOk result (λ o. is_none o ≡ is_spent ledger.new) }
     ensures problems { (r : Request) → IsSetUp r phases.now core.old.made book.now fixed.now → AreSettled r core.old.made conflicts.now → IsFoundOn r (λ k. not (is_among (listed_of conflicts.now) k)) trail.now → IfOk result (λ o. IfSome o (λ found. AllZip (IsProblemOf r core.old.made (listed_of conflicts.now)) conflicts.now found.items)) }
 {
@@ -239,7 +239,7 @@ fn remedies_of(
     requires held { IsHeldBy core.old ledger.old }
     ensures core { core.new.made ≡ core.old.made }
     ensures held { IsHeldBy core.new ledger.new }
-    ensures runs { HasRuns phases.now core.old.made fixed.now (droppable_count fixed.now * ((droppable_count fixed.now + 1) + droppable_count fixed.now)) ledger.old ledger.new }
+    ensures runs { HasRuns phases.now core.old.made fixed.now (droppable_count fixed.now * (((droppable_count fixed.now + droppable_count fixed.now) + 1) + droppable_count fixed.now)) ledger.old ledger.new }
     ensures spent { IfOk result (λ m. is_spent_remedies m ≡ is_spent ledger.new) }
     ensures listed { (r : Request) → IsSetUp r phases.now core.old.made book.now fixed.now → AreAll r core.old.made found.now → IfOk result (IsRemedies r core.old.made) }
 {

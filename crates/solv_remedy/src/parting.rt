@@ -8,7 +8,10 @@ use crate::smallest::switch_on;
 use solv_core::RefutedRule;
 use std::alloc::{AllocError, Global};
 
-/// The rules that the last way out dropped by runs, of those that dropped any. Ways out mostly drop the same ones. Any list of rules will do:
+/// So many rules are guessed at most. A longer list is told by one run ahead, and would cost as many runs where it is wrong.
+const MOST: usize = 32;
+
+/// The rules that the last way out dropped by runs, of those that dropped a few. Ways out mostly drop the same ones. Any list of rules will do:
 /// what was dropped needlessly comes back, at a run for each.
 pub struct Guess {
     rules: Vec<usize>,
@@ -41,7 +44,7 @@ impl Guess {
         guessed_among(&self.table, rules)
     }
 
-    /// Guesses what a way out kept dropped by runs, where there is any. So many of the guess were tried for it: where less than half of them stayed dropped,
+    /// Guesses what a way out kept dropped by runs, where they are a few. So many of the guess were tried for it: where less than half of them stayed dropped,
     /// nothing is guessed.
     pub fn learn(
         &mut self,
@@ -53,7 +56,7 @@ impl Guess {
         let stayed = self.count_in(&numbers);
         if tried.saturating_sub(stayed) > stayed {
             self.replace(Vec::new(alloc));
-        } else if !numbers.is_empty() {
+        } else if !numbers.is_empty() && numbers.len() <= MOST {
             self.replace(numbers);
         }
         Ok(())

@@ -1,6 +1,7 @@
 //! Refuted rules, one behind another.
 ghost use Rattle.std.specs.Prelude.{◌≡◌, ◌<◌, ◌++◌, ℕ, not, length, filter, IfOk};
 ghost use Rattle.solv_remedy.specs.Inner.GivingBack.{kept_rules};
+ghost use Rattle.solv_core.specs.declared.refuting.RefutedRule.{RefutedRule as Refuted};
 ghost use Rattle.solv_pool.specs.Words.{is_among};
 ghost use Rattle.solv_trail.specs.Asked.{is_enabled};
 
@@ -77,4 +78,37 @@ pub fn without_refuted(
     switch_on(table.as_mut_slice(), &numbers);
     let left = rules_without(alloc, rules, &table, &numbers)?;
     Ok(left)
+}
+
+/// Those of refuted rules that are among these, of which the table has all that it has room for.
+fn refuted_in(
+    alloc: Global,
+    refuted: Vec<RefutedRule>,
+    table: &[bool],
+    these: &[usize],
+) -> Result<Vec<RefutedRule>, AllocError>
+    requires { (k : ℕ) → k < length table.now → is_enabled table.now k ≡ is_among these.now k }
+    ensures { IfOk result (λ some. some.items ≡ filter (λ (one : Refuted). is_among these.now one.rule) refuted.items) }
+{
+    let mut some = Vec::new(alloc);
+    for one in refuted {
+        if is_one_of(table, these, one.rule) {
+            some.push(one)?;
+        }
+    }
+    Ok(some)
+}
+
+/// Those of refuted rules that are among these of so many.
+pub fn refuted_among(
+    alloc: Global,
+    count: usize,
+    refuted: Vec<RefutedRule>,
+    these: &[usize],
+) -> Result<Vec<RefutedRule>, AllocError>
+    ensures { IfOk result (λ some. some.items ≡ filter (λ (one : Refuted). is_among these.now one.rule) refuted.items) }
+{
+    let mut table = vec![in alloc; false; count]?;
+    switch_on(table.as_mut_slice(), these);
+    refuted_in(alloc, refuted, &table, these)
 }

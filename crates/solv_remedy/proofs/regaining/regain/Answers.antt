@@ -1,6 +1,5 @@
 use Rattle.std.proofs.Common.{◌≡◌, ℕ, List, Option, subst, rules}
 use Rattle.std.specs.Option.{IfSome}
-use Rattle.solv_core.specs.Cores.{CoreOf}
 use Rattle.solv_remedy.specs.Inner.Dropping.{IsFoundOver}
 use Rattle.solv_remedy.specs.Inner.GivingBack.{IsGivenBack, IsLookedBack}
 use Rattle.solv_remedy.specs.Inner.Trying.{IsSetUp}
@@ -10,7 +9,7 @@ use Rattle.solv_remedy.proofs.Regained.{given_with}
 use Rattle.solv_remedy.proofs.regaining.regain.Goals as goal
 
 pub returns-in-Some-clause-given : goal.returns-in-Some-clause-given
-returns-in-Some-clause-given c = λ r up found.
+returns-in-Some-clause-given c = λ r up found refuted.
     let own = c.args.own.now in
     let off = c.args.off in
     let core = c.args.core.now.made in
@@ -18,15 +17,13 @@ returns-in-Some-clause-given c = λ r up found.
     let dropped = c.args.remaining.dropped in
     let back : LookedBack = c.in_ok-refuted.field-0 in
     let given : GivenBack = c.in-Some.given in
-    let before : c.held.result.now ≡ left = search rules in
-    let all : c.held-2.result.now ≡ dropped = search rules in
+    let all : c.held.result.now ≡ dropped = search rules in
     let first : c.into_vec-left.result.items ≡ left = search rules in
-    let others : c.held-3.result.now ≡ back.others = search rules in
-    let L : List ℕ → List ℕ → Type 0 = λ l d. IsLookedBack r own off core l d back in
-    let looked : L left dropped = subst (λ d. L left d) all (subst (λ l. L l c.held-2.result.now) before (c.in_ok-refuted.ensures.looked r up)) in
-    let G : CoreOf → List ℕ → List ℕ → Type 0 = λ v l o. IsSetUp r c.args.phases.now v c.args.book.now c.args.fixed.now → IsFoundOver r own off l c.args.remaining.trail → IfSome c.in_ok-given.field-0 (IsGivenBack r own off v l o) in
-    let said : G core left back.others =
-    subst (λ o. G core left o) others (subst (λ l. G core l c.held-3.result.now) first (subst (λ v. G v c.into_vec-left.result.items c.held-3.result.now) c.look_back.ensures.core (c.in_ok-given.ensures.given r))) in
+    let others : c.held-2.result.now ≡ back.others = search rules in
+    let L : List ℕ → Type 0 = λ d. IsLookedBack r own off core left d back in
+    let looked : L dropped = subst L all (c.in_ok-refuted.ensures.looked r own off core left refuted) in
+    let G : List ℕ → List ℕ → Type 0 = λ l o. IsSetUp r c.args.phases.now core c.args.book.now c.args.fixed.now → IsFoundOver r own off l c.args.remaining.trail → IfSome c.in_ok-given.field-0 (IsGivenBack r own off core l o) in
+    let said : G left back.others = subst (λ o. G left o) others (subst (λ l. G l c.held-2.result.now) first (c.in_ok-given.ensures.given r)) in
     let S : Option GivenBack → Type 0 = λ o. IfSome o (IsGivenBack r own off core left back.others) in
     given_with r own off core left dropped back given c.in_ok-with_refuted-in-Some.field-0 looked (subst S c.in-Some.is (said up found)) c.in_ok-with_refuted-in-Some.ensures.left
     c.in_ok-with_refuted-in-Some.ensures.kept c.in_ok-with_refuted-in-Some.ensures.trail

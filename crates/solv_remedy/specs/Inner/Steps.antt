@@ -1,0 +1,31 @@
+-- Rules that are dropped until a set is found.
+use Rattle.std.specs.Prelude.{◌≡◌, ◌≤◌, ℕ, Bool, true, false, not, List, length, filter}
+use Rattle.solv_pool.specs.Words.{is_among}
+use Rattle.solv_core.specs.Cores.{CoreOf}
+use Rattle.solv_questions.specs.Questions.{Request}
+use Rattle.solv_remedy.specs.Inner.Dropping.{IsFoundOver}
+use Rattle.solv_remedy.specs.Inner.GivingBack.{AreKept}
+use Rattle.solv_remedy.specs.declared.dropping.Dropping.{Dropping}
+use Rattle.solv_remedy.specs.declared.dropping.Remaining.{Remaining}
+use Rattle.solv_remedy.specs.declared.dropping.Dropping.TheVariants as dropping
+
+-- nothing came of the run
+abbrev pub is_spent_step : Dropping → Bool
+is_spent_step (dropping.Found trail refuted) = false
+is_spent_step (dropping.Dropped k) = false
+is_spent_step dropping.Spent = true
+
+module _ (r : Request) (own : List ℕ) (off : ℕ) (core : CoreOf) where
+  -- a good trail, and rules that what is left refutes; or one of those that are left
+  abbrev pub IsStep : List ℕ → Dropping → Type 0
+  IsStep left (dropping.Found trail refuted) = IsFoundOver r own off left trail × AreKept r own off core left refuted
+  IsStep left (dropping.Dropped k) = is_among left k ≡ true
+  IsStep left dropping.Spent = Unit {0}
+
+  -- what is left of some rules are those that were not dropped, there is a good trail over them, and they refute what is named
+  pub record IsRemaining (all : List ℕ) (m : Remaining) : Type 0 where
+    pub left : m.left ≡ filter (λ k. not (is_among m.dropped k)) all
+    pub few : length m.dropped ≤ length all
+    pub dropped : (k : ℕ) → is_among m.dropped k ≡ true → is_among all k ≡ true
+    pub found : IsFoundOver r own off m.left m.trail
+    pub refuted : AreKept r own off core m.left m.refuted
