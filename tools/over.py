@@ -4,6 +4,7 @@
     tools/over.py check CRATE CLONE [rattle's flags]     as `rt check` in the crate's folder, in seconds after the first time
     tools/over.py library CRATE CLONE [rattle's flags]   builds its library in the place of CLONE's, from what a check kept where there is such
     tools/over.py program CRATE CLONE FILE               builds the program as LLVM makes it
+    tools/over.py archive CRATE CLONE FILE [rattle's flags]   builds the static library, as LLVM makes it or, by `--backend rattle`, Rattle's own compiler
 
 CLONE is another clone of this repository in which `rt ci` ran: it leaves the library of each crate that it proved in
 crates/NAME/out/rlib. A crate is taken from the repository in the current folder, so that one proof can be worked on while the
@@ -81,7 +82,7 @@ def call(folder, said):
 
 
 def main():
-    if len(sys.argv) < 4 or sys.argv[1] not in ("check", "library", "program"):
+    if len(sys.argv) < 4 or sys.argv[1] not in ("check", "library", "program", "archive"):
         sys.exit(__doc__)
     kind, crate, clone, rest = sys.argv[1], sys.argv[2], os.path.realpath(sys.argv[3]), sys.argv[4:]
     folder, said = words("check" if kind == "check" else "build", crate, clone)
@@ -95,6 +96,11 @@ def main():
         how = ["--incremental", "out/over"] if (folder / "out/over").exists() else ["--statements"]
         sys.exit(call(folder, [*said, *how, "-o", place / f"{crate}.rlib", *rest]))
     out = os.path.realpath(rest[0])
+    if kind == "archive":
+        (folder / "out/over").mkdir(parents=True, exist_ok=True)
+        how = ["--incremental", "out/over", "--crate-type", "staticlib", "--toolchain", f"{KIT}/toolchain"]
+        backend = [] if "--backend" in rest else ["--backend", "llvm"]
+        sys.exit(call(folder, [*said, *how, *backend, "-o", out, *rest[1:]]))
     status = call(folder, [*said, "--toolchain", f"{KIT}/toolchain", "--backend", "llvm", "-o", f"{out}.o"])
     link = [KIT / "bin/rattle-link", "--target", "x86_64-unknown-linux-gnu", "--toolchain", f"{KIT}/toolchain", "-o", out, f"{out}.o"]
     sys.exit(status or call(".", [*link, KIT / "c/libos_c.a", KIT / "c/liblibc_c.a"]))

@@ -1,12 +1,12 @@
 #!/usr/bin/env python3
 """What has to be believed: the definitions that the contracts of the top calls and the public laws reach.
 
-    tools/promise.py               how large each of the three promises is, and crate by crate what stands beside them
+    tools/promise.py               how large each of the four promises is, and crate by crate what stands beside them
     tools/promise.py --check       fails where a module of a crate's specs/ holds anything else: what serves contracts
                                    between layers, loops and tables stands in specs/Inner/, examples in specs/Examples/
     tools/promise.py --print NAME  one promise as a text in reading order, lowest crate first: `library` (`prepare` and
-                                   `answer`), `run` (testsolv), `proofcheck`, or `laws`, what public laws say besides;
-                                   without NAME all of them together
+                                   `answer`), `run` (testsolv), `proofcheck`, `c` (the library for C), or `laws`, what
+                                   public laws say besides; without NAME all of them together
 
 The promise of a program counts with the contracts of the traits through which it meets files and sinks. A public law is a
 public function of a module `laws` that does nothing (LAW_MODULES names one more module); one that calls other laws says how
@@ -30,7 +30,13 @@ CALLS = {
     "library": (("solv_answers", "preparing", ("prepare",)), ("solv_answers", "answering", ("answer",))),
     "run": (("solv_run", "top", ("run",)),),
     "proofcheck": (("solv_proof_run", "top", ("proof_run",)),),
+    "c": (
+        ("gachuswi", "calls", tuple(f"gachuswi_{it}" for it in ("abi", "run", "status", "out", "err", "close"))),
+        ("gachuswi", "versions", ("gachuswi_evr_compare",)),
+    ),
 }
+# modules that stand apart and are read with a promise: the number of each status
+READ_BESIDES = (("solv_io", "Inner.Statuses"),)
 # the traits through which the programs meet the outside: crate, module, trait
 TRAITS = (("solv_io", "fetching", "Files"), ("solv_io", "writing", "Sink"))
 PROGRAMS = ("run", "proofcheck")
@@ -222,7 +228,7 @@ def parts_of(item):
 def functions_of(path):
     """Each public function of a file, with its clauses, and whether it does nothing."""
     text = path.read_text()
-    for match in re.finditer(r"^( *)pub fn (\w+)", text, re.M):
+    for match in re.finditer(r"^( *)pub (?:extern \"C\" )?fn (\w+)", text, re.M):
         indent = match.group(1)
         end = re.compile(r"^" + indent + r"(?:\{\}|\{)$", re.M).search(text, match.end())
         if end:
@@ -292,6 +298,8 @@ def told(what, items):
 def misplaced(book, promise):
     """Definitions that stand where the others of their module should not."""
     for module in book.modules.values():
+        if (module.crate, module.name) in READ_BESIDES:
+            continue
         apart = module.crate in EXAMPLES or module.name.split(".")[0] in ("Inner", "Examples")
         yield from (item for item in module.items if (item in promise) == apart)
 
@@ -331,13 +339,15 @@ def main():
     if words == ["--check"]:
         return check(book, promise)
     if words:
-        print("usage: promise.py [--check | --print [library | run | proofcheck | laws]]", file=sys.stderr)
+        print("usage: promise.py [--check | --print [library | run | proofcheck | c | laws]]", file=sys.stderr)
         return 2
     print(told("library, `prepare`, `answer`:", promises["library"]))
     print(told("`run`:", promises["run"]))
     print(told("`proof_run`:", promises["proofcheck"]))
     print(told("  beside what `run` has:", promises["proofcheck"] - promises["run"]))
-    print(told("all three:", calls))
+    print(told("the library for C:", promises["c"]))
+    print(told("  beside what `run` has:", promises["c"] - promises["run"]))
+    print(told("all four:", calls))
     print(told("public laws besides:", laws - calls))
     print(told("all definitions there are:", set(book.definitions)), end="\n\n")
     table(book, promise)
