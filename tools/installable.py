@@ -1,0 +1,130 @@
+#!/usr/bin/env python3
+"""Tells which packages of repositories cannot be installed, and why.
+
+    tools/installable.py REPO .. [--beside OTHER ..] [--only NAME ..] [--arch ARCH] [--proof FILE]
+
+Each REPO is a repository in testtags format, as rpmmd_to_testtags.py makes them. A package can be installed where some set of
+packages of all these and of the OTHERs has it and meets the rules, with nothing installed before; those of the OTHERs are not
+asked for themselves. With --only it is asked for the packages of these names alone. Packages of another architecture are left
+out, and told on the error stream; one that is inferior to another of the name may come.
+
+The program testsolv runs in as many processes as there are processors. At first made packages are installed that recommend
+thousands of packages: what comes can be installed. The rest is asked for together, many in one round, and of whom that does
+not tell alone. Those that cannot be installed are told with the lines of their problem, grouped by the cause that most of them
+share. With --proof the proof of each problem is written to FILE, and the script that it is of, with a round for each, to
+FILE.t, which stands alone; `proofcheck FILE.t FILE` has said yes to all.
+
+The status is 0 where all can be installed, 1 where one cannot, or where the budget was spent over one, and 2 where something
+is wrong, which one line tells.
+"""
+import collections
+import heapq
+import os
+import pathlib
+import re
+import sys
+import tempfile
+
+import asking
+import rounds
+import testtags
+
+# lines that say more of a cause come first where as many packages share them
+WEIGHTS = ("nothing provides", "is not installable", "conflicts with", "cannot install both", "obsoletes", "inferior architecture")
+
+
+def asked_for(given, names):
+    """The texts of the packages that are asked for, each with its package, in their order."""
+    known = {}
+    for path, repo in zip(given.repos, names):
+        for package, _ in testtags.packages(path):
+            known.setdefault(rounds.package_text(package, repo), package)
+    if given.only:
+        for name in set(given.only) - {package.name for package in known.values()}:
+            raise testtags.Fault(f"{name}: no repository has a package of this name")
+        known = {text: package for text, package in known.items() if package.name in given.only}
+    allowed = {*rounds.ARCHITECTURES[given.arch], "noarch"}
+    others = collections.Counter(package.arch for package in known.values() if package.arch not in allowed)
+    for arch, count in sorted(others.items()):
+        print(f"left out: {count} packages of the architecture {arch}", file=sys.stderr)
+    return {text: package for text, package in known.items() if package.arch in allowed}
+
+
+def cause_of(line):
+    """What of a line may be shared by most: not who needs what nothing provides."""
+    return re.sub(r"^(nothing provides .*) needed by \S+$", r"\1", line)
+
+
+def groups(failing):
+    """The packages by the cause that most of them share, the greatest group first."""
+    having = collections.defaultdict(list)
+    for text, lines in failing.items():
+        for line in dict.fromkeys(map(cause_of, lines)):
+            having[line].append(text)
+    weight = {line: next((n for n, words in enumerate(WEIGHTS) if words in line), len(WEIGHTS)) for line in having}
+    queue = [(-len(texts), weight[line], line) for line, texts in having.items()]
+    heapq.heapify(queue)
+    rest = dict(failing)
+    while rest:
+        count, _, line = heapq.heappop(queue)
+        group = [text for text in having[line] if text in rest]
+        if len(group) == -count:
+            yield line, {text: rest.pop(text) for text in group}
+        elif group:
+            heapq.heappush(queue, (-len(group), weight[line], line))
+
+
+def prove(given, folder, head, failing):
+    """Writes the proofs of what fails, and the script that they are of, and has them checked."""
+    asked = asking.rounds_for(failing)
+    script = pathlib.Path(f"{given.proof}.t")
+    with rounds.script(folder, head, asked) as name:
+        script.write_text(rounds.run(given.program, "--write", name)[0], **testtags.UTF)
+
+    def proofs(share, place):
+        with rounds.script(folder, head, share) as name:
+            text = rounds.run(given.program, *rounds.BUDGET, "--proof", name)[0]
+        moved = lambda match: f"problem {int(match[1]) + place}"
+        return re.sub(r"^problem (\d+)", moved, text.removeprefix("proof 1\n"), flags=re.MULTILINE)
+
+    progress = testtags.Progress(f"of {len(asked):,} proofs")
+    given.proof.write_text("proof 1\n" + "".join(rounds.in_shares(proofs, asked, 100, given.processes, progress)))
+    checked = rounds.run(given.checker, script, given.proof)[0].splitlines()
+    proved = {line.split()[1] for line in checked if line.endswith(": yes")}
+    if len(proved) != len(failing) or not all(line.endswith(": yes") for line in checked):
+        raise testtags.Fault(f"{given.proof}: {given.checker} does not say yes to a proof of each package")
+    print(f"{len(checked)} proofs in {given.proof}, checked against {script}")
+
+
+def main(given):
+    paths = given.repos + given.beside
+    names = rounds.repo_names(paths)
+    head = rounds.head(paths, names, given.arch)
+    asked = asked_for(given, names)
+    with tempfile.TemporaryDirectory() as folder:
+        failing, spent = asking.failing(given, folder, head, asked)
+        print(f"{len(failing)} of {len(asked)} packages cannot be installed")
+        numbers = {text: f", round {n}" if given.proof else "" for n, text in enumerate(failing, 1)}
+        for cause, group in groups(failing):
+            print(f"\n{len(group)} by this: {cause}")
+            for text, lines in group.items():
+                print(f"  {text}{numbers[text]}")
+                print("".join(f"    {line}\n" for line in lines if line != cause), end="")
+        for text in spent:
+            print(f"\nnot known, the budget was spent: {text}")
+        if given.proof and failing:
+            prove(given, folder, head, failing)
+    return 1 if failing or spent else 0
+
+
+if __name__ == "__main__":
+    arguments = testtags.arguments(__doc__)
+    arguments.add_argument("repos", metavar="REPO", nargs="+", type=pathlib.Path)
+    arguments.add_argument("--beside", metavar="OTHER", nargs="+", type=pathlib.Path, default=[])
+    arguments.add_argument("--only", metavar="NAME", nargs="+", default=[])
+    arguments.add_argument("--arch", choices=rounds.ARCHITECTURES, default="x86_64")
+    arguments.add_argument("--proof", metavar="FILE", type=pathlib.Path)
+    arguments.add_argument("--program", type=pathlib.Path, default=rounds.TESTSOLV, help="testsolv, where it is not where it was built")
+    arguments.add_argument("--checker", type=pathlib.Path, default=rounds.PROOFCHECK, help="proofcheck")
+    arguments.add_argument("--processes", type=int, default=len(os.sched_getaffinity(0)))
+    testtags.run(main, arguments)

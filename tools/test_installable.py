@@ -1,0 +1,156 @@
+#!/usr/bin/env python3
+"""Tries installable.py on the small repositories of docs/maintainers/, and on one of its own making.
+
+    tools/test_installable.py [TESTSOLV PROOFCHECK]
+
+Without the words it takes the programs where `rt run` builds them.
+"""
+import argparse
+import pathlib
+import random
+import subprocess
+import sys
+import tempfile
+
+import asking
+import installable
+import rounds
+from rounds import PROOFCHECK, TESTSOLV
+from rpms_for_tests import same
+
+TOOLS = pathlib.Path(__file__).resolve().parent
+COMPOSE = TOOLS.parent / "docs" / "maintainers" / "compose.repo"
+PAGE = (TOOLS.parent / "docs" / "MAINTAINERS.md").read_text()
+
+TOLD = """\
+3 of 11 packages cannot be installed
+
+2 by this: nothing provides libssl.so.1.1()(64bit)
+  stunnel-5.71-1.fc39.x86_64@compose, round 1
+    nothing provides libssl.so.1.1()(64bit) needed by stunnel-5.71-1.fc39.x86_64@compose
+  mail-tunnel-1.2-3.fc39.noarch@compose, round 2
+    nothing provides libssl.so.1.1()(64bit) needed by stunnel-5.71-1.fc39.x86_64@compose
+    package mail-tunnel-1.2-3.fc39.noarch@compose requires stunnel >= 5, but none of the providers can be installed
+
+1 by this: package sendmail-8.17.2-2.fc39.x86_64@compose conflicts with postfix provided by postfix-2:3.8.1-2.fc39.x86_64@compose
+  mail-tests-0.9-1.fc39.noarch@compose, round 3
+    package mail-tests-0.9-1.fc39.noarch@compose requires sendmail & postfix >= 2:3.8, but none of the providers can be installed
+3 proofs in compose.proof, checked against compose.proof.t
+"""
+
+# packages of another architecture are not asked for, and inferior ones are
+OTHER = """\
+=Pkg: tool 1 1 x86_64
+=Pkg: tool 1 1 i686
+=Req: libtool.so.2
+=Pkg: lib 2 1 i686
+=Prv: libtool.so.2
+=Pkg: lib 2 1 x86_64
+=Pkg: tool 1 1 ppc64le
+=Req: nothing
+=Pkg: late 1 1 noarch
+=Req: stunnel
+"""
+
+
+# forty packages of two architectures each, more than are asked for one by one
+TWO = "".join(f"=Pkg: lib{n} 1 1 {arch}\n=Prv: lib{n}.so({arch})\n" + (f"=Req: lib{n // 2}.so({arch})\n" if n else "")
+              for n in range(40) for arch in ("x86_64", "i686"))
+
+
+def run(programs, *words, folder=None):
+    command = [sys.executable, TOOLS / "installable.py", "--program", programs[0], "--checker", programs[1], *words]
+    done = subprocess.run(command, capture_output=True, text=True, cwd=folder)
+    return done.returncode, done.stdout, done.stderr
+
+
+# a package over which something has to be learnt
+HARD = """\
+=Pkg: hard 1 1 noarch
+=Req: a | b
+=Req: c | d
+=Pkg: a 1 1 noarch
+=Con: c
+=Con: d
+=Pkg: b 1 1 noarch
+=Con: c
+=Con: d
+=Pkg: c 1 1 noarch
+=Pkg: d 1 1 noarch
+"""
+
+
+def try_budget(program, folder):
+    """A round that spends the budget is left without an answer, and those behind it are asked for again."""
+    (folder / "hard.repo").write_text(HARD)
+    head = rounds.head([folder / "hard.repo"], ["hard"], "x86_64")
+    asked = [f"job install name {name}\n" for name in ("hard", "a", "hard", "hard", "nosuch")]
+    full, rounds.BUDGET = list(rounds.answers(program, folder, head, asked)), ("--budget", "0")
+    none = list(rounds.answers(program, folder, head, asked))
+    same("rounds within the budget", [bool(rounds.problems(answer)) for answer in full], [True, False, True, True, True])
+    same("rounds that spend it", none, [None, full[1], None, None, full[4]])
+
+
+def drawn(draw, count):
+    """A repository that is drawn: packages of one or two architectures and versions, and what they require and conflict with."""
+    lines = []
+    for number in range(count):
+        for arch, version in draw.choice(([("noarch", 1)], [("x86_64", 1), ("i686", 1)], [("x86_64", 1), ("x86_64", 2)])):
+            one, other = draw.randrange(count + 1), draw.randrange(count)
+            lines += [f"=Pkg: p{number} {version} 1 {arch}", f"=Prv: c{draw.randrange(5)}"]
+            lines += draw.choices((f"=Req: p{one}", f"=Req: p{one} >= 2", f"=Req: p{one} | p{other}", f"=Req: p{one} & p{other}",
+                                   f"=Req: c{one} <IF> p{other}", f"=Con: p{other} < 2", f"=Obs: p{other} < 2", "=Sug: c0"), k=3)
+    return "\n".join(lines) + "\n"
+
+
+def try_bulk(program, folder):
+    """What is asked for in bulk is answered as it is one by one."""
+    asking.TOGETHER, asking.GAIN = 7, 1
+    failing = 0
+    for seed in range(12):
+        draw, path = random.Random(seed), folder / "drawn.repo"
+        path.write_text(drawn(draw, draw.randrange(5, 25)))
+        given = argparse.Namespace(repos=[path], only=[], arch="x86_64", program=program, processes=2)
+        head, asked = rounds.head([path], ["drawn"], "x86_64"), installable.asked_for(given, ["drawn"])
+        alone = zip(asked, rounds.answers(program, folder, head, asking.rounds_for(asked)))
+        wanted = {text for text, answer in alone if answer}
+        same(f"what cannot be installed of seed {seed}", set(asking.failing(given, folder, head, asked)[0]), wanted)
+        failing += len(wanted)
+    same("some cannot be installed", failing > 20, True)
+
+
+def main():
+    programs = [pathlib.Path(word).resolve() for word in sys.argv[1:]] or [TESTSOLV, PROOFCHECK]
+    for program in programs:
+        if not program.is_file():
+            print(f"skipped: there is no program {program}")
+            return
+    with tempfile.TemporaryDirectory() as name:
+        folder = pathlib.Path(name)
+        other = folder / "other.repo"
+        status, told, errors = run(programs, COMPOSE, "--proof", "compose.proof", folder=folder)
+        same("what cannot be installed", (status, told, errors), (1, TOLD, ""))
+        same("docs/MAINTAINERS.md has it", TOLD in PAGE, True)
+        checked = subprocess.run([programs[1], folder / "compose.proof.t", folder / "compose.proof"], capture_output=True, text=True)
+        same("the proofs that are kept", (checked.returncode, checked.stdout.count(": yes\n")), (0, 3))
+        status, told, errors = run(programs, COMPOSE, "--only", "nginx", "bash")
+        same("packages by name", (status, told, errors), (0, "0 of 2 packages cannot be installed\n", ""))
+        other.write_text(OTHER)
+        status, told, errors = run(programs, other, "--beside", COMPOSE)
+        same("status beside another", (status, errors), (1, "left out: 1 packages of the architecture ppc64le\n"))
+        same("a repository beside another", told.splitlines()[:3], ["1 of 5 packages cannot be installed", "", "1 by this: " + TOLD.splitlines()[2].split(": ", 1)[1]])
+        other.write_text(TWO)
+        same("a package of two architectures", run(programs, other), (0, "0 of 80 packages cannot be installed\n", ""))
+        other.write_text("=Pkg: tool 1 1\n")
+        same("a bad line", run(programs, other)[::2], (2, f"{other}:1: a package has a name, a version, a release and an architecture\n"))
+        other.write_text("=Pkg: tool 1 1 noarch\n=Req: a &\n")
+        same("a bad dependency", run(programs, other)[::2], (2, f"testsolv: {other}:2: MissingOperand\n"))
+        same("a name that is not there", run(programs, COMPOSE, "--only", "nosuch")[::2], (2, "nosuch: no repository has a package of this name\n"))
+        try_bulk(programs[0], folder)
+        try_budget(programs[0], folder)
+        same("no program", run(["nosuch", "nosuch"], COMPOSE)[0], 2)
+    print("as it should be")
+
+
+if __name__ == "__main__":
+    main()

@@ -1,0 +1,107 @@
+#!/usr/bin/env python3
+"""Tries picture.py on scripts of examples/ and on one of its own making.
+
+    tools/test_picture.py [TESTSOLV]
+
+Without the word it takes the program where `rt run` builds it. The picture by Graphviz is tried where there is `dot`.
+"""
+import pathlib
+import shutil
+import subprocess
+import sys
+import tempfile
+
+from rounds import TESTSOLV
+from rpms_for_tests import same
+
+TOOLS = pathlib.Path(__file__).resolve().parent
+EXAMPLES = TOOLS.parent / "examples"
+PAGE = (TOOLS.parent / "docs" / "MAINTAINERS.md").read_text()
+
+FIRST = """\
+job erase name libvim
+   -> erases: libvim-9.1-1.fc39.x86_64@system
+vim-9.1-1.fc39.x86_64@system (installed: to stay, or to be replaced)
+   -> requires libvim: libvim-9.1-1.fc39.x86_64@system
+way out 1: erase vim-9.1-1.fc39.x86_64@system
+way out 2: deljob erase name libvim
+"""
+
+SECOND = """\
+job install name nosuch
+   -> asks for: nothing provides nosuch
+way out 1: deljob install name nosuch
+"""
+
+CONFLICT = """\
+job install name nano
+   -> asks for: nano-7.2-1.fc39.x86_64@fedora
+      -> conflicts with vim >= 9.1: vim-9.1-1.fc39.x86_64@system (installed: to stay, or to be replaced)
+way out 1: replace vim-9.1-1.fc39.x86_64@system vim-9.0-1.fc38.x86_64@fedora
+way out 2: deljob install name nano
+"""
+
+# a requirement that two packages of three meet, by their versions, and neither can come
+MADE = """\
+repo a 0 testtags <inline>
+#>=Pkg: app 1 1 noarch
+#>=Req: lib >= 2 | "quoted"
+#>=Pkg: lib 1 1 noarch
+#>=Pkg: lib 2 1 noarch
+#>=Req: nothing
+#>=Pkg: other 5 1 noarch
+#>=Prv: lib = 3
+#>=Con: app
+system x86_64 rpm
+job install name lib < 2
+nextjob
+job install name app
+"""
+
+TOLD = """\
+job install name app
+   -> asks for: app-1-1.noarch@a
+      -> requires: lib >= 2 | "quoted"
+         -> met by: lib-2-1.noarch@a
+            -> requires: nothing provides nothing
+         -> met by: other-5-1.noarch@a
+            -> conflicts with app: app-1-1.noarch@a (see above)
+way out 1: deljob install name app
+"""
+
+
+def run(program, *words):
+    done = subprocess.run([sys.executable, TOOLS / "picture.py", "--program", program, *words], capture_output=True, text=True)
+    return done.returncode, done.stdout, done.stderr
+
+
+def main():
+    program = pathlib.Path(sys.argv[1]) if len(sys.argv) > 1 else TESTSOLV
+    if not program.is_file():
+        print(f"skipped: there is no program {program}")
+        return
+    problem, three = EXAMPLES / "problem.t", EXAMPLES / "rounds.t"
+    same("the first problem", run(program, problem), (0, f"{problem.name}, round 1, problem 1\n\n{FIRST}", ""))
+    same("the second problem", run(program, problem, "--problem", "2"), (0, f"{problem.name}, round 1, problem 2\n\n{SECOND}", ""))
+    same("a conflict", run(program, three), (0, f"{three.name}, round 1, problem 1\n\n{CONFLICT}", ""))
+    same("a round without a problem", run(program, three, "--round", "2")[::2], (2, f"{three}: it has no such problem\n"))
+    with tempfile.TemporaryDirectory() as name:
+        made, svg = pathlib.Path(name, "made.t"), pathlib.Path(name, "made.svg")
+        made.write_text(MADE)
+        same("two that meet it", run(program, made), (0, f"{made.name}, round 2, problem 1\n\n{TOLD}", ""))
+        old, new = (TOOLS.parent / "docs" / "maintainers" / name for name in ("compose.repo", "next.repo"))
+        upgrade = [sys.executable, TOOLS / "upgrade.py", "--program", program, old, new]
+        subprocess.run([*upgrade, "--set", "charts,postfix", "--script", made.with_name("upgrade-2.t")], capture_output=True)
+        same("docs/MAINTAINERS.md has the picture of an upgrade", run(program, made.with_name("upgrade-2.t"), "--problem", "2")[1] in PAGE, True)
+        if shutil.which("dot"):
+            same("status of a picture", run(program, made, "--svg", svg), (0, "", ""))
+            text = svg.read_text()
+            wanted = ("app-1-1.noarch @ a", "requires", "lib &gt;= 2 | &quot;quoted&quot;", "nothing provides nothing", "conflicts with app", "way out 1")
+            same("words of a picture", [word for word in wanted if word not in text.replace("&#45;", "-").replace("&#160;", " ")], [])
+        else:
+            print("skipped: there is no program dot")
+    print("as it should be")
+
+
+if __name__ == "__main__":
+    main()

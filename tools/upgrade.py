@@ -1,0 +1,187 @@
+#!/usr/bin/env python3
+"""Tells whether the upgrade from one release to the next goes through, and what it changes.
+
+    tools/upgrade.py OLD NEW .. [--beside OTHER ..] [--set WORD,WORD,..] .. [--groups COMPS] [--job JOB] .. [--script FILE]
+
+OLD, each OTHER, which belongs to the old release too, and each NEW are repositories in testtags format, as rpmmd_to_testtags.py makes them. Each --set is an installation: what
+testsolv installs from the old release for its words, which are names of packages, or else what some package provides, or groups as @core
+of COMPS, a file as repodata has it (their mandatory and default packages, or the groups of an environment). Without a set all
+packages of the old release are what is installed, as rpmdb_to_testtags.py tells it of a machine.
+
+Each JOB is a further job of the upgrade, as "multiversion name kernel", "lock name vim" or "allowuninstall all packages".
+
+For each set testsolv is asked for a distribution upgrade to the packages of NEW, and it is told what goes, what another package
+obsoletes, what goes back to a lower version, what changes its architecture or vendor, and what stays though no NEW has it; or
+the problems with the ways out of each. With --script the script is written as one text, for `testsolv --proof` and picture.py;
+from the second set on its number stands in the name too, as upgrade-2.t.
+
+The status is 0 where all upgrades go through, 1 where one does not, and 2 where something is wrong, which one line tells.
+"""
+import collections
+import pathlib
+import sys
+import tempfile
+import xml.etree.ElementTree
+
+import rounds
+import testtags
+
+SYSTEM = "system"
+CHANGES = ("upgrade", "downgrade", "change", "reinstall")
+
+
+def groups_of(path):
+    """The names of each group's packages, and of each environment's groups as @GROUP."""
+    found = collections.defaultdict(list)
+    try:
+        with testtags.opened(path) as stream:
+            for _, element in xml.etree.ElementTree.iterparse(stream):
+                if element.tag == "group":
+                    packages = element.iterfind("packagelist/packagereq")
+                    found[element.findtext("id")] = [one.text for one in packages if one.get("type") in ("mandatory", "default", None)]
+                elif element.tag == "environment":
+                    found[element.findtext("id")] = [f"@{group.text}" for group in element.iterfind("grouplist/groupid")]
+    except xml.etree.ElementTree.ParseError as error:
+        raise testtags.Fault(f"{path}:{error.position[0]}: {error.msg}")
+    return found
+
+
+def jobs_for(words, groups, names):
+    """The install jobs of a set."""
+    jobs = []
+    for word in words:
+        if not word.startswith("@"):
+            jobs.append(f"job install {'name' if word in names else 'provides'} {word}\n")
+        elif word[1:] not in groups:
+            raise testtags.Fault(f"{word}: no group of this name; --groups names the file that has them")
+        else:
+            members = groups[word[1:]]
+            there = [member for member in members if member.startswith("@") or member in names]
+            jobs += jobs_for(there, {**groups, word[1:]: []}, names)
+            missing = [member for member in members if not member.startswith("@") and member not in names]
+            if missing:
+                print(f"left out of {word}, no package has the name: {' '.join(missing)}", file=sys.stderr)
+    return jobs
+
+
+def answer_of(given, folder, head, jobs):
+    answer = next(rounds.answers(given.program, folder, head, [jobs]))
+    if answer is None:
+        raise testtags.Fault("the budget of testsolv was spent")
+    return answer
+
+
+def tell_problems(what, answer):
+    found = rounds.problems(answer)
+    print(f"  {what}: {len(found)} problem{'s' if len(found) > 1 else ''}")
+    for number, problem in found.items():
+        print(f"  problem {number}:" + "".join(f"\n    {line}" for line in problem.info))
+        for way, lines in problem.solutions.items():
+            print(f"    way out {way}: {', '.join(lines)}")
+
+
+class Upgrade:
+    """An upgrade that goes through: its changes by their kind, and what stays."""
+
+    def __init__(self, answer, installed, new):
+        self.installed, self.new = installed, new
+        self.packages, self.told = collections.defaultdict(set), collections.defaultdict(list)
+        for line in answer:
+            kind, *packages = line.split()
+            self.packages[kind].add(packages[0])
+            self.change(kind, *packages)
+        same = {package[:3] for package in new.values()}
+        self.stays = installed.keys() - set().union(*self.packages.values())
+        for text in sorted(self.stays):
+            if installed[text][:3] not in same:
+                self.told["stays, and no new repository has it"].append(text)
+
+    def change(self, kind, package, other=None):
+        if kind == "erase":
+            self.told["goes"].append(package)
+        elif kind == "obsolete":
+            self.told["goes, since another package obsoletes it"].append(f"{package} by {other}")
+        elif kind in CHANGES:
+            old, new = self.installed[package], self.new[other]
+            if kind == "downgrade":
+                self.told["goes back to a lower version"].append(f"{package} to {other}")
+            if old.arch != new.arch:
+                self.told["changes its architecture"].append(f"{package} to {other}")
+            if old.vendor != new.vendor:
+                self.told["changes its vendor"].append(f"{package} ({old.vendor or 'none'}) to {other} ({new.vendor or 'none'})")
+
+    def tell(self):
+        upgraded, new = len(self.packages["upgrade"]), len(self.packages["install"])
+        gone = len(self.packages["erase"] | self.packages["obsolete"])
+        print(f"  it goes through: {upgraded} upgraded, {new} new, {gone} gone, {len(self.stays)} as they are")
+        for what, lines in sorted(self.told.items()):
+            print(f"  {what}: {len(lines)}" + "".join(f"\n    {line}" for line in lines))
+
+
+def upgrade(given, folder, number, installed, new_names):
+    """Asks for the upgrade of what is installed, tells of it, and whether it goes through."""
+    paths = [folder / f"{SYSTEM}.repo", *given.new]
+    head = rounds.head(paths, [SYSTEM, *new_names], given.arch, SYSTEM)
+    jobs = "".join(f"job {job}\n" for job in ["distupgrade all packages", *given.jobs])
+    if given.script:
+        script = folder / "upgrade.t"
+        script.write_text("\n".join(head) + "\n" + jobs, **testtags.UTF)
+        place = given.script if number == 1 else given.script.with_stem(f"{given.script.stem}-{number}")
+        place.write_text(rounds.run(given.program, "--write", script)[0], **testtags.UTF)
+    answer = answer_of(given, folder, head, jobs)
+    if rounds.problems(answer):
+        tell_problems("it does not go through", answer)
+        return False
+    new = {rounds.package_text(package, name): package
+           for name, path in zip(new_names, given.new) for package, _ in testtags.packages(path)}
+    Upgrade(answer, {rounds.package_text(package, SYSTEM): package for package in installed}, new).tell()
+    return True
+
+
+def install(given, folder, words, groups, names):
+    """What is installed in a set, or None where it cannot be; written as a repository."""
+    olds, chosen = [given.old, *given.beside], None
+    old_names = rounds.repo_names(olds)
+    if words is not None:
+        head = rounds.head(olds, old_names, given.arch)
+        answer = answer_of(given, folder, head, "".join(jobs_for(words, groups, names)))
+        if rounds.problems(answer):
+            tell_problems("it cannot be installed from the old release", answer)
+            return None
+        chosen = {line.removeprefix("install ") for line in answer}
+    installed = []
+    with open(folder / f"{SYSTEM}.repo", "w", **testtags.UTF) as repo:
+        for path, name in zip(olds, old_names):
+            for package, lines in testtags.packages(path):
+                if chosen is None or rounds.package_text(package, name) in chosen:
+                    installed.append(package)
+                    repo.writelines(f"{line}\n" for line in lines)
+    return installed
+
+
+def main(given):
+    groups = groups_of(given.groups) if given.groups else {}
+    names = {package.name for path in [given.old, *given.beside] for package, _ in testtags.packages(path)}
+    new_names = rounds.repo_names([pathlib.Path(SYSTEM), *given.new])[1:]
+    through = True
+    with tempfile.TemporaryDirectory() as name:
+        folder = pathlib.Path(name)
+        for number, words in enumerate(given.sets or [None], 1):
+            installed = install(given, folder, words.split(",") if words else None, groups, names)
+            print(f"set {number}, {words or given.old}" + (f": {len(installed)} packages" if installed is not None else ""))
+            through = installed is not None and upgrade(given, folder, number, installed, new_names) and through
+    return 0 if through else 1
+
+
+if __name__ == "__main__":
+    arguments = testtags.arguments(__doc__)
+    arguments.add_argument("old", metavar="OLD", type=pathlib.Path)
+    arguments.add_argument("new", metavar="NEW", nargs="+", type=pathlib.Path)
+    arguments.add_argument("--beside", metavar="OTHER", nargs="+", type=pathlib.Path, default=[])
+    arguments.add_argument("--set", dest="sets", metavar="WORD,..", action="append")
+    arguments.add_argument("--groups", metavar="COMPS", type=pathlib.Path)
+    arguments.add_argument("--job", dest="jobs", metavar="JOB", action="append", default=[])
+    arguments.add_argument("--arch", choices=rounds.ARCHITECTURES, default="x86_64")
+    arguments.add_argument("--script", metavar="FILE", type=pathlib.Path)
+    arguments.add_argument("--program", type=pathlib.Path, default=rounds.TESTSOLV, help="testsolv, where it is not where it was built")
+    testtags.run(main, arguments)
