@@ -1,2 +1,3 @@
 -- What holds inside.
 pub mod Held
+pub mod HeldTasks

@@ -1,4 +1,6 @@
 pub mod Asked
 pub mod Calls
 pub mod Orders
+pub mod Tasks
+pub mod TaskTexts
 pub mod Inner

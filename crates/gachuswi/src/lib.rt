@@ -3,6 +3,9 @@
 //! - `gachuswi_run`: solves the script in one of the files that a caller lends, and keeps what it comes to as an answer.
 //! - `gachuswi_status`, `gachuswi_out`, `gachuswi_err`: the status of an answer, and copies of its two texts.
 //! - `gachuswi_close`: lets an answer go.
+//! - `gachuswi_task_solve`: solves such a script, and keeps its answer as a task that is read by numbers. `gachuswi_task_status`, `_err`,
+//!   `_changes`, `_order`, `_set`, `_problems`, `gachuswi_problem_rules`, `_solutions`, `gachuswi_solution_rules` and `_set` read it;
+//!   `gachuswi_package_text`, `gachuswi_rule_text` and `gachuswi_solution_text` give texts; `gachuswi_task_close` lets it go.
 //! - `gachuswi_evr_compare`: how two versions compare.
 //! - `gachuswi_abi`: the number of this interface.
 //!
@@ -14,6 +17,9 @@ mod asking;
 mod calls;
 mod handles;
 mod loose;
+mod task_handles;
+mod task_texts;
+mod tasks;
 mod versions;
 
 pub use asking::Options;
@@ -21,4 +27,12 @@ pub use calls::{
     gachuswi_abi, gachuswi_close, gachuswi_err, gachuswi_out, gachuswi_run, gachuswi_status,
 };
 pub use handles::{Handle, Opaque};
+pub use task_handles::TaskHandle;
+pub use task_texts::{gachuswi_package_text, gachuswi_rule_text, gachuswi_solution_text};
+pub use tasks::{
+    gachuswi_problem_rules, gachuswi_problem_solutions, gachuswi_solution_rules,
+    gachuswi_solution_set, gachuswi_task_changes, gachuswi_task_close, gachuswi_task_err,
+    gachuswi_task_order, gachuswi_task_problems, gachuswi_task_set, gachuswi_task_solve,
+    gachuswi_task_status,
+};
 pub use versions::gachuswi_evr_compare;

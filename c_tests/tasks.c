@@ -1,0 +1,143 @@
+/* tasks SCRIPT FILE ..: solves a script twice, by gachuswi_run and by gachuswi_task_solve, and compares what both say: the result lines
+ * of changes or problems, put together from numbers and texts, are those of gachuswi_out. Then calls with numbers that name nothing. */
+#include "gachuswi_task.h"
+#include <stdio.h>
+#include <stdlib.h>
+
+static const char *kinds[] = {"install", "erase", "upgrade", "downgrade", "change", "reinstall", "obsolete"};
+
+static void claim(int holds, const char *what) {
+    if (!holds) {
+        fprintf(stderr, "tasks: %s\n", what);
+        exit(1);
+    }
+}
+
+static gachuswi_file lend(const char *name) {
+    FILE *from = fopen(name, "rb");
+    long len = 0;
+    claim(from && !fseek(from, 0, SEEK_END) && (len = ftell(from)) >= 0, name);
+    char *bytes = malloc((size_t)len + 1);
+    rewind(from);
+    claim(bytes && fread(bytes, 1, (size_t)len, from) == (size_t)len, name);
+    fclose(from);
+    return gachuswi_lend(name, bytes, (size_t)len);
+}
+
+static char *lines[100000];
+static size_t line_count;
+
+static void add(const char *line) {
+    claim(line_count < 100000, "too many lines");
+    lines[line_count++] = strcpy(malloc(strlen(line) + 1), line);
+}
+
+static int by_bytes(const void *a, const void *b) { return strcmp(*(char *const *)a, *(char *const *)b); }
+
+static char *package(gachuswi_task *task, uint32_t pack) {
+    size_t len = 77;
+    claim(gachuswi_package_text(task, pack, NULL, 0, &len) == 0, "no text of a package");
+    char *text = malloc(len + 1);
+    size_t again = 0;
+    claim(gachuswi_package_text(task, pack, (uint8_t *)text, len, &again) == 0 && again == len, "another text");
+    text[len] = 0;
+    return text;
+}
+
+static void changes(gachuswi_task *task) {
+    size_t count = gachuswi_task_changes(task, NULL, 0);
+    gachuswi_change *all = malloc((count + 1) * sizeof *all);
+    all[count].kind = 4711;
+    claim(gachuswi_task_changes(task, all, count) == count && all[count].kind == 4711, "changes");
+    for (size_t i = 0; i < count; i++) {
+        claim(all[i].kind <= GACHUSWI_OBSOLETE && all[i].pack != 0, "a change");
+        char *pack = package(task, all[i].pack), *by = all[i].by ? package(task, all[i].by) : NULL, line[9000];
+        snprintf(line, sizeof line, by ? "%s %s %s" : "%s %s", kinds[all[i].kind], pack, by);
+        add(line);
+        free(pack);
+        free(by);
+    }
+    uint32_t first = 4711;
+    size_t set = gachuswi_task_set(task, &first, 1);
+    claim(set >= 1 && first == 0, "the set begins with the system");
+    size_t order = gachuswi_task_order(task, &first, 0);
+    claim(order <= 2 * count && first == 0, "the order");
+    free(all);
+}
+
+static void problem(gachuswi_task *task, size_t p) {
+    size_t count = 0, solutions = 0, len = 0;
+    claim(gachuswi_problem_rules(task, p, NULL, 0, &count) == 0, "rules of a problem");
+    size_t *rules = malloc((count + 1) * sizeof *rules);
+    claim(gachuswi_problem_rules(task, p, rules, count, &count) == 0, "rules of a problem");
+    for (size_t i = 0; i < count; i++) {
+        char text[9000], line[9100];
+        claim(gachuswi_rule_text(task, rules[i], (uint8_t *)text, sizeof text - 1, &len) == 0 && len < sizeof text, "a rule's text");
+        text[len] = 0;
+        snprintf(line, sizeof line, "problem %zu info %s", p + 1, text);
+        add(line);
+    }
+    claim(gachuswi_problem_solutions(task, p, &solutions) == 0, "solutions");
+    for (size_t s = 0; s < solutions; s++) {
+        char text[90000], line[90100], *at = text;
+        claim(gachuswi_solution_text(task, p, s, (uint8_t *)text, sizeof text - 1, &len) == 0 && len < sizeof text, "a solution's text");
+        text[len] = 0;
+        for (char *end; (end = strchr(at, '\n')); at = end + 1) {
+            *end = 0;
+            snprintf(line, sizeof line, "problem %zu solution %zu %s", p + 1, s + 1, at);
+            add(line);
+        }
+        size_t dropped = 0, set = 0;
+        uint32_t first = 4711;
+        claim(gachuswi_solution_rules(task, p, s, NULL, 0, &dropped) == 0 && dropped >= 1, "dropped rules");
+        claim(gachuswi_solution_set(task, p, s, &first, 1, &set) == 0 && set >= 1 && first == 0, "a solution's set");
+    }
+    size_t kept = 4711;
+    claim(gachuswi_solution_rules(task, p, solutions, NULL, 0, &kept) == GACHUSWI_MISUSE && kept == 4711, "no such solution");
+    claim(gachuswi_solution_set(task, p, solutions, NULL, 0, &kept) == GACHUSWI_MISUSE && kept == 4711, "no such solution");
+    claim(gachuswi_solution_text(task, p, solutions, NULL, 0, &kept) == GACHUSWI_MISUSE && kept == 4711, "no such solution");
+    free(rules);
+}
+
+static void nothing(gachuswi_task *task) {
+    size_t kept = 4711;
+    claim(gachuswi_problem_rules(task, (size_t)-1, NULL, 0, &kept) == GACHUSWI_MISUSE, "no such problem");
+    claim(gachuswi_problem_solutions(task, gachuswi_task_problems(task), &kept) == GACHUSWI_MISUSE, "no such problem");
+    claim(gachuswi_package_text(task, 4294967295u, NULL, 0, &kept) == GACHUSWI_MISUSE, "no such package");
+    claim(gachuswi_rule_text(task, (size_t)-1, NULL, 0, &kept) == GACHUSWI_MISUSE, "no such rule");
+    claim(kept == 4711, "a count was written");
+}
+
+int main(int argc, char **argv) {
+    gachuswi_file files[64];
+    size_t count = (size_t)argc - 1;
+    gachuswi_task task = GACHUSWI_NONE;
+    claim(count >= 1 && count <= 64, "SCRIPT FILE ..");
+    nothing(&task);
+    claim(gachuswi_task_status(&task) == GACHUSWI_MISUSE && gachuswi_task_changes(&task, NULL, 0) == 0, "nothing is kept");
+    gachuswi_task_close(&task);
+    for (size_t i = 0; i < count; i++) files[i] = lend(argv[i + 1]);
+    const uint8_t *name = files[0].name;
+    size_t len = files[0].name_len;
+    claim(gachuswi_task_solve(&task, files, count, name, len, 1000001) == GACHUSWI_MISUSE, "too great a budget");
+    claim(gachuswi_task_solve(&task, files, count, (const uint8_t *)"\xff", 1, 0) == GACHUSWI_MISUSE, "no text");
+    int32_t code = gachuswi_task_solve(&task, files, count, name, len, GACHUSWI_BUDGET);
+    claim(code == gachuswi_task_status(&task), "the number is not kept");
+    claim(gachuswi_task_solve(&task, files, count, name, len, 1000001) == GACHUSWI_MISUSE && gachuswi_task_status(&task) == code, "misuse");
+    nothing(&task);
+    if (code == GACHUSWI_TRANSACTION) changes(&task);
+    for (size_t p = 0; p < gachuswi_task_problems(&task); p++) problem(&task, p);
+    qsort(lines, line_count, sizeof *lines, by_bytes);
+    for (size_t i = 0; i < line_count; i++)
+        if (!i || strcmp(lines[i], lines[i - 1])) puts(lines[i]);
+    size_t err_len = gachuswi_task_err(&task, NULL, 0);
+    uint8_t *err = malloc(err_len + 1);
+    gachuswi_task_err(&task, err, err_len);
+    fwrite(err, 1, err_len, stderr);
+    free(err);
+    gachuswi_task_close(&task);
+    gachuswi_task_close(&task);
+    for (size_t i = 0; i < line_count; i++) free(lines[i]);
+    for (size_t i = 0; i < count; i++) free((void *)files[i].bytes);
+    return code;
+}

@@ -1,0 +1,94 @@
+//! The calls that give a text of a task.
+ghost use Rattle.std.specs.Prelude.{◌≡◌, ℕ, List, Option, IfOk};
+ghost use Rattle.gachuswi.specs.TaskTexts.{IsTextCall, package_text, rule_text, solution_text};
+
+use crate::task_handles::TaskHandle;
+use solv_list::Bytes;
+use solv_solved::fill;
+use std::alloc::{AllocError, Global};
+
+/// What a call answers that gives a text.
+const DONE: i32 = 0;
+
+/// What a call answers where memory ran out.
+const NO_MEMORY: i32 = 6;
+
+/// What a call answers that was made wrongly.
+const MISUSED: i32 = 8;
+
+/// Copies the first bytes of a text, as many as there is room for, and tells its length, where there is one.
+fn hand_out(made: Result<Option<Bytes>, AllocError>, into: &mut [u8], count: &mut usize) -> i32
+    ensures { (named : Option (List ℕ)) → IfOk made (λ text. text ≡ named) → IsTextCall named into.old into.new count.old count.new result }
+{
+    match made {
+        Ok(Some(text)) => {
+            fill(into, text.held());
+            *count = text.len();
+            DONE
+        }
+        Ok(None) => MISUSED,
+        Err(_) => NO_MEMORY,
+    }
+}
+
+/// Copies the first bytes of the text of a package, as many as there is room for, and tells its length. Where no package has the
+/// number, nothing is written, and the call was made wrongly.
+#[unsafe(no_mangle)]
+pub extern "C" fn gachuswi_package_text(
+    alloc: Global,
+    task: &mut TaskHandle,
+    pack: u32,
+    into: &mut [u8],
+    count: &mut usize,
+) -> i32
+    ensures text { IsTextCall (package_text task.old.value pack) into.old into.new count.old count.new result }
+    ensures same { task.new.value ≡ task.old.value }
+{
+    let Some(kept) = task.take(alloc) else {
+        return MISUSED;
+    };
+    let made = kept.as_ref().package_text(alloc, pack);
+    task.put(kept);
+    hand_out(made, into, count)
+}
+
+/// The same of what is said of the hard rule of this number.
+#[unsafe(no_mangle)]
+pub extern "C" fn gachuswi_rule_text(
+    alloc: Global,
+    task: &mut TaskHandle,
+    rule: usize,
+    into: &mut [u8],
+    count: &mut usize,
+) -> i32
+    ensures text { IsTextCall (rule_text task.old.value rule) into.old into.new count.old count.new result }
+    ensures same { task.new.value ≡ task.old.value }
+{
+    let Some(kept) = task.take(alloc) else {
+        return MISUSED;
+    };
+    let made = kept.as_ref().rule_text(alloc, rule);
+    task.put(kept);
+    hand_out(made, into, count)
+}
+
+/// The same of what is said of a solution: a line for each thing that it does.
+#[unsafe(no_mangle)]
+pub extern "C" fn gachuswi_solution_text(
+    alloc: Global,
+    task: &mut TaskHandle,
+    problem: usize,
+    solution: usize,
+    into: &mut [u8],
+    count: &mut usize,
+) -> i32
+    ensures text { IsTextCall (solution_text task.old.value problem solution) into.old into.new count.old count.new result }
+    ensures same { task.new.value ≡ task.old.value }
+{
+    let Some(kept) = task.take(alloc) else {
+        return MISUSED;
+    };
+    let made = kept.as_ref().solution_text(alloc, problem, solution);
+    task.put(kept);
+    hand_out(made, into, count)
+}

@@ -1,0 +1,12 @@
+use Rattle.std.proofs.Common.{◌≡◌, Some, rules}
+use Rattle.solv_pool.specs.Catalog.{catalog_of}
+use Rattle.solv_pool.specs.HardRules.{hard_rules}
+use Rattle.solv_rules.specs.Books.{first_fault}
+use Rattle.solv_solved.proofs.WhatIsHeld.{passes_by}
+use Rattle.solv_solved.proofs.solving.held_for.Goals as goal
+
+pub returns : goal.returns
+returns c =
+    let script = c.args.script in
+    let passed : first_fault (catalog_of script.task) 0 (hard_rules script.task) ≡ Some c.in-Err.fault = search rules in
+    passes_by c.args.budget script c.in-Err.fault c.in_ok-limit_due-in-Err.field-0 passed c.in_ok-limit_due-in-Err.ensures

@@ -1,0 +1,2 @@
+-- What holds inside.
+pub mod Answering

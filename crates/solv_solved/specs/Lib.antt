@@ -1,0 +1,6 @@
+pub mod Fillings
+pub mod JobRows
+pub mod Readings
+pub mod Solvings
+pub mod Texts
+pub mod Inner

@@ -1,0 +1,39 @@
+-- Texts of what an answer names.
+use Rattle.std.specs.Prelude.{ℕ, List, Option, Some, None, if◌then◌else◌, length, nat_le, slice_get}
+use Rattle.std.specs.Option.{option_map}
+use Rattle.solv_io.specs.Lines.{ended_lines}
+use Rattle.solv_pool.specs.HardRules.{hard_rules}
+use Rattle.solv_pool.specs.PackageText.{package_text}
+use Rattle.solv_pool.specs.declared.tasks.Task.{Task}
+use Rattle.solv_remedy.specs.declared.problems.Solution.{Solution}
+use Rattle.solv_lines.specs.RuleTexts.{text_of_rule}
+use Rattle.solv_lines.specs.SolutionTexts.{solution_texts}
+use Rattle.solv_solved.specs.Readings.{solution_of}
+use Rattle.solv_solved.specs.declared.outcomes.Held.{Held}
+use Rattle.solv_solved.specs.declared.outcomes.Held.TheVariants.{Answered, Refused}
+
+module _ (task : Task) where
+  -- the text of a package, `name-evr.arch@repository`, or of the system; a number that no package has has none
+  abbrev pub package_text_in : ℕ → Option (List ℕ)
+  package_text_in pack = if nat_le pack (length task.universe.packages) then Some (package_text task.pool task.universe pack) else None
+
+  -- what is said of the hard rule of this number; a number that no rule has has none
+  abbrev pub rule_text_in : ℕ → Option (List ℕ)
+  rule_text_in rule = option_map (text_of_rule task) (slice_get (hard_rules task) rule)
+
+  -- what is said of a solution: a line for each thing that it does
+  abbrev pub solution_text_in : Solution → List ℕ
+  solution_text_in solution = ended_lines (solution_texts task (hard_rules task) solution.dropped solution.set)
+
+-- the same of what is held; of a refusal nothing has a text
+abbrev pub package_text_of : Held → ℕ → Option (List ℕ)
+package_text_of (Answered solved) pack = package_text_in solved.script.task pack
+package_text_of (Refused due) pack = None
+
+abbrev pub rule_text_of : Held → ℕ → Option (List ℕ)
+rule_text_of (Answered solved) rule = rule_text_in solved.script.task rule
+rule_text_of (Refused due) rule = None
+
+abbrev pub solution_text_of : Held → ℕ → ℕ → Option (List ℕ)
+solution_text_of (Answered solved) problem solution = option_map (solution_text_in solved.script.task) (solution_of (Answered solved) problem solution)
+solution_text_of (Refused due) problem solution = None

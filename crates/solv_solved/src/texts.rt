@@ -1,0 +1,101 @@
+//! Texts of what an answer names.
+ghost use Rattle.std.specs.Prelude.{◌≡◌, ◌++◌, length, map, IfOk, OnOk};
+ghost use Rattle.solv_io.specs.Lines.{ended_lines};
+ghost use Rattle.solv_pool.specs.Belonging.{IsOver};
+ghost use Rattle.solv_solved.specs.Texts.{package_text_in, package_text_of, rule_text_in, rule_text_of, solution_text_in, solution_text_of};
+
+use crate::outcomes::Held;
+use crate::with_answer::Solved;
+use solv_lines::{rule_text, solution_lines};
+use solv_list::Bytes;
+use solv_pool::{PackNo, Task};
+use solv_remedy::Solution;
+use std::alloc::{AllocError, Global};
+
+/// The text of a package, where there is such.
+fn package_text_in(alloc: Global, task: &Task, pack: u32) -> Result<Option<Bytes>, AllocError>
+    requires { IsOver task.now.pool task.now.universe }
+    ensures { IfOk result (λ text. text ≡ package_text_in task.now pack) }
+{
+    if pack > task.universe.count() {
+        return Ok(None);
+    }
+    let mut text = Vec::new(alloc);
+    task.universe
+        .package_text(&task.pool, PackNo(pack), &mut text)?;
+    Ok(Some(Bytes::wrap(text)))
+}
+
+/// Lines in one text, each ended by a line feed.
+fn text_of_lines(alloc: Global, lines: &[Bytes]) -> Result<Bytes, AllocError>
+    ensures { IfOk result (λ text. text ≡ ended_lines lines.now) }
+{
+    let mut text = Vec::new(alloc);
+    for line in lines {
+        text.extend_from_slice(line.held())?;
+        text.push(b'\n')?;
+    }
+    Ok(Bytes::wrap(text))
+}
+
+impl Solved {
+    /// The text of a hard rule, where there is such.
+    fn rule_text(&self, alloc: Global, rule: usize) -> Result<Option<Bytes>, AllocError>
+        ensures { IfOk result (λ text. text ≡ rule_text_in self.now.script.task rule) }
+    {
+        if rule >= self.rules.list.len() {
+            return Ok(None);
+        }
+        let text = rule_text(alloc, &self.script.task, &self.prov, &self.rules, rule)?;
+        Ok(Some(text))
+    }
+
+    /// The text of a solution.
+    fn solution_text(&self, alloc: Global, solution: &Solution) -> Result<Bytes, AllocError>
+        ensures { IfOk result (λ text. text ≡ solution_text_in self.now.script.task solution.now) }
+    {
+        let (dropped, set) = (solution.dropped.held(), solution.set.held());
+        let lines = solution_lines(alloc, &self.script.task, &self.rules, dropped, set)?;
+        text_of_lines(alloc, &lines)
+    }
+}
+
+impl Held {
+    /// The text of a package, `name-evr.arch@repository`; of number 0 it is `@SYSTEM`. A number that no package has has none, nor has a refusal.
+    pub fn package_text(&self, alloc: Global, pack: u32) -> Result<Option<Bytes>, AllocError>
+        ensures { IfOk result (λ text. text ≡ package_text_of self.now pack) }
+    {
+        match self {
+            Held::Answered(solved) => package_text_in(alloc, &solved.script.task, pack),
+            Held::Refused(_) => Ok(None),
+        }
+    }
+
+    /// What is said of the hard rule of this number, where there is such.
+    pub fn rule_text(&self, alloc: Global, rule: usize) -> Result<Option<Bytes>, AllocError>
+        ensures { IfOk result (λ text. text ≡ rule_text_of self.now rule) }
+    {
+        match self {
+            Held::Answered(solved) => solved.rule_text(alloc, rule),
+            Held::Refused(_) => Ok(None),
+        }
+    }
+
+    /// What is said of a solution, a line for each thing that it does.
+    pub fn solution_text(
+        &self,
+        alloc: Global,
+        problem: usize,
+        solution: usize,
+    ) -> Result<Option<Bytes>, AllocError>
+        ensures { IfOk result (λ text. text ≡ solution_text_of self.now problem solution) }
+    {
+        match (self, self.solution(problem, solution)) {
+            (Held::Answered(solved), Some(solution)) => {
+                let text = solved.solution_text(alloc, solution)?;
+                Ok(Some(text))
+            }
+            _ => Ok(None),
+        }
+    }
+}

@@ -1,0 +1,37 @@
+//! A script with the answer to its first round.
+ghost use Rattle.std.specs.Prelude.{◌≡◌};
+ghost use Rattle.solv_pool.specs.Catalog.{catalog_of};
+ghost use Rattle.solv_pool.specs.HardRules.{hard_rules};
+ghost use Rattle.solv_pool.specs.TaskBelonging.{IsClosed};
+ghost use Rattle.solv_prov.specs.Index.{IsIndexOf};
+ghost use Rattle.solv_rules.specs.Books.{read_rules};
+
+use solv_answers::Answer;
+use solv_core::Ledger;
+use solv_pool::Rules;
+use solv_prov::Providers;
+use solv_script::Script;
+
+/// A script with the answer to its first round, what was learnt for it, the index of providers, and the hard rules of this round.
+pub struct Solved {
+    pub script: Script,
+    pub prov: Providers,
+    pub rules: Rules,
+    pub answer: Answer,
+    pub ledger: Ledger,
+    pub ghost closed: { IsClosed script.task },
+    pub ghost hard: { read_rules rules ≡ hard_rules script.task },
+    pub ghost index: { IsIndexOf prov (catalog_of script.task) },
+}
+
+impl Drop for Solved {
+    fn drop(self) {
+        let Solved {
+            script: _,
+            prov: _,
+            rules: _,
+            answer: _,
+            ledger: _,
+        } = self;
+    }
+}

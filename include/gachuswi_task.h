@@ -1,0 +1,115 @@
+/* gachuswi_task.h - an answer that is read by numbers.
+ *
+ * gachuswi_task_solve reads a script as gachuswi_run does, answers its first round, and keeps the answer as a task. The calls
+ * below read it: packages, rules, problems and solutions are numbers, and lists are copied into memory of the caller.
+ *
+ * What gachuswi.h says of threads, memory, stack and of what a caller owes holds here too, with a gachuswi_task in the place of a
+ * gachuswi_answer. Memory that a call writes (`into`, `count`, the task) is no part of what it reads, nor of each other.
+ *
+ * Packages are numbered from 1 in the order in which the repositories list them; 0 is the system. Rules are numbered from 0, and
+ * so are problems, and the solutions of each problem. Numbers are those of one answer: another call of gachuswi_task_solve gives
+ * others.
+ */
+#ifndef GACHUSWI_TASK_H
+#define GACHUSWI_TASK_H
+
+#include "gachuswi.h"
+
+#ifdef __cplusplus
+extern "C" {
+#endif
+
+/* What gachuswi_task_solve answers besides GACHUSWI_REFUSED, GACHUSWI_READ_FAULT, GACHUSWI_SPENT, GACHUSWI_NO_MEMORY and
+ * GACHUSWI_MISUSE. */
+enum {
+    GACHUSWI_TRANSACTION = 0, /* a set of packages meets all rules: see changes, order and set */
+    GACHUSWI_PROBLEMS = 9     /* no set does: see problems and solutions */
+};
+
+/* A task with its answer, or none. It owns memory, which gachuswi_task_close gives back. GACHUSWI_NONE at first. */
+typedef struct gachuswi_task {
+    void *held;
+} gachuswi_task;
+
+/* What becomes of packages. */
+enum {
+    GACHUSWI_INSTALL = 0,   /* pack comes; by is 0 */
+    GACHUSWI_ERASE = 1,     /* pack goes; by is 0 */
+    GACHUSWI_UPGRADE = 2,   /* by, of the same name and greater, comes for pack */
+    GACHUSWI_DOWNGRADE = 3, /* by, lower, comes for pack */
+    GACHUSWI_ALTER = 4,     /* by, an equal version of another architecture or vendor, comes for pack */
+    GACHUSWI_REINSTALL = 5, /* by, the same again, comes for pack */
+    GACHUSWI_OBSOLETE = 6   /* pack goes, and by obsoletes it; if by comes, it has a change of its own besides */
+};
+
+typedef struct gachuswi_change {
+    uint32_t kind;
+    uint32_t pack;
+    uint32_t by;
+} gachuswi_change;
+
+/* Reads the script of this name, one of the files, answers its first round, whatever rounds are behind it, and keeps what that comes
+ * to in place of what was kept. GACHUSWI_MISUSE is answered for a name that is not UTF-8 and a budget above 1,000,000, and in no other
+ * case; with it and with GACHUSWI_NO_MEMORY what was kept before is as it was. Any other answer is that of gachuswi_task_status. */
+int32_t gachuswi_task_solve(gachuswi_task *task, const gachuswi_file *files, size_t files_len, const uint8_t *script,
+                            size_t script_len, uint32_t budget);
+
+/* What is kept: GACHUSWI_TRANSACTION, GACHUSWI_PROBLEMS or GACHUSWI_SPENT, or a refusal: GACHUSWI_REFUSED or GACHUSWI_READ_FAULT.
+ * GACHUSWI_MISUSE where nothing is. */
+int32_t gachuswi_task_status(gachuswi_task *task);
+
+/* Lets go what is kept. It may be called again. */
+void gachuswi_task_close(gachuswi_task *task);
+
+/* ---- Each copies the first items, as many as there is room for, and answers how many there are: none where there is no such list. */
+
+/* The line on what is wrong, of a refusal. */
+size_t gachuswi_task_err(gachuswi_task *task, uint8_t *into, size_t into_len);
+
+/* What a transaction changes. */
+size_t gachuswi_task_changes(gachuswi_task *task, gachuswi_change *into, size_t into_len);
+
+/* The packages that come and those that go, in the order in which the transaction is made. */
+size_t gachuswi_task_order(gachuswi_task *task, uint32_t *into, size_t into_len);
+
+/* The packages that are there after it, with the system, ascending. */
+size_t gachuswi_task_set(gachuswi_task *task, uint32_t *into, size_t into_len);
+
+/* How many problems there are. */
+size_t gachuswi_task_problems(gachuswi_task *task);
+
+/* ---- Each answers 0, and tells in `count` how many there are; or GACHUSWI_MISUSE where the numbers name nothing, or nothing is
+ * kept, and then nothing is written. */
+
+/* The rules of a problem, ascending. */
+int32_t gachuswi_problem_rules(gachuswi_task *task, size_t problem, size_t *into, size_t into_len, size_t *count);
+
+/* How many solutions a problem has. */
+int32_t gachuswi_problem_solutions(gachuswi_task *task, size_t problem, size_t *count);
+
+/* The rules that a solution drops, ascending. */
+int32_t gachuswi_solution_rules(gachuswi_task *task, size_t problem, size_t solution, size_t *into, size_t into_len,
+                                size_t *count);
+
+/* The packages of its set, with the system, ascending. */
+int32_t gachuswi_solution_set(gachuswi_task *task, size_t problem, size_t solution, uint32_t *into, size_t into_len,
+                              size_t *count);
+
+/* ---- Texts: the same, or GACHUSWI_NO_MEMORY, and then nothing is written. No 0 byte is put behind. Each call makes the text anew.
+ * Of a refusal nothing has a text. */
+
+/* A package, as `name-evr.arch@repository`; `@SYSTEM` of 0. */
+int32_t gachuswi_package_text(gachuswi_task *task, uint32_t pack, uint8_t *into, size_t into_len, size_t *count);
+
+/* What is said of a rule, as behind ` info ` in the lines of gachuswi_out. */
+int32_t gachuswi_rule_text(gachuswi_task *task, size_t rule, uint8_t *into, size_t into_len, size_t *count);
+
+/* What is said of a solution: a line for each thing that it does, each ended by a line feed. */
+int32_t gachuswi_solution_text(gachuswi_task *task, size_t problem, size_t solution, uint8_t *into, size_t into_len,
+                               size_t *count);
+
+#ifdef __cplusplus
+}
+#endif
+
+#endif
