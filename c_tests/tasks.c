@@ -32,6 +32,10 @@ static void add(const char *line) {
     lines[line_count++] = strcpy(malloc(strlen(line) + 1), line);
 }
 
+static void drop_lines(void) {
+    while (line_count) free(lines[--line_count]);
+}
+
 static int by_bytes(const void *a, const void *b) { return strcmp(*(char *const *)a, *(char *const *)b); }
 
 static char *package(gachuswi_task *task, uint32_t pack) {
@@ -108,6 +112,47 @@ static void nothing(gachuswi_task *task) {
     claim(kept == 4711, "a count was written");
 }
 
+/* Each package is found by its text, and installed and erased by a job of its own. */
+static void anew(gachuswi_task *task) {
+    uint32_t count = gachuswi_task_packages(task), found = 4711;
+    claim(gachuswi_package_find(task, (const uint8_t *)"@SYSTEM", 7, &found) == 0 && found == 0, "the system");
+    claim(gachuswi_package_find(task, (const uint8_t *)"none", 4, &found) == GACHUSWI_MISUSE && found == 0, "no package");
+    int32_t code = gachuswi_task_status(task);
+    uint32_t wrong[2] = {1, count + 1};
+    gachuswi_job job = {12, false, false, false, wrong, 1, (const uint8_t *)"a job", 5};
+    claim(gachuswi_task_solve_again(task, &job, 1, 0) == GACHUSWI_MISUSE && gachuswi_task_status(task) == code, "no action");
+    job.action = GACHUSWI_JOB_INSTALL;
+    job.packs_len = 2;
+    claim(gachuswi_task_solve_again(task, &job, 1, 0) == GACHUSWI_MISUSE && gachuswi_task_status(task) == code, "no package");
+    wrong[0] = wrong[1] = 0;
+    claim(gachuswi_task_solve_again(task, &job, 1, 0) == GACHUSWI_MISUSE && gachuswi_task_status(task) == code, "the system");
+    claim(gachuswi_task_solve_again(task, NULL, 0, 1000001) == GACHUSWI_MISUSE && gachuswi_task_status(task) == code, "budget");
+    job.packs_len = 1;
+    for (uint32_t pack = 1; pack <= count && pack <= 20; pack++) {
+        char *text = package(task, pack);
+        claim(gachuswi_package_find(task, (const uint8_t *)text, strlen(text), &found) == 0 && found <= pack && found, "find");
+        free(text);
+        wrong[0] = pack;
+        for (uint32_t action = 0; action < 2; action++) {
+            job.action = action;
+            code = gachuswi_task_solve_again(task, &job, 1, GACHUSWI_BUDGET);
+            claim(code == gachuswi_task_status(task), "the number is not kept");
+            if (code == GACHUSWI_TRANSACTION) {
+                size_t size = gachuswi_task_set(task, NULL, 0);
+                uint32_t *set = malloc((size + 1) * sizeof *set);
+                int in_set = 0;
+                gachuswi_task_set(task, set, size);
+                for (size_t i = 0; i < size; i++) in_set |= set[i] == pack;
+                claim(in_set == (action == GACHUSWI_JOB_INSTALL), "a job is not met");
+                free(set);
+            } else if (code == GACHUSWI_PROBLEMS) {
+                for (size_t p = 0; p < gachuswi_task_problems(task); p++) problem(task, p);
+                drop_lines();
+            }
+        }
+    }
+}
+
 int main(int argc, char **argv) {
     gachuswi_file files[64];
     size_t count = (size_t)argc - 1;
@@ -130,14 +175,16 @@ int main(int argc, char **argv) {
     qsort(lines, line_count, sizeof *lines, by_bytes);
     for (size_t i = 0; i < line_count; i++)
         if (!i || strcmp(lines[i], lines[i - 1])) puts(lines[i]);
+    drop_lines();
     size_t err_len = gachuswi_task_err(&task, NULL, 0);
     uint8_t *err = malloc(err_len + 1);
     gachuswi_task_err(&task, err, err_len);
     fwrite(err, 1, err_len, stderr);
     free(err);
+    if (code == GACHUSWI_TRANSACTION || code == GACHUSWI_PROBLEMS) anew(&task);
+    else claim(gachuswi_task_solve_again(&task, NULL, 0, 0) == GACHUSWI_MISUSE, "no answer");
     gachuswi_task_close(&task);
     gachuswi_task_close(&task);
-    for (size_t i = 0; i < line_count; i++) free(lines[i]);
     for (size_t i = 0; i < count; i++) free((void *)files[i].bytes);
     return code;
 }

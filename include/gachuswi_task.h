@@ -54,6 +54,41 @@ typedef struct gachuswi_change {
 int32_t gachuswi_task_solve(gachuswi_task *task, const gachuswi_file *files, size_t files_len, const uint8_t *script,
                             size_t script_len, uint32_t budget);
 
+/* What a job does to what it selects: a resulting set holds one of it (INSTALL) or none of it (ERASE); its installed packages are updated, or
+ * upgraded with the distribution; it stays as it is (LOCK); and so on, as docs/FORMATS.md says of the actions of a `job` line. */
+enum {
+    GACHUSWI_JOB_INSTALL = 0,
+    GACHUSWI_JOB_ERASE = 1,
+    GACHUSWI_JOB_UPDATE = 2,
+    GACHUSWI_JOB_DISTUPGRADE = 3,
+    GACHUSWI_JOB_LOCK = 4,
+    GACHUSWI_JOB_VERIFY = 5,
+    GACHUSWI_JOB_MULTIVERSION = 6,
+    GACHUSWI_JOB_ALLOWUNINSTALL = 7,
+    GACHUSWI_JOB_FAVOR = 8,
+    GACHUSWI_JOB_DISFAVOR = 9,
+    GACHUSWI_JOB_USERINSTALLED = 10,
+    GACHUSWI_JOB_NOOP = 11
+};
+
+/* A job. It selects one of these packages, or all where `all` is true, whatever is listed. */
+typedef struct gachuswi_job {
+    uint32_t action;
+    bool all;
+    bool forcebest; /* the best candidate is asked for */
+    bool cleandeps; /* what nobody needs any more goes with the selection */
+    const uint32_t *packs;
+    size_t packs_len;
+    const uint8_t *text; /* what a solution calls the job that leaves it out: `deljob TEXT` */
+    size_t text_len;
+} gachuswi_job;
+
+/* Answers the task that is kept anew, with these jobs in place of its own, and all else as it was. The index that was made with the task
+ * serves again. Answers GACHUSWI_TRANSACTION, GACHUSWI_PROBLEMS or GACHUSWI_SPENT, and the new answer is kept; or GACHUSWI_REFUSED, where
+ * its clauses pass a limit; GACHUSWI_NO_MEMORY; or GACHUSWI_MISUSE, where an action is none of those above, a package is the system or none
+ * that there is, the budget is above 1,000,000, or no answer is kept. With these three the answer before is still kept. */
+int32_t gachuswi_task_solve_again(gachuswi_task *task, const gachuswi_job *jobs, size_t jobs_len, uint32_t budget);
+
 /* What is kept: GACHUSWI_TRANSACTION, GACHUSWI_PROBLEMS or GACHUSWI_SPENT, or a refusal: GACHUSWI_REFUSED or GACHUSWI_READ_FAULT.
  * GACHUSWI_MISUSE where nothing is. */
 int32_t gachuswi_task_status(gachuswi_task *task);
@@ -75,6 +110,9 @@ size_t gachuswi_task_order(gachuswi_task *task, uint32_t *into, size_t into_len)
 /* The packages that are there after it, with the system, ascending. */
 size_t gachuswi_task_set(gachuswi_task *task, uint32_t *into, size_t into_len);
 
+/* How many packages there are, besides the system. */
+uint32_t gachuswi_task_packages(gachuswi_task *task);
+
 /* How many problems there are. */
 size_t gachuswi_task_problems(gachuswi_task *task);
 
@@ -94,6 +132,9 @@ int32_t gachuswi_solution_rules(gachuswi_task *task, size_t problem, size_t solu
 /* The packages of its set, with the system, ascending. */
 int32_t gachuswi_solution_set(gachuswi_task *task, size_t problem, size_t solution, uint32_t *into, size_t into_len,
                               size_t *count);
+
+/* The number of the package with this text, as gachuswi_package_text gives it; of several the lowest. */
+int32_t gachuswi_package_find(gachuswi_task *task, const uint8_t *text, size_t text_len, uint32_t *pack);
 
 /* ---- Texts: the same, or GACHUSWI_NO_MEMORY, and then nothing is written. No 0 byte is put behind. Each call makes the text anew.
  * Of a refusal nothing has a text. */

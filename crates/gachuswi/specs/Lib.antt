@@ -3,4 +3,5 @@ pub mod Calls
 pub mod Orders
 pub mod Tasks
 pub mod TaskTexts
+pub mod TasksAnew
 pub mod Inner

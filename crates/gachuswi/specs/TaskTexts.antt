@@ -18,6 +18,15 @@ abbrev pub solution_text : Option Held → ℕ → ℕ → Option (List ℕ)
 solution_text None problem solution = None
 solution_text (Some kept) problem solution = held.solution_text_of kept problem solution
 
+-- how many packages there are besides the system, and the number of the one with a text
+abbrev pub package_count : Option Held → ℕ
+package_count None = 0
+package_count (Some kept) = held.package_count_of kept
+
+abbrev pub package_found : Option Held → List ℕ → Option ℕ
+package_found None text = None
+package_found (Some kept) text = held.package_found kept text
+
 -- A call that gives a text: its first bytes are copied, as many as there is room for, and its length is told; or its numbers name nothing; or memory ran
 -- out. The last two write nothing.
 pub data IsTextCall (text : Option (List ℕ)) (old new : List ℕ) (before told : ℕ) (code : ℤ) : Type 0 where

@@ -5,7 +5,8 @@
 //! - `gachuswi_close`: lets an answer go.
 //! - `gachuswi_task_solve`: solves such a script, and keeps its answer as a task that is read by numbers. `gachuswi_task_status`, `_err`,
 //!   `_changes`, `_order`, `_set`, `_problems`, `gachuswi_problem_rules`, `_solutions`, `gachuswi_solution_rules` and `_set` read it;
-//!   `gachuswi_package_text`, `gachuswi_rule_text` and `gachuswi_solution_text` give texts; `gachuswi_task_close` lets it go.
+//!   `gachuswi_task_packages`, `gachuswi_package_find`, `gachuswi_package_text`, `gachuswi_rule_text` and `gachuswi_solution_text` give texts; `gachuswi_task_close` lets it go.
+//! - `gachuswi_task_solve_again`: answers a task that is kept with other jobs, given by numbers.
 //! - `gachuswi_evr_compare`: how two versions compare.
 //! - `gachuswi_abi`: the number of this interface.
 //!
@@ -20,6 +21,7 @@ mod loose;
 mod task_handles;
 mod task_texts;
 mod tasks;
+mod tasks_anew;
 mod versions;
 
 pub use asking::Options;
@@ -28,11 +30,15 @@ pub use calls::{
 };
 pub use handles::{Handle, Opaque};
 pub use task_handles::TaskHandle;
-pub use task_texts::{gachuswi_package_text, gachuswi_rule_text, gachuswi_solution_text};
+pub use task_texts::{
+    gachuswi_package_find, gachuswi_package_text, gachuswi_rule_text, gachuswi_solution_text,
+    gachuswi_task_packages,
+};
 pub use tasks::{
     gachuswi_problem_rules, gachuswi_problem_solutions, gachuswi_solution_rules,
     gachuswi_solution_set, gachuswi_task_changes, gachuswi_task_close, gachuswi_task_err,
     gachuswi_task_order, gachuswi_task_problems, gachuswi_task_set, gachuswi_task_solve,
     gachuswi_task_status,
 };
+pub use tasks_anew::gachuswi_task_solve_again;
 pub use versions::gachuswi_evr_compare;

@@ -1,6 +1,8 @@
-//! The calls that give a text of a task.
+//! The calls that give texts of a task, and find a package by its text.
 ghost use Rattle.std.specs.Prelude.{◌≡◌, ℕ, List, Option, IfOk};
-ghost use Rattle.gachuswi.specs.TaskTexts.{IsTextCall, package_text, rule_text, solution_text};
+ghost use Rattle.gachuswi.specs.TaskTexts.{IsTextCall, package_count, package_found, package_text, rule_text, solution_text};
+ghost use Rattle.gachuswi.specs.Tasks.{code_of};
+ghost use Rattle.solv_solved.specs.Fillings.{number_where};
 
 use crate::task_handles::TaskHandle;
 use solv_list::Bytes;
@@ -91,4 +93,45 @@ pub extern "C" fn gachuswi_solution_text(
     let made = kept.as_ref().solution_text(alloc, problem, solution);
     task.put(kept);
     hand_out(made, into, count)
+}
+
+/// How many packages the task has, besides the system.
+#[unsafe(no_mangle)]
+pub extern "C" fn gachuswi_task_packages(alloc: Global, task: &mut TaskHandle) -> u32
+    ensures count { result ≡ package_count task.old.value }
+    ensures same { task.new.value ≡ task.old.value }
+{
+    let Some(kept) = task.take(alloc) else {
+        return 0;
+    };
+    let count = kept.as_ref().package_count();
+    task.put(kept);
+    count
+}
+
+/// Tells the number of the package with this text, the lowest of several, and of the system 0. Where no package has it, nothing is
+/// written, and the call was made wrongly.
+#[unsafe(no_mangle)]
+pub extern "C" fn gachuswi_package_find(
+    alloc: Global,
+    task: &mut TaskHandle,
+    text: &[u8],
+    pack: &mut u32,
+) -> i32
+    ensures code { result ≡ code_of (package_found task.old.value text.now) }
+    ensures told { pack.new ≡ number_where (package_found task.old.value text.now) pack.old }
+    ensures same { task.new.value ≡ task.old.value }
+{
+    let Some(kept) = task.take(alloc) else {
+        return MISUSED;
+    };
+    let found = kept.as_ref().find_package(text);
+    task.put(kept);
+    match found {
+        Some(number) => {
+            *pack = number.0;
+            DONE
+        }
+        None => MISUSED,
+    }
 }

@@ -1,3 +1,4 @@
+pub mod Anew
 pub mod Fillings
 pub mod JobRows
 pub mod Readings

@@ -3,6 +3,7 @@ use Rattle.std.specs.Prelude.{ℕ, List, Option, Some, None, if◌then◌else◌
 use Rattle.std.specs.Option.{option_map}
 use Rattle.solv_io.specs.Lines.{ended_lines}
 use Rattle.solv_pool.specs.HardRules.{hard_rules}
+use Rattle.solv_pool.specs.Inner.PackageText.{found}
 use Rattle.solv_pool.specs.PackageText.{package_text}
 use Rattle.solv_pool.specs.declared.tasks.Task.{Task}
 use Rattle.solv_remedy.specs.declared.problems.Solution.{Solution}
@@ -24,6 +25,15 @@ module _ (task : Task) where
   -- what is said of a solution: a line for each thing that it does
   abbrev pub solution_text_in : Solution → List ℕ
   solution_text_in solution = ended_lines (solution_texts task (hard_rules task) solution.dropped solution.set)
+
+-- how many packages there are besides the system, and the number of the one with a text, the lowest of several
+abbrev pub package_count_of : Held → ℕ
+package_count_of (Answered solved) = length solved.script.task.universe.packages
+package_count_of (Refused due) = 0
+
+abbrev pub package_found : Held → List ℕ → Option ℕ
+package_found (Answered solved) text = found solved.script.task.pool solved.script.task.universe text
+package_found (Refused due) text = None
 
 -- the same of what is held; of a refusal nothing has a text
 abbrev pub package_text_of : Held → ℕ → Option (List ℕ)

@@ -6,6 +6,7 @@
 //! - [`Solved`]: the script with its answer, and the index for texts. What is known of them is kept with it.
 //! - The methods of [`Held`] lend what an answer has: changes, order, set, problems and their solutions; those that are called `read_..` copy
 //!   what numbers name into a caller's room.
+//! - `Held::solve_again`: answers the task anew with other jobs, given as [`JobRow`]s, over the index that is there; how that ended is an [`Again`].
 //! - [`fill`], [`fill_packs`] and [`fill_changes`]: copy the first items of a list, as many as there is room for. [`PackChange`] is a
 //!   change as C lays it out.
 //!
@@ -13,6 +14,7 @@
 //! what is copied.
 #![tactic(auto)]
 
+mod anew;
 mod filling;
 mod handing;
 mod job_row;
@@ -25,6 +27,7 @@ mod solving;
 mod texts;
 mod with_answer;
 
+pub use anew::Again;
 pub use filling::{fill, fill_changes, fill_packs};
 pub use job_row::JobRow;
 pub use lending::solve_lent;

@@ -30,9 +30,9 @@ const PROGRAM: &str = "gachuswi";
 
 /// An answer, and the hard rules of its task.
 #[derive(Drop)]
-struct WithRules {
-    answered: Answered,
-    rules: Rules,
+pub(crate) struct WithRules {
+    pub(crate) answered: Answered,
+    pub(crate) rules: Rules,
 }
 
 /// The rules that a task was prepared with, which are taken out.
@@ -75,7 +75,7 @@ fn answer_with_rules(
 }
 
 /// The answer to a task by its index, with its hard rules; or the first limit that its clauses pass.
-fn answer_of(
+pub(crate) fn answer_of(
     alloc: Global,
     task: &Task,
     prov: &Providers,
@@ -129,6 +129,7 @@ fn index_and_answer(
 /// A script with its answer.
 fn solved(script: Script, prov: Providers, given: WithRules, budget: u32) -> Held
     requires closed { IsClosed script.task }
+    requires forms { HasForms script.task }
     requires index { IsIndexOf prov (catalog_of script.task) }
     requires good { IsAnswered script.task budget given.answered.answer given.answered.ledger }
     requires direct { IsTransactionUnlessChoicesClash script.task given.answered.answer }

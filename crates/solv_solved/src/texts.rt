@@ -2,7 +2,7 @@
 ghost use Rattle.std.specs.Prelude.{◌≡◌, ◌++◌, length, map, IfOk, OnOk};
 ghost use Rattle.solv_io.specs.Lines.{ended_lines};
 ghost use Rattle.solv_pool.specs.Belonging.{IsOver};
-ghost use Rattle.solv_solved.specs.Texts.{package_text_in, package_text_of, rule_text_in, rule_text_of, solution_text_in, solution_text_of};
+ghost use Rattle.solv_solved.specs.Texts.{package_count_of, package_found, package_text_in, package_text_of, rule_text_in, rule_text_of, solution_text_in, solution_text_of};
 
 use crate::outcomes::Held;
 use crate::with_answer::Solved;
@@ -61,6 +61,29 @@ impl Solved {
 }
 
 impl Held {
+    /// How many packages there are besides the system. A refusal has none.
+    pub fn package_count(&self) -> u32
+        ensures { result ≡ package_count_of self.now }
+    {
+        match self {
+            Held::Answered(solved) => solved.script.task.universe.count(),
+            Held::Refused(_) => 0,
+        }
+    }
+
+    /// The number of the package with this text, the lowest of several; of the system 0.
+    pub fn find_package(&self, text: &[u8]) -> Option<PackNo>
+        ensures { result ≡ package_found self.now text.now }
+    {
+        match self {
+            Held::Answered(solved) => {
+                let task = &solved.script.task;
+                task.universe.find(&task.pool, text)
+            }
+            Held::Refused(_) => None,
+        }
+    }
+
     /// The text of a package, `name-evr.arch@repository`; of number 0 it is `@SYSTEM`. A number that no package has has none, nor has a refusal.
     pub fn package_text(&self, alloc: Global, pack: u32) -> Result<Option<Bytes>, AllocError>
         ensures { IfOk result (λ text. text ≡ package_text_of self.now pack) }

@@ -3,6 +3,7 @@ ghost use Rattle.std.specs.Prelude.{◌≡◌};
 ghost use Rattle.solv_pool.specs.Catalog.{catalog_of};
 ghost use Rattle.solv_pool.specs.HardRules.{hard_rules};
 ghost use Rattle.solv_pool.specs.TaskBelonging.{IsClosed};
+ghost use Rattle.solv_pool.specs.TaskForms.{HasForms};
 ghost use Rattle.solv_prov.specs.Index.{IsIndexOf};
 ghost use Rattle.solv_rules.specs.Books.{read_rules};
 
@@ -20,6 +21,7 @@ pub struct Solved {
     pub answer: Answer,
     pub ledger: Ledger,
     pub ghost closed: { IsClosed script.task },
+    pub ghost forms: { HasForms script.task },
     pub ghost hard: { read_rules rules ≡ hard_rules script.task },
     pub ghost index: { IsIndexOf prov (catalog_of script.task) },
 }

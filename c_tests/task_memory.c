@@ -1,0 +1,139 @@
+/* task_memory SCRIPT FILE ..: refuses memory at each allocation of the calls for a task in turn, once that one alone and once all from it on, and
+ * tells of each call that does otherwise than it should: answer GACHUSWI_NO_MEMORY, leave what was kept, and hold no more memory than
+ * before. It is linked with -Wl,--wrap=malloc,--wrap=realloc,--wrap=free, so that it sees the calls that the library makes. */
+#include "gachuswi_task.h"
+#include <stdio.h>
+#include <stdlib.h>
+
+void *__real_malloc(size_t);
+void *__real_realloc(void *, size_t);
+void __real_free(void *);
+
+/* how many allocations are let through before one is refused, and whether all behind it are refused too */
+static unsigned long granted, failed, calls;
+static bool counts, refuses_all, was_refused;
+static long blocks;
+
+static bool is_refused(void) {
+    if (!counts) return false;
+    if (granted > 0) {
+        granted--;
+        return false;
+    }
+    if (was_refused && !refuses_all) return false;
+    was_refused = true;
+    return true;
+}
+
+void *__wrap_malloc(size_t size) {
+    if (is_refused()) return NULL;
+    void *made = __real_malloc(size);
+    blocks += made != NULL;
+    return made;
+}
+
+void *__wrap_realloc(void *old, size_t size) {
+    if (is_refused()) return NULL;
+    void *made = __real_realloc(old, size);
+    blocks += old == NULL && made != NULL;
+    return made;
+}
+
+void __wrap_free(void *old) {
+    blocks -= old != NULL;
+    __real_free(old);
+}
+
+static gachuswi_file files[64];
+static size_t file_count;
+static uint32_t first_pack[1] = {1};
+static gachuswi_job erase = {GACHUSWI_JOB_ERASE, false, false, false, first_pack, 1, NULL, 0};
+
+static int32_t solve(gachuswi_task *task) {
+    return gachuswi_task_solve(task, files, file_count, files[0].name, files[0].name_len, GACHUSWI_BUDGET);
+}
+
+static int32_t again(gachuswi_task *task) { return gachuswi_task_solve_again(task, &erase, 1, GACHUSWI_BUDGET); }
+
+static uint8_t room[100000];
+
+static int32_t package_text(gachuswi_task *task) {
+    size_t count = 4711;
+    int32_t code = gachuswi_package_text(task, 1, room, sizeof room, &count);
+    if (code == GACHUSWI_NO_MEMORY && count != 4711) failed++;
+    return code;
+}
+
+static int32_t solution_text(gachuswi_task *task) {
+    size_t count = 4711;
+    int32_t code = gachuswi_solution_text(task, 0, 0, room, sizeof room, &count);
+    if (code == GACHUSWI_NO_MEMORY && count != 4711) failed++;
+    return code;
+}
+
+static int32_t rule_text(gachuswi_task *task) {
+    size_t count = 4711;
+    int32_t code = gachuswi_rule_text(task, 0, room, sizeof room, &count);
+    if (code == GACHUSWI_NO_MEMORY && count != 4711) failed++;
+    return code;
+}
+
+/* What is kept, in one number. */
+static unsigned long kept(gachuswi_task *task) {
+    static gachuswi_change changes[1000];
+    unsigned long sum = (unsigned long)gachuswi_task_status(task);
+    size_t count = gachuswi_task_changes(task, changes, 1000), rules = 0;
+    for (size_t i = 0; i < count && i < 1000; i++) sum = sum * 31 + changes[i].kind * 7 + changes[i].pack * 3 + changes[i].by;
+    for (size_t p = 0; p < gachuswi_task_problems(task); p++)
+        if (!gachuswi_problem_rules(task, p, NULL, 0, &rules)) sum = sum * 31 + rules;
+    return sum * 31 + gachuswi_task_set(task, NULL, 0) + gachuswi_task_err(task, NULL, 0);
+}
+
+static void refuse(const char *name, gachuswi_task *task, int32_t (*call)(gachuswi_task *)) {
+    for (int all = 0; all < 2; all++) {
+        for (unsigned long k = 0;; k++) {
+            unsigned long before = kept(task);
+            long held = blocks;
+            counts = true, refuses_all = all, was_refused = false, granted = k;
+            int32_t code = call(task);
+            counts = false;
+            if (!was_refused) break;
+            calls++;
+            if (code != GACHUSWI_NO_MEMORY || kept(task) != before || blocks != held) {
+                printf("%s, allocation %lu%s: %d, %s, %ld blocks more\n", name, k + 1, all ? " and all behind it" : "", (int)code,
+                       kept(task) == before ? "the same" : "another answer", blocks - held);
+                failed++;
+            }
+        }
+    }
+}
+
+int main(int argc, char **argv) {
+    gachuswi_task task = GACHUSWI_NONE;
+    for (int i = 1; i < argc && i <= 64; i++) {
+        FILE *from = fopen(argv[i], "rb");
+        long len = 0;
+        if (!from || fseek(from, 0, SEEK_END) || (len = ftell(from)) < 0) return 2;
+        char *bytes = malloc((size_t)len + 1);
+        rewind(from);
+        if (!bytes || fread(bytes, 1, (size_t)len, from) != (size_t)len) return 2;
+        fclose(from);
+        files[file_count++] = gachuswi_lend(argv[i], bytes, (size_t)len);
+    }
+    long held = blocks;
+    refuse("solve", &task, solve);
+    refuse("solve with an answer before", &task, solve);
+    refuse("a package's text", &task, package_text);
+    refuse("a rule's text", &task, rule_text);
+    refuse("a solution's text", &task, solution_text);
+    refuse("solve again", &task, again);
+    refuse("a solution's text", &task, solution_text);
+    gachuswi_task_close(&task);
+    if (blocks != held) {
+        printf("%ld blocks are left\n", blocks - held);
+        failed++;
+    }
+    fprintf(stderr, "%lu calls without memory\n", calls);
+    for (size_t i = 0; i < file_count; i++) free((void *)files[i].bytes);
+    return failed != 0;
+}

@@ -1,0 +1,54 @@
+//! The call that answers a task anew.
+ghost use Rattle.std.specs.Prelude.{◌≤◌, Some};
+ghost use Rattle.gachuswi.specs.TasksAnew.{IsAgainCall};
+
+use crate::task_handles::TaskHandle;
+use solv_solved::{Again, Held, JobRow};
+use std::alloc::Global;
+
+/// What a call answers where the clauses pass a limit.
+const REFUSED: i32 = 2;
+
+/// What a call answers where memory ran out.
+const NO_MEMORY: i32 = 6;
+
+/// What a call answers that was made wrongly.
+const MISUSED: i32 = 8;
+
+/// The greatest budget.
+const MOST_LEARNT: u32 = 1_000_000;
+
+/// Answers what is held anew, and gives the number of how that ended.
+fn again(alloc: Global, held: &mut Held, rows: &[JobRow], budget: u32) -> i32
+    requires { budget ≤ 1000000 }
+    ensures { IsAgainCall budget rows.now (Some held.old) (Some held.new) result }
+{
+    match held.solve_again(alloc, rows, budget) {
+        Ok(Again::Answered) => held.number() as i32,
+        Ok(Again::Passes) => REFUSED,
+        Ok(Again::Misused) => MISUSED,
+        Err(_) => NO_MEMORY,
+    }
+}
+
+/// Answers the task that is kept anew, with these jobs in place of its own, over the index that was made with it. The answer is the new
+/// answer's number; where there is none, nothing of what was kept has changed.
+#[unsafe(no_mangle)]
+pub extern "C" fn gachuswi_task_solve_again(
+    alloc: Global,
+    task: &mut TaskHandle,
+    jobs: &[JobRow],
+    budget: u32,
+) -> i32
+    ensures { IsAgainCall budget jobs.now task.old.value task.new.value result }
+{
+    if budget > MOST_LEARNT {
+        return MISUSED;
+    }
+    let Some(mut kept) = task.take(alloc) else {
+        return MISUSED;
+    };
+    let number = again(alloc, kept.as_mut(), jobs, budget);
+    task.put(kept);
+    number
+}

@@ -1,0 +1,68 @@
+-- A task with other jobs.
+use Rattle.std.proofs.Common.{◌≡◌, ℕ, Bool, true, false, None, List, [], ◌∷◌, length, map, refl, sym, subst}
+use Rattle.std.specs.List.{list_all}
+use Rattle.std.proofs.lemmas.Bool.{and_parts, and_from}
+use Rattle.std.specs.Prelude.{nat_lt, if◌then◌else◌}
+use Rattle.solv_pool.specs.Catalog.{Catalog, catalog_of}
+use Rattle.solv_pool.specs.HardRules.{hard_rules}
+use Rattle.solv_pool.specs.TaskBelonging.{IsClosed, choice_fits}
+use Rattle.solv_pool.specs.TaskForms.{HasForms, is_formed_choice}
+use Rattle.solv_pool.specs.declared.jobs.Choice.TheVariants.{All, OneOf}
+use Rattle.solv_pool.specs.declared.jobs.Job.{Job}
+use Rattle.solv_pool.specs.declared.tasks.Task.{Task}
+use Rattle.solv_rules.specs.Books.{IsDue, first_fault}
+use Rattle.solv_rules.specs.declared.fault.BookFault.{BookFault}
+use Rattle.solv_script.specs.declared.scripts.Script.{Script}
+use Rattle.solv_answers.specs.Answers.{IsAnswered, IsTransactionUnlessChoicesClash}
+use Rattle.solv_solved.specs.Anew.{IsSame}
+use Rattle.solv_solved.specs.JobRows.{are_rows, is_number_of, is_row, job_of, with_rows}
+use Rattle.solv_solved.specs.Solvings.{IsSolved}
+use Rattle.solv_solved.specs.declared.job_row.JobRow.{JobRow}
+use Rattle.solv_solved.specs.declared.with_answer.Solved.{Solved}
+
+-- a task and a script with these jobs
+abbrev pub task_with : Task → List Job → Task
+task_with task jobs = record task { jobs = jobs }
+
+abbrev pub script_with : Script → List Job → Script
+script_with script jobs = record script { task = task_with script.task jobs }
+
+numbers_fit : (nodes count : ℕ) (all : Bool) (packs : List ℕ) → list_all (is_number_of count) packs ≡ true → choice_fits nodes count (if all then All else OneOf packs) ≡ true
+numbers_fit nodes count true packs within = refl
+numbers_fit nodes count false packs within = within
+
+rows_fit : (nodes count : ℕ) (rows : List JobRow) → are_rows count rows ≡ true → list_all (λ (job : Job). choice_fits nodes count job.choice) (map job_of rows) ≡ true
+rows_fit nodes count [] good = refl
+rows_fit nodes count (row ∷ rows) good =
+    let parts = and_parts (is_row count row) (are_rows count rows) good in
+    let within = (and_parts (nat_lt row.action 12) (list_all (is_number_of count) row.packs.now) parts.0).1 in
+    and_from (choice_fits nodes count (job_of row).choice) (list_all (λ (job : Job). choice_fits nodes count job.choice) (map job_of rows)) (numbers_fit nodes count row.all row.packs.now within) (rows_fit nodes count rows parts.1)
+
+choice_formed : (catalog : Catalog) (all : Bool) (packs : List ℕ) → is_formed_choice catalog (if all then All else OneOf packs) ≡ true
+choice_formed catalog true packs = refl
+choice_formed catalog false packs = refl
+
+rows_formed : (catalog : Catalog) (rows : List JobRow) → list_all (λ (job : Job). is_formed_choice catalog job.choice) (map job_of rows) ≡ true
+rows_formed catalog [] = refl
+rows_formed catalog (row ∷ rows) =
+    and_from (is_formed_choice catalog (job_of row).choice) (list_all (λ (job : Job). is_formed_choice catalog job.choice) (map job_of rows)) (choice_formed catalog row.all row.packs.now) (rows_formed catalog rows)
+
+module _ (task : Task) (rows : List JobRow) (jobs : List Job) (is : jobs ≡ map job_of rows) where
+  pub closed_anew : IsClosed task → are_rows (length task.universe.packages) rows ≡ true → IsClosed (task_with task jobs)
+  closed_anew closed good = subst (λ (j : List Job). IsClosed (task_with task j)) (sym is)
+      (record { universe = closed.universe; namespaces = closed.namespaces; jobs = rows_fit (length task.pool.nodes) (length task.universe.packages) rows good })
+
+  pub forms_anew : HasForms task → HasForms (task_with task jobs)
+  forms_anew forms = subst (λ (j : List Job). HasForms (task_with task j)) (sym is) (record { packages = forms.packages; jobs = rows_formed (catalog_of task) rows })
+
+module _ (script : Script) (rows : List JobRow) (jobs : List Job) (is : jobs ≡ map job_of rows) where
+  pub solved_anew : (budget : ℕ) (new : Solved) → new.script ≡ script_with script jobs → first_fault (catalog_of (task_with script.task jobs)) 0 (hard_rules (task_with script.task jobs)) ≡ None
+      → IsAnswered (task_with script.task jobs) budget new.answer new.ledger → IsTransactionUnlessChoicesClash (task_with script.task jobs) new.answer → IsSolved budget (with_rows script rows) new
+  solved_anew budget new same fits good direct = subst (λ (j : List Job). IsSolved budget (script_with script j) new) is (record { of_script = same; fits = fits; good = good; direct = direct })
+
+  pub due_anew : (fault : BookFault) → IsDue (first_fault (catalog_of (task_with script.task jobs)) 0 (hard_rules (task_with script.task jobs))) fault
+      → IsDue (first_fault (catalog_of (with_rows script rows).task) 0 (hard_rules (with_rows script rows).task)) fault
+  due_anew fault due = subst (λ (j : List Job). IsDue (first_fault (catalog_of (task_with script.task j)) 0 (hard_rules (task_with script.task j))) fault) is due
+
+pub same_self : (solved : Solved) → IsSame solved solved
+same_self solved = record { script = refl; prov = refl; rules = refl; answer = refl; ledger = refl }
