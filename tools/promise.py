@@ -33,6 +33,9 @@ CALLS = {
     "c": (
         ("gachuswi", "calls", tuple(f"gachuswi_{it}" for it in ("abi", "run", "status", "out", "err", "close"))),
         ("gachuswi", "versions", ("gachuswi_evr_compare",)),
+        ("gachuswi", "tasks", tuple(f"gachuswi_{it}" for it in ("task_solve", "task_status", "task_err", "task_changes", "task_order", "task_set", "task_problems", "problem_rules", "problem_solutions", "solution_rules", "solution_set", "task_close"))),
+        ("gachuswi", "task_texts", tuple(f"gachuswi_{it}" for it in ("package_text", "rule_text", "solution_text", "task_packages", "package_find"))),
+        ("gachuswi", "tasks_anew", ("gachuswi_task_solve_again",)),
     ),
 }
 # modules that stand apart and are read with a promise: the number of each status
