@@ -44,6 +44,7 @@ void __wrap_free(void *old) {
     __real_free(old);
 }
 
+static const gachuswi_flags flags = GACHUSWI_FLAGS;
 static gachuswi_file files[64];
 static size_t file_count;
 static uint32_t first_pack[1] = {1};
@@ -53,7 +54,7 @@ static int32_t solve(gachuswi_task *task) {
     return gachuswi_task_solve(task, files, file_count, files[0].name, files[0].name_len, GACHUSWI_BUDGET);
 }
 
-static int32_t again(gachuswi_task *task) { return gachuswi_task_solve_again(task, &erase, 1, GACHUSWI_BUDGET); }
+static int32_t again(gachuswi_task *task) { return gachuswi_task_solve_again(task, &flags, &erase, 1, GACHUSWI_BUDGET); }
 
 static uint8_t room[100000];
 

@@ -4,6 +4,7 @@
 #include <stdio.h>
 #include <stdlib.h>
 
+static const gachuswi_flags flags = GACHUSWI_FLAGS;
 static const char *kinds[] = {"install", "erase", "upgrade", "downgrade", "change", "reinstall", "obsolete"};
 
 static void claim(int holds, const char *what) {
@@ -120,13 +121,13 @@ static void anew(gachuswi_task *task) {
     int32_t code = gachuswi_task_status(task);
     uint32_t wrong[2] = {1, count + 1};
     gachuswi_job job = {12, false, false, false, wrong, 1, (const uint8_t *)"a job", 5};
-    claim(gachuswi_task_solve_again(task, &job, 1, 0) == GACHUSWI_MISUSE && gachuswi_task_status(task) == code, "no action");
+    claim(gachuswi_task_solve_again(task, &flags, &job, 1, 0) == GACHUSWI_MISUSE && gachuswi_task_status(task) == code, "no action");
     job.action = GACHUSWI_JOB_INSTALL;
     job.packs_len = 2;
-    claim(gachuswi_task_solve_again(task, &job, 1, 0) == GACHUSWI_MISUSE && gachuswi_task_status(task) == code, "no package");
+    claim(gachuswi_task_solve_again(task, &flags, &job, 1, 0) == GACHUSWI_MISUSE && gachuswi_task_status(task) == code, "no package");
     wrong[0] = wrong[1] = 0;
-    claim(gachuswi_task_solve_again(task, &job, 1, 0) == GACHUSWI_MISUSE && gachuswi_task_status(task) == code, "the system");
-    claim(gachuswi_task_solve_again(task, NULL, 0, 1000001) == GACHUSWI_MISUSE && gachuswi_task_status(task) == code, "budget");
+    claim(gachuswi_task_solve_again(task, &flags, &job, 1, 0) == GACHUSWI_MISUSE && gachuswi_task_status(task) == code, "the system");
+    claim(gachuswi_task_solve_again(task, &flags, NULL, 0, 1000001) == GACHUSWI_MISUSE && gachuswi_task_status(task) == code, "budget");
     job.packs_len = 1;
     for (uint32_t pack = 1; pack <= count && pack <= 20; pack++) {
         char *text = package(task, pack);
@@ -135,7 +136,7 @@ static void anew(gachuswi_task *task) {
         wrong[0] = pack;
         for (uint32_t action = 0; action < 2; action++) {
             job.action = action;
-            code = gachuswi_task_solve_again(task, &job, 1, GACHUSWI_BUDGET);
+            code = gachuswi_task_solve_again(task, &flags, &job, 1, GACHUSWI_BUDGET);
             claim(code == gachuswi_task_status(task), "the number is not kept");
             if (code == GACHUSWI_TRANSACTION) {
                 size_t size = gachuswi_task_set(task, NULL, 0);
@@ -182,7 +183,7 @@ int main(int argc, char **argv) {
     fwrite(err, 1, err_len, stderr);
     free(err);
     if (code == GACHUSWI_TRANSACTION || code == GACHUSWI_PROBLEMS) anew(&task);
-    else claim(gachuswi_task_solve_again(&task, NULL, 0, 0) == GACHUSWI_MISUSE, "no answer");
+    else claim(gachuswi_task_solve_again(&task, &flags, NULL, 0, 0) == GACHUSWI_MISUSE, "no answer");
     gachuswi_task_close(&task);
     gachuswi_task_close(&task);
     for (size_t i = 0; i < count; i++) free((void *)files[i].bytes);

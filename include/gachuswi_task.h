@@ -83,11 +83,25 @@ typedef struct gachuswi_job {
     size_t text_len;
 } gachuswi_job;
 
-/* Answers the task that is kept anew, with these jobs in place of its own, and all else as it was. The index that was made with the task
+/* What a solver may change, and what it looks at. A script that says nothing of it has allow_name_change alone. */
+typedef struct gachuswi_flags {
+    bool allow_downgrade;
+    bool allow_name_change;
+    bool allow_arch_change;
+    bool allow_vendor_change;
+    bool allow_uninstall;
+    bool ignore_recommended;
+    bool no_infarch_check;
+} gachuswi_flags;
+
+#define GACHUSWI_FLAGS {false, true, false, false, false, false, false}
+
+/* Answers the task that is kept anew, with these flags and jobs in place of its own, and all else as it was. The index that was made with the task
  * serves again. Answers GACHUSWI_TRANSACTION, GACHUSWI_PROBLEMS or GACHUSWI_SPENT, and the new answer is kept; or GACHUSWI_REFUSED, where
  * its clauses pass a limit; GACHUSWI_NO_MEMORY; or GACHUSWI_MISUSE, where an action is none of those above, a package is the system or none
  * that there is, the budget is above 1,000,000, or no answer is kept. With these three the answer before is still kept. */
-int32_t gachuswi_task_solve_again(gachuswi_task *task, const gachuswi_job *jobs, size_t jobs_len, uint32_t budget);
+int32_t gachuswi_task_solve_again(gachuswi_task *task, const gachuswi_flags *flags, const gachuswi_job *jobs, size_t jobs_len,
+                                  uint32_t budget);
 
 /* What is kept: GACHUSWI_TRANSACTION, GACHUSWI_PROBLEMS or GACHUSWI_SPENT, or a refusal: GACHUSWI_REFUSED or GACHUSWI_READ_FAULT.
  * GACHUSWI_MISUSE where nothing is. */

@@ -3,7 +3,7 @@ ghost use Rattle.std.specs.Prelude.{◌≤◌, Some};
 ghost use Rattle.gachuswi.specs.TasksAnew.{IsAgainCall};
 
 use crate::task_handles::TaskHandle;
-use solv_solved::{Again, Held, JobRow};
+use solv_solved::{Again, FlagRow, Held, JobRow};
 use std::alloc::Global;
 
 /// What a call answers where the clauses pass a limit.
@@ -19,11 +19,11 @@ const MISUSED: i32 = 8;
 const MOST_LEARNT: u32 = 1_000_000;
 
 /// Answers what is held anew, and gives the number of how that ended.
-fn again(alloc: Global, held: &mut Held, rows: &[JobRow], budget: u32) -> i32
+fn again(alloc: Global, held: &mut Held, flags: &FlagRow, rows: &[JobRow], budget: u32) -> i32
     requires { budget ≤ 1000000 }
-    ensures { IsAgainCall budget rows.now (Some held.old) (Some held.new) result }
+    ensures { IsAgainCall budget flags.now rows.now (Some held.old) (Some held.new) result }
 {
-    match held.solve_again(alloc, rows, budget) {
+    match held.solve_again(alloc, flags, rows, budget) {
         Ok(Again::Answered) => held.number() as i32,
         Ok(Again::Passes) => REFUSED,
         Ok(Again::Misused) => MISUSED,
@@ -31,16 +31,17 @@ fn again(alloc: Global, held: &mut Held, rows: &[JobRow], budget: u32) -> i32
     }
 }
 
-/// Answers the task that is kept anew, with these jobs in place of its own, over the index that was made with it. The answer is the new
+/// Answers the task that is kept anew, with these flags and jobs in place of its own, over the index that was made with it. The answer is the new
 /// answer's number; where there is none, nothing of what was kept has changed.
 #[unsafe(no_mangle)]
 pub extern "C" fn gachuswi_task_solve_again(
     alloc: Global,
     task: &mut TaskHandle,
+    flags: &FlagRow,
     jobs: &[JobRow],
     budget: u32,
 ) -> i32
-    ensures { IsAgainCall budget jobs.now task.old.value task.new.value result }
+    ensures { IsAgainCall budget flags.now jobs.now task.old.value task.new.value result }
 {
     if budget > MOST_LEARNT {
         return MISUSED;
@@ -48,7 +49,7 @@ pub extern "C" fn gachuswi_task_solve_again(
     let Some(mut kept) = task.take(alloc) else {
         return MISUSED;
     };
-    let number = again(alloc, kept.as_mut(), jobs, budget);
+    let number = again(alloc, kept.as_mut(), flags, jobs, budget);
     task.put(kept);
     number
 }

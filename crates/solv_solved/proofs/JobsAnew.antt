@@ -15,17 +15,19 @@ use Rattle.solv_rules.specs.declared.fault.BookFault.{BookFault}
 use Rattle.solv_script.specs.declared.scripts.Script.{Script}
 use Rattle.solv_answers.specs.Answers.{IsAnswered, IsTransactionUnlessChoicesClash}
 use Rattle.solv_solved.specs.Anew.{IsSame}
-use Rattle.solv_solved.specs.JobRows.{are_rows, is_number_of, is_row, job_of, with_rows}
+use Rattle.solv_solved.specs.JobRows.{are_rows, is_number_of, flags_of, is_row, job_of, with_rows}
 use Rattle.solv_solved.specs.Solvings.{IsSolved}
+use Rattle.solv_pool.specs.declared.tasks.Flags.{Flags}
+use Rattle.solv_solved.specs.declared.flag_row.FlagRow.{FlagRow}
 use Rattle.solv_solved.specs.declared.job_row.JobRow.{JobRow}
 use Rattle.solv_solved.specs.declared.with_answer.Solved.{Solved}
 
 -- a task and a script with these jobs
-abbrev pub task_with : Task → List Job → Task
-task_with task jobs = record task { jobs = jobs }
+abbrev pub task_with : Task → Flags → List Job → Task
+task_with task flags jobs = record task { flags = flags; jobs = jobs }
 
-abbrev pub script_with : Script → List Job → Script
-script_with script jobs = record script { task = task_with script.task jobs }
+abbrev pub script_with : Script → Flags → List Job → Script
+script_with script flags jobs = record script { task = task_with script.task flags jobs }
 
 numbers_fit : (nodes count : ℕ) (all : Bool) (packs : List ℕ) → list_all (is_number_of count) packs ≡ true → choice_fits nodes count (if all then All else OneOf packs) ≡ true
 numbers_fit nodes count true packs within = refl
@@ -47,22 +49,30 @@ rows_formed catalog [] = refl
 rows_formed catalog (row ∷ rows) =
     and_from (is_formed_choice catalog (job_of row).choice) (list_all (λ (job : Job). is_formed_choice catalog job.choice) (map job_of rows)) (choice_formed catalog row.all row.packs.now) (rows_formed catalog rows)
 
-module _ (task : Task) (rows : List JobRow) (jobs : List Job) (is : jobs ≡ map job_of rows) where
-  pub closed_anew : IsClosed task → are_rows (length task.universe.packages) rows ≡ true → IsClosed (task_with task jobs)
-  closed_anew closed good = subst (λ (j : List Job). IsClosed (task_with task j)) (sym is)
+module _ (task : Task) (flags : Flags) (rows : List JobRow) (jobs : List Job) (is : jobs ≡ map job_of rows) where
+  pub closed_anew : IsClosed task → are_rows (length task.universe.packages) rows ≡ true → IsClosed (task_with task flags jobs)
+  closed_anew closed good = subst (λ (j : List Job). IsClosed (task_with task flags j)) (sym is)
       (record { universe = closed.universe; namespaces = closed.namespaces; jobs = rows_fit (length task.pool.nodes) (length task.universe.packages) rows good })
 
-  pub forms_anew : HasForms task → HasForms (task_with task jobs)
-  forms_anew forms = subst (λ (j : List Job). HasForms (task_with task j)) (sym is) (record { packages = forms.packages; jobs = rows_formed (catalog_of task) rows })
+  pub forms_anew : HasForms task → HasForms (task_with task flags jobs)
+  forms_anew forms = subst (λ (j : List Job). HasForms (task_with task flags j)) (sym is) (record { packages = forms.packages; jobs = rows_formed (catalog_of task) rows })
 
-module _ (script : Script) (rows : List JobRow) (jobs : List Job) (is : jobs ≡ map job_of rows) where
-  pub solved_anew : (budget : ℕ) (new : Solved) → new.script ≡ script_with script jobs → first_fault (catalog_of (task_with script.task jobs)) 0 (hard_rules (task_with script.task jobs)) ≡ None
-      → IsAnswered (task_with script.task jobs) budget new.answer new.ledger → IsTransactionUnlessChoicesClash (task_with script.task jobs) new.answer → IsSolved budget (with_rows script rows) new
-  solved_anew budget new same fits good direct = subst (λ (j : List Job). IsSolved budget (script_with script j) new) is (record { of_script = same; fits = fits; good = good; direct = direct })
+module _ (script : Script) (row : FlagRow) (rows : List JobRow) (flags : Flags) (jobs : List Job) (same_flags : flags ≡ flags_of row) (is : jobs ≡ map job_of rows) where
+  -- what holds with the flags and jobs that are there holds with those that were given
+  given : (P : Flags → List Job → Type 0) → P flags jobs → P (flags_of row) (map job_of rows)
+  given P h = subst (λ (j : List Job). P (flags_of row) j) is (subst (λ (f : Flags). P f jobs) same_flags h)
 
-  pub due_anew : (fault : BookFault) → IsDue (first_fault (catalog_of (task_with script.task jobs)) 0 (hard_rules (task_with script.task jobs))) fault
-      → IsDue (first_fault (catalog_of (with_rows script rows).task) 0 (hard_rules (with_rows script rows).task)) fault
-  due_anew fault due = subst (λ (j : List Job). IsDue (first_fault (catalog_of (task_with script.task j)) 0 (hard_rules (task_with script.task j))) fault) is due
+  pub solved_anew : (budget : ℕ) (new : Solved) → new.script ≡ script_with script flags jobs → first_fault (catalog_of (task_with script.task flags jobs)) 0 (hard_rules (task_with script.task flags jobs)) ≡ None
+      → IsAnswered (task_with script.task flags jobs) budget new.answer new.ledger → IsTransactionUnlessChoicesClash (task_with script.task flags jobs) new.answer → IsSolved budget (with_rows script row rows) new
+  solved_anew budget new same fits good direct = given (λ f j. IsSolved budget (script_with script f j) new) (record { of_script = same; fits = fits; good = good; direct = direct })
+
+  pub due_anew : (fault : BookFault) → IsDue (first_fault (catalog_of (task_with script.task flags jobs)) 0 (hard_rules (task_with script.task flags jobs))) fault
+      → IsDue (first_fault (catalog_of (with_rows script row rows).task) 0 (hard_rules (with_rows script row rows).task)) fault
+  due_anew fault due = given (λ f j. IsDue (first_fault (catalog_of (task_with script.task f j)) 0 (hard_rules (task_with script.task f j))) fault) due
+
+-- what holds of a task holds with its flags and jobs put back
+pub put_back : (P : Task → Type 0) (task : Task) (flags : Flags) (jobs : List Job) → flags ≡ task.flags → jobs ≡ task.jobs → P task → P (task_with task flags jobs)
+put_back P task flags jobs same_flags same_jobs h = subst (λ (j : List Job). P (task_with task flags j)) (sym same_jobs) (subst (λ (f : Flags). P (task_with task f task.jobs)) (sym same_flags) h)
 
 pub same_self : (solved : Solved) → IsSame solved solved
 same_self solved = record { script = refl; prov = refl; rules = refl; answer = refl; ledger = refl }

@@ -1,4 +1,4 @@
--- Jobs that a caller gives by numbers.
+-- Flags and jobs that a caller gives.
 use Rattle.std.specs.Prelude.{ℕ, ◌&&◌, ◌==◌, Bool, List, map, nat_le, nat_lt, if◌then◌else◌}
 use Rattle.std.specs.List.{list_all}
 use Rattle.solv_pool.specs.declared.jobs.Action.{Action}
@@ -7,6 +7,8 @@ use Rattle.solv_pool.specs.declared.jobs.Choice.{Choice}
 use Rattle.solv_pool.specs.declared.jobs.Choice.TheVariants.{All, OneOf}
 use Rattle.solv_pool.specs.declared.jobs.Job.{Job}
 use Rattle.solv_script.specs.declared.scripts.Script.{Script}
+use Rattle.solv_pool.specs.declared.tasks.Flags.{Flags}
+use Rattle.solv_solved.specs.declared.flag_row.FlagRow.{FlagRow}
 use Rattle.solv_solved.specs.declared.job_row.JobRow.{JobRow}
 
 -- the action of a number: 0 to 11, in the order of the actions
@@ -44,6 +46,18 @@ choice_of row = if row.all then All else OneOf row.packs.now
 abbrev pub job_of : JobRow → Job
 job_of row = record { action = action_of row.action; choice = choice_of row; forcebest = row.forcebest; cleandeps = row.cleandeps; text = row.text.now }
 
--- a script with these jobs in place of those of its first round
-abbrev pub with_rows : Script → List JobRow → Script
-with_rows script rows = record script { task = record script.task { jobs = map job_of rows } }
+-- flags
+abbrev pub flags_of : FlagRow → Flags
+flags_of row = record {
+  allow_downgrade = row.allow_downgrade;
+  allow_name_change = row.allow_name_change;
+  allow_arch_change = row.allow_arch_change;
+  allow_vendor_change = row.allow_vendor_change;
+  allow_uninstall = row.allow_uninstall;
+  ignore_recommended = row.ignore_recommended;
+  no_infarch_check = row.no_infarch_check;
+}
+
+-- a script with these flags and jobs in place of those of its first round
+abbrev pub with_rows : Script → FlagRow → List JobRow → Script
+with_rows script flags rows = record script { task = record script.task { flags = flags_of flags; jobs = map job_of rows } }

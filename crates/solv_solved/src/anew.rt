@@ -1,4 +1,4 @@
-//! A task that is answered anew, with other jobs.
+//! A task that is answered anew, with other flags and jobs.
 ghost use Rattle.std.specs.Prelude.{◌≡◌, ◌≤◌, true, length, map, IfOk, IfErr, OnOk, OnErr};
 ghost use Rattle.solv_pool.specs.Catalog.{catalog_of};
 ghost use Rattle.solv_pool.specs.HardRules.{hard_rules};
@@ -7,8 +7,9 @@ ghost use Rattle.solv_solved.specs.Anew.{IsAgain, IsHeldAgain, IsHeldSame, IsSam
 ghost use Rattle.solv_solved.specs.JobRows.{are_rows, job_of, with_rows};
 ghost use Rattle.solv_solved.specs.Solvings.{IsSolved};
 
+use crate::flag_row::FlagRow;
 use crate::job_row::JobRow;
-use crate::job_rows::{are_rows, jobs_of};
+use crate::job_rows::{are_rows, flags_of, jobs_of};
 use crate::outcomes::Held;
 use crate::solving::{WithRules, answer_of};
 use crate::with_answer::Solved;
@@ -31,11 +32,12 @@ pub enum Again {
 }
 
 impl Solved {
-    /// Answers the task with these jobs in place of its own, over its index; or tells the first limit that its clauses pass, and then nothing
+    /// Answers the task with these flags and jobs in place of its own, over its index; or tells the first limit that its clauses pass, and then nothing
     /// changes.
     fn answer_again(
         &mut self,
         alloc: Global,
+        flags: &FlagRow,
         rows: &[JobRow<'_>],
         jobs: Items<Job>,
         budget: u32,
@@ -43,11 +45,12 @@ impl Solved {
         requires rows { are_rows (length self.old.script.task.universe.packages) rows.now ≡ true }
         requires jobs { jobs ≡ map job_of rows.now }
         requires budget { budget ≤ 1000000 }
-        ensures solved { OnOk result (IsSolved budget (with_rows self.old.script rows.now) self.new) }
+        ensures solved { OnOk result (IsSolved budget (with_rows self.old.script flags.now rows.now) self.new) }
         ensures same { OnErr result (IsSame self.old self.new) }
-        ensures fault { IfErr result (IsDue (first_fault (catalog_of (with_rows self.old.script rows.now).task) 0 (hard_rules (with_rows self.old.script rows.now).task))) }
+        ensures fault { IfErr result (IsDue (first_fault (catalog_of (with_rows self.old.script flags.now rows.now).task) 0 (hard_rules (with_rows self.old.script flags.now rows.now).task))) }
     {
         let _ = rows;
+        let flags_before = replace(&mut self.script.task.flags, flags_of(flags));
         let before = replace(&mut self.script.task.jobs, jobs);
         match answer_of(alloc, &self.script.task, &self.prov, budget) {
             Ok(given) => {
@@ -59,6 +62,7 @@ impl Solved {
                 Ok(())
             }
             Err(fault) => {
+                self.script.task.flags = flags_before;
                 self.script.task.jobs = before;
                 Err(fault)
             }
@@ -69,18 +73,19 @@ impl Solved {
     pub fn solve_again(
         &mut self,
         alloc: Global,
+        flags: &FlagRow,
         rows: &[JobRow<'_>],
         budget: u32,
     ) -> Result<Again, AllocError>
         requires { budget ≤ 1000000 }
-        ensures ended { IfOk result (IsAgain budget rows.now self.old self.new) }
+        ensures ended { IfOk result (IsAgain budget flags.now rows.now self.old self.new) }
         ensures same { OnErr result (IsSame self.old self.new) }
     {
         if !are_rows(self.script.task.universe.count(), rows) {
             return Ok(Again::Misused);
         }
         let jobs = jobs_of(alloc, rows)?;
-        match self.answer_again(alloc, rows, jobs, budget) {
+        match self.answer_again(alloc, flags, rows, jobs, budget) {
             Ok(()) => Ok(Again::Answered),
             Err(BookFault::Memory) => Err(AllocError),
             Err(_) => Ok(Again::Passes),
@@ -89,19 +94,20 @@ impl Solved {
 }
 
 impl Held {
-    /// Answers the task anew with these jobs in place of its own, over the index that is there, where there is an answer before.
+    /// Answers the task anew with these flags and jobs in place of its own, over the index that is there, where there is an answer before.
     pub fn solve_again(
         &mut self,
         alloc: Global,
+        flags: &FlagRow,
         rows: &[JobRow<'_>],
         budget: u32,
     ) -> Result<Again, AllocError>
         requires { budget ≤ 1000000 }
-        ensures ended { IfOk result (IsHeldAgain budget rows.now self.old self.new) }
+        ensures ended { IfOk result (IsHeldAgain budget flags.now rows.now self.old self.new) }
         ensures same { OnErr result (IsHeldSame self.old self.new) }
     {
         match self {
-            Held::Answered(solved) => solved.solve_again(alloc, rows, budget),
+            Held::Answered(solved) => solved.solve_again(alloc, flags, rows, budget),
             Held::Refused(_) => Ok(Again::Misused),
         }
     }

@@ -1,11 +1,12 @@
-//! Jobs that a caller gives by numbers.
+//! Flags and jobs that a caller gives.
 ghost use Rattle.std.specs.Prelude.{◌≡◌, ◌++◌, map, IfOk, OnOk};
 ghost use Rattle.std.specs.List.{list_all};
-ghost use Rattle.solv_solved.specs.JobRows.{action_of, are_rows, choice_of, is_number_of, is_row, job_of};
+ghost use Rattle.solv_solved.specs.JobRows.{action_of, are_rows, choice_of, flags_of, is_number_of, is_row, job_of};
 
+use crate::flag_row::FlagRow;
 use crate::job_row::JobRow;
 use solv_list::{Bytes, Items};
-use solv_pool::{Action, Choice, Job, PackNo};
+use solv_pool::{Action, Choice, Flags, Job, PackNo};
 use std::alloc::{AllocError, Global};
 
 /// The action of this number. What has no number below is nothing to do.
@@ -65,6 +66,21 @@ fn packs_of(alloc: Global, packs: &[u32]) -> Result<Items<PackNo>, AllocError>
         made.push(PackNo(*pack))?;
     }
     Ok(Items::wrap(made))
+}
+
+/// Flags.
+pub(crate) fn flags_of(row: &FlagRow) -> Flags
+    ensures { result ≡ flags_of row.now }
+{
+    Flags {
+        allow_downgrade: row.allow_downgrade,
+        allow_name_change: row.allow_name_change,
+        allow_arch_change: row.allow_arch_change,
+        allow_vendor_change: row.allow_vendor_change,
+        allow_uninstall: row.allow_uninstall,
+        ignore_recommended: row.ignore_recommended,
+        no_infarch_check: row.no_infarch_check,
+    }
 }
 
 /// What a job selects.

@@ -6,7 +6,7 @@
 //! - [`Solved`]: the script with its answer, and the index for texts. What is known of them is kept with it.
 //! - The methods of [`Held`] lend what an answer has: changes, order, set, problems and their solutions; those that are called `read_..` copy
 //!   what numbers name into a caller's room.
-//! - `Held::solve_again`: answers the task anew with other jobs, given as [`JobRow`]s, over the index that is there; how that ended is an [`Again`].
+//! - `Held::solve_again`: answers the task anew with other flags and jobs, given as a [`FlagRow`] and [`JobRow`]s, over the index that is there; how that ended is an [`Again`].
 //! - [`fill`], [`fill_packs`] and [`fill_changes`]: copy the first items of a list, as many as there is room for. [`PackChange`] is a
 //!   change as C lays it out.
 //!
@@ -16,6 +16,7 @@
 
 mod anew;
 mod filling;
+mod flag_row;
 mod handing;
 mod job_row;
 mod job_rows;
@@ -29,6 +30,7 @@ mod with_answer;
 
 pub use anew::Again;
 pub use filling::{fill, fill_changes, fill_packs};
+pub use flag_row::FlagRow;
 pub use job_row::JobRow;
 pub use lending::solve_lent;
 pub use outcomes::Held;

@@ -10,20 +10,20 @@ returns-in-Ok-Answered c =
     let old = c.args.held.now in
     let new = c.solve_again.new.self in
     let code : to_z w32 c.number.result ≡ number_of (Some new) = search rules in
-    subst (λ (z : ℤ). IsAgainCall c.args.budget c.args.rows.now (Some old) (Some new) z) (sym code)
-    (answered old new c.requires (subst (λ (how : Again). IsHeldAgain c.args.budget c.args.rows.now old new how) c.in-Ok-Answered.field-0-is c.in-Ok-Answered.ensures.ended))
+    subst (λ (z : ℤ). IsAgainCall c.args.budget c.args.flags.now c.args.rows.now (Some old) (Some new) z) (sym code)
+    (answered old new c.requires (subst (λ (how : Again). IsHeldAgain c.args.budget c.args.flags.now c.args.rows.now old new how) c.in-Ok-Answered.field-0-is c.in-Ok-Answered.ensures.ended))
 
 pub returns-in-Ok-Passes : goal.returns-in-Ok-Passes
 returns-in-Ok-Passes c =
     let old = c.args.held.now in
     let new = c.solve_again.new.self in
-    passes old new c.requires (subst (λ (how : Again). IsHeldAgain c.args.budget c.args.rows.now old new how) c.in-Ok-Passes.field-0-is c.in-Ok-Passes.ensures.ended)
+    passes old new c.requires (subst (λ (how : Again). IsHeldAgain c.args.budget c.args.flags.now c.args.rows.now old new how) c.in-Ok-Passes.field-0-is c.in-Ok-Passes.ensures.ended)
 
 pub returns-in-Ok-Misused : goal.returns-in-Ok-Misused
 returns-in-Ok-Misused c =
     let old = c.args.held.now in
     let new = c.solve_again.new.self in
-    no_jobs old new c.requires (subst (λ (how : Again). IsHeldAgain c.args.budget c.args.rows.now old new how) c.in-Ok-Misused.field-0-is c.in-Ok-Misused.ensures.ended)
+    no_jobs old new c.requires (subst (λ (how : Again). IsHeldAgain c.args.budget c.args.flags.now c.args.rows.now old new how) c.in-Ok-Misused.field-0-is c.in-Ok-Misused.ensures.ended)
 
 pub returns-in-Err : goal.returns-in-Err
 returns-in-Err c = ran_out c.args.held.now c.solve_again.new.self c.requires c.in-Err.ensures.same

@@ -11,7 +11,8 @@ returns-then-budget-gt-MOST_LEARNT c =
 pub returns-in_default : goal.returns-in_default
 returns-in_default c =
     let budget = c.args.budget in
+    let flags = c.args.flags.now in
     let jobs = c.args.jobs.now in
     let before : c.args.task.now.value ≡ None = search rules in
     let after : c.take.new.self.value ≡ None = c.take.ensures.left in
-    subst (λ (v : Option Held). IsAgainCall budget jobs v c.take.new.self.value (pos 8)) (sym before) (subst (λ (w : Option Held). IsAgainCall budget jobs None w (pos 8)) (sym after) nothing)
+    subst (λ (v : Option Held). IsAgainCall budget flags jobs v c.take.new.self.value (pos 8)) (sym before) (subst (λ (w : Option Held). IsAgainCall budget flags jobs None w (pos 8)) (sym after) nothing)

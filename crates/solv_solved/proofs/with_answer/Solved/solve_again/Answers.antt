@@ -21,6 +21,6 @@ returns-in-Ok-clause-ended c =
 pub returns-in-Err : goal.returns-in-Err
 returns-in-Err c =
     let good : are_rows (length c.args.self.now.script.task.universe.packages) c.args.rows.now ≡ true = search rules in
-    let anew : Task = (with_rows c.args.self.now.script c.args.rows.now).task in
+    let anew : Task = (with_rows c.args.self.now.script c.args.flags.now c.args.rows.now).task in
     let passed : first_fault (catalog_of anew) 0 (hard_rules anew) ≡ Some c.in-Err.field-0 = search rules in
     record { ended = again_passes c.in-Err.field-0 good passed c.in-Err.ensures.same; same = tt }
