@@ -11,5 +11,6 @@ pub mod Names
 pub mod Trees
 pub mod Growth
 pub mod Pools
+pub mod Entered
 pub mod Identity
 pub mod Reading

@@ -1,9 +1,10 @@
 //! One id for each text and for each relation.
-ghost use Rattle.std.specs.Prelude.{◌≡◌, ◌∷◌, [], ◌++◌, ◌<◌, ◌↔◌, ℕ, length, slice_get, Some, IfOk, OnOk, OnErr, IsOk, IsErrOf, IsTrue, Contains, true, false, is_some, IfSome};
+ghost use Rattle.std.specs.Prelude.{◌≡◌, ◌∷◌, [], ◌++◌, ◌<◌, ◌≤◌, ◌↔◌, ℕ, length, slice_get, Some, IfOk, OnOk, OnErr, IsOk, IsErrOf, IsTrue, Contains, true, false, is_some, IfSome};
 ghost use Rattle.solv_base.specs.Pool.{most, is_name, name_id, with_name};
+ghost use Rattle.solv_base.specs.Inner.Pool.{is_node, node_id, with_node};
 
 use crate::relation::{DepId, DepNode, NameId};
-use crate::texts::{Text, Wanted};
+use crate::texts::{MOST_SHORT, Text, Wanted};
 use indexmap::IndexSet;
 use std::alloc::{AllocError, Global};
 use std::marker::Model;
@@ -61,6 +62,34 @@ fn add_text(alloc: Global, texts: &mut IndexSet<Text>, text: &[u8]) -> Result<()
     Ok(())
 }
 
+/// The place of a text, which is entered where it is new.
+fn enter_text(texts: &mut IndexSet<Text>, text: Text) -> Result<usize, AllocError>
+    ensures place { IfOk result (λ i. i ≡ name_id texts.old.keys text) }
+    ensures within { IfOk result (λ i. i < length texts.new.keys) }
+    ensures held { OnOk result (texts.new.keys ≡ with_name texts.old.keys text) }
+    ensures absent { OnErr result (is_name texts.old.keys text ≡ false) }
+    ensures refused { OnErr result (texts.new.keys ≡ texts.old.keys) }
+{
+    match texts.insert_full(text) {
+        Ok((place, _)) => Ok(place),
+        Err(_) => Err(AllocError),
+    }
+}
+
+/// The place of a relation, which is entered where it is new.
+fn enter_node(relations: &mut IndexSet<DepNode>, node: DepNode) -> Result<usize, AllocError>
+    ensures place { IfOk result (λ i. i ≡ node_id relations.old.keys node) }
+    ensures within { IfOk result (λ i. i < length relations.new.keys) }
+    ensures held { OnOk result (relations.new.keys ≡ with_node relations.old.keys node) }
+    ensures absent { OnErr result (is_node relations.old.keys node ≡ false) }
+    ensures refused { OnErr result (relations.new.keys ≡ relations.old.keys) }
+{
+    match relations.insert_full(node) {
+        Ok((place, _)) => Ok(place),
+        Err(_) => Err(AllocError),
+    }
+}
+
 impl Pool {
     ghost use Rattle.solv_base.specs.Pool.{Held, IsPool, Grows, text_at, text_tree};
     ghost use Rattle.solv_base.specs.Inner.Pool.{uses_below, text_tree_of_node};
@@ -95,6 +124,32 @@ impl Pool {
         ensures no_relation { IsErrOf result PoolFault.FullRelations → ⊥ }
         ensures refused { OnErr result (self.new ≡ self.old) }
     {
+        if text.len() <= MOST_SHORT && self.has_room_for_name() {
+            return self.intern_short(text).map_err(|_| PoolFault::Memory);
+        }
+        self.intern_any(text)
+    }
+
+    /// Whether one more name may be held.
+    fn has_room_for_name(&self) -> bool
+        ensures { result ≡ true → length self.now.names < most }
+    {
+        self.texts.len() < MOST
+    }
+
+    /// The id of any text. It is looked for before memory is taken for it.
+    fn intern_any(&mut self, text: &[u8]) -> Result<NameId, PoolFault>
+        ensures id { IfOk result (λ id. id ≡ name_id self.old.names text.now) }
+        ensures held { OnOk result (self.new ≡ record self.old { names = with_name self.old.names text.now }) }
+        ensures within { IfOk result (λ id. id < length self.new.names) }
+        ensures text { IfOk result (λ id. slice_get self.new.names id ≡ Some text.now) }
+        ensures grows { Grows self.old self.new }
+
+        ensures known { IsTrue (is_name self.old.names text.now) → IsOk result }
+        ensures full { IsErrOf result PoolFault.FullNames ↔ ((is_name self.old.names text.now ≡ false) × (length self.old.names ≡ most)) }
+        ensures no_relation { IsErrOf result PoolFault.FullRelations → ⊥ }
+        ensures refused { OnErr result (self.new ≡ self.old) }
+    {
         if let Some(place) = place_of(&self.texts, text) {
             return Ok(NameId(place as u32));
         }
@@ -105,6 +160,22 @@ impl Pool {
         if add_text(self.alloc, &mut self.texts, text).is_err() {
             return Err(PoolFault::Memory);
         }
+        Ok(NameId(place as u32))
+    }
+
+    /// The id of a short text, where there is room for one more. It is looked for once, whether it is new or not.
+    fn intern_short(&mut self, text: &[u8]) -> Result<NameId, AllocError>
+        requires short { length text.now ≤ 30 }
+        requires room { length self.old.names < most }
+        ensures id { IfOk result (λ id. id ≡ name_id self.old.names text.now) }
+        ensures held { OnOk result (self.new ≡ record self.old { names = with_name self.old.names text.now }) }
+        ensures within { IfOk result (λ id. id < length self.new.names) }
+        ensures text { IfOk result (λ id. slice_get self.new.names id ≡ Some text.now) }
+        ensures grows { Grows self.old self.new }
+        ensures absent { OnErr result (is_name self.old.names text.now ≡ false) }
+        ensures refused { OnErr result (self.new ≡ self.old) }
+    {
+        let place = enter_text(&mut self.texts, Text::short(text))?;
         Ok(NameId(place as u32))
     }
 
@@ -126,6 +197,53 @@ impl Pool {
 
     /// The id of a relation, which the relation keeps for good. One that is held already takes no memory.
     pub fn relation(&mut self, node: DepNode) -> Result<DepId, PoolFault>
+        requires { IsTrue (uses_below (length self.old.names) (length self.old.nodes) node) }
+        ensures within { IfOk result (λ id. id < length self.new.nodes) }
+        ensures id { IfOk result (λ id. slice_get self.new.nodes id ≡ Some node) }
+        ensures known { Contains self.old.nodes node → OnOk result (self.new ≡ self.old) }
+        ensures added { (Contains self.old.nodes node → ⊥) → OnOk result (self.new ≡ record self.old { nodes = self.old.nodes ++ node ∷ [] }) }
+        ensures tree { IfOk result (λ id. tree self.new.nodes id ≡ tree_of_node (tree self.old.nodes) node) }
+        ensures text_tree { IfOk result (λ id. text_tree self.new id ≡ text_tree_of_node (text_at self.old) (text_tree self.old) node) }
+        ensures grows { Grows self.old self.new }
+
+        ensures succeeds { Contains self.old.nodes node → IsOk result }
+        ensures full { IsErrOf result PoolFault.FullRelations ↔ ((Contains self.old.nodes node → ⊥) × (length self.old.nodes ≡ most)) }
+        ensures no_name { IsErrOf result PoolFault.FullNames → ⊥ }
+        ensures refused { OnErr result (self.new ≡ self.old) }
+    {
+        if self.has_room_for_relation() {
+            return self.relation_once(node).map_err(|_| PoolFault::Memory);
+        }
+        self.relation_any(node)
+    }
+
+    /// Whether one more relation may be held.
+    fn has_room_for_relation(&self) -> bool
+        ensures { result ≡ true → length self.now.nodes < most }
+    {
+        self.relations.len() < MOST
+    }
+
+    /// The id of a relation, where there is room for one more. It is looked for once, whether it is new or not.
+    fn relation_once(&mut self, node: DepNode) -> Result<DepId, AllocError>
+        requires uses { IsTrue (uses_below (length self.old.names) (length self.old.nodes) node) }
+        requires room { length self.old.nodes < most }
+        ensures within { IfOk result (λ id. id < length self.new.nodes) }
+        ensures id { IfOk result (λ id. slice_get self.new.nodes id ≡ Some node) }
+        ensures known { Contains self.old.nodes node → OnOk result (self.new ≡ self.old) }
+        ensures added { (Contains self.old.nodes node → ⊥) → OnOk result (self.new ≡ record self.old { nodes = self.old.nodes ++ node ∷ [] }) }
+        ensures tree { IfOk result (λ id. tree self.new.nodes id ≡ tree_of_node (tree self.old.nodes) node) }
+        ensures text_tree { IfOk result (λ id. text_tree self.new id ≡ text_tree_of_node (text_at self.old) (text_tree self.old) node) }
+        ensures grows { Grows self.old self.new }
+        ensures absent { OnErr result (Contains self.old.nodes node → ⊥) }
+        ensures refused { OnErr result (self.new ≡ self.old) }
+    {
+        let place = enter_node(&mut self.relations, node)?;
+        Ok(DepId(place as u32))
+    }
+
+    /// The id of any relation. It is looked for before memory is taken for it.
+    fn relation_any(&mut self, node: DepNode) -> Result<DepId, PoolFault>
         requires { IsTrue (uses_below (length self.old.names) (length self.old.nodes) node) }
         ensures within { IfOk result (λ id. id < length self.new.nodes) }
         ensures id { IfOk result (λ id. slice_get self.new.nodes id ≡ Some node) }

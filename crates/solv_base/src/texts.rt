@@ -11,7 +11,7 @@ use std::hash::{Hash, Hasher};
 use std::marker::Model;
 
 /// The longest text that is kept inside itself. A [`Text`] then has 32 bytes.
-const MOST_SHORT: usize = 30;
+pub(crate) const MOST_SHORT: usize = 30;
 
 /// A text. Contracts see its bytes.
 #[derive(Drop)]
@@ -51,7 +51,8 @@ impl Text {
         Ok(Text::short(bytes))
     }
 
-    fn short(bytes: &[u8]) -> Text
+    /// A short text. It takes no memory.
+    pub(crate) fn short(bytes: &[u8]) -> Text
         requires { length bytes.now ≤ 30 }
         ensures { result ≡ bytes.now }
     {

@@ -10,3 +10,4 @@ pub mod Numbered
 pub mod NumberedLaw
 pub mod Running
 pub mod Settling
+pub mod Turns

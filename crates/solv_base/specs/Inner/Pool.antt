@@ -1,6 +1,7 @@
 -- What a pool holds: one id for each text and for each node.
-use Rattle.std.specs.Prelude.{ℕ, Bool, ◌&&◌, List, nat_lt}
-use Rattle.std.specs.List.{list_all}
+use Rattle.std.specs.Prelude.{ℕ, Bool, ◌&&◌, List, [], ◌∷◌, ◌++◌, if◌then◌else◌, nat_lt}
+use Rattle.std.specs.List.{list_all, list_any, position_or_len}
+use Rattle.solv_base.specs.contracts.relation.DepNodePartialEq.TheImpl.{eq-value}
 use Rattle.solv_base.specs.declared.relation.DepNode.{DepNode}
 use Rattle.solv_base.specs.Dependency.{Dep, plain, versioned, one, namespace, and, or, with, without, if_then, if_else, unless, unless_else, names_in, operands}
 use Rattle.solv_base.specs.declared.relation.DepNode.TheVariants.{Simple, Versioned, Namespace, And, Or, With, Without, If, IfElse, Unless, UnlessElse}
@@ -22,3 +23,15 @@ text_tree_of_node text at (UnlessElse a b c) = unless_else (at a) (at b) (at c)
 -- a node whose names and operands are below these numbers
 abbrev pub uses_below : ℕ → ℕ → DepNode → Bool
 uses_below names nodes node = list_all (λ n. nat_lt n names) (names_in node) && list_all (λ o. nat_lt o nodes) (operands node)
+
+-- is this relation held?
+abbrev pub is_node : List DepNode → DepNode → Bool
+is_node nodes node = list_any (eq-value.it node) nodes
+
+-- the id of a relation, which is the next free one where it is new
+abbrev pub node_id : List DepNode → DepNode → ℕ
+node_id nodes node = position_or_len (eq-value.it node) nodes
+
+-- the relations with this one among them
+abbrev pub with_node : List DepNode → DepNode → List DepNode
+with_node nodes node = if is_node nodes node then nodes else nodes ++ node ∷ []

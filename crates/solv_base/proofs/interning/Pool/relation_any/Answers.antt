@@ -10,8 +10,8 @@ use Rattle.solv_base.proofs.Places.{if_ok, place_found, position_first}
 use Rattle.solv_base.proofs.Growth.{text_tree-is}
 use Rattle.solv_base.proofs.Trees.{tree-is}
 use Rattle.solv_base.proofs.Pools.{same_relation, IsPool-node, Grows-node, tree_of_new, text_tree_of_new}
-use Rattle.solv_base.proofs.interning.Pool.relation.Goals as goal
-use Rattle.solv_base.proofs.interning.Pool.relation.Goals.{In-Some, Else-is_err}
+use Rattle.solv_base.proofs.interning.Pool.relation_any.Goals as goal
+use Rattle.solv_base.proofs.interning.Pool.relation_any.Goals.{In-Some, Else-is_err}
 use Rattle.solv_list.proofs.Lists.{at_end}
 
 held : (c : In-Some) → Contains c.args.self.now.nodes c.args.node
