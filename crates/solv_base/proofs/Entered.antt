@@ -35,7 +35,7 @@ module _ (names : List (List ℕ)) (nodes : List DepNode) (text : List ℕ) (poo
   text_with i at = either (λ ns. i < length ns → slice_get ns i ≡ Some text) (λ e inside. name_at names text i at inside)
       (λ e inside. ap (slice_get (names ++ text ∷ [])) (at ∙ id_of_new names text e) ∙ at_end names text)
 
-id_of_new_node : (nodes : List DepNode) (node : DepNode) → is_node nodes node ≡ false → node_id nodes node ≡ length nodes
+pub id_of_new_node : (nodes : List DepNode) (node : DepNode) → is_node nodes node ≡ false → node_id nodes node ≡ length nodes
 id_of_new_node [] node h = refl
 id_of_new_node (n ∷ nodes) node h = by (eq-value.it node n) h (id_of_new_node nodes node)
   where

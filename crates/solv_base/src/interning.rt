@@ -3,9 +3,9 @@ ghost use Rattle.std.specs.Prelude.{◌≡◌, ◌∷◌, [], ◌++◌, ◌<◌,
 ghost use Rattle.solv_base.specs.Pool.{most, is_name, name_id, with_name};
 ghost use Rattle.solv_base.specs.Inner.Pool.{is_node, node_id, with_node};
 
+use crate::keys::{Relations, Texts};
 use crate::relation::{DepId, DepNode, NameId};
-use crate::texts::{MOST_SHORT, Text, Wanted};
-use indexmap::IndexSet;
+use crate::texts::{MOST_SHORT, Text};
 use std::alloc::{AllocError, Global};
 use std::marker::Model;
 use thiserror::Error;
@@ -25,8 +25,8 @@ pub enum PoolFault {
 #[derive(Drop)]
 pub struct Pool {
     alloc: Global,
-    texts: IndexSet<Text>,
-    relations: IndexSet<DepNode>,
+    texts: Texts,
+    relations: Relations,
 }
 
 impl Model for Pool {
@@ -34,61 +34,13 @@ impl Model for Pool {
 
     ghost Value = { Held };
 
-    ghost view = { λ p. record { names = p.texts.keys; nodes = p.relations.keys } };
+    ghost view = { λ p. record { names = p.texts; nodes = p.relations } };
 
-    ghost invariant = { λ p. IsPool (record { names = p.texts.keys; nodes = p.relations.keys }) };
+    ghost invariant = { λ p. IsPool (record { names = p.texts; nodes = p.relations }) };
 }
 
 /// The most names, and the most relations.
 const MOST: usize = 1 << 24;
-
-/// The place of a text among those held.
-fn place_of(texts: &IndexSet<Text>, text: &[u8]) -> Option<usize>
-    ensures found { is_some result ≡ is_name texts.now.keys text.now }
-    ensures place { IfSome result (λ i. i ≡ name_id texts.now.keys text.now) }
-    ensures within { IfSome result (λ i. i < length texts.now.keys) }
-{
-    texts.get_index_of(Wanted(text))
-}
-
-/// Adds a text that is not held.
-fn add_text(alloc: Global, texts: &mut IndexSet<Text>, text: &[u8]) -> Result<(), AllocError>
-    requires { is_name texts.old.keys text.now ≡ false }
-    ensures added { OnOk result (texts.new.keys ≡ texts.old.keys ++ text.now ∷ []) }
-    ensures refused { OnErr result (texts.new.keys ≡ texts.old.keys) }
-{
-    let copy = Text::new(alloc, text)?;
-    texts.insert(copy)?;
-    Ok(())
-}
-
-/// The place of a text, which is entered where it is new.
-fn enter_text(texts: &mut IndexSet<Text>, text: Text) -> Result<usize, AllocError>
-    ensures place { IfOk result (λ i. i ≡ name_id texts.old.keys text) }
-    ensures within { IfOk result (λ i. i < length texts.new.keys) }
-    ensures held { OnOk result (texts.new.keys ≡ with_name texts.old.keys text) }
-    ensures absent { OnErr result (is_name texts.old.keys text ≡ false) }
-    ensures refused { OnErr result (texts.new.keys ≡ texts.old.keys) }
-{
-    match texts.insert_full(text) {
-        Ok((place, _)) => Ok(place),
-        Err(_) => Err(AllocError),
-    }
-}
-
-/// The place of a relation, which is entered where it is new.
-fn enter_node(relations: &mut IndexSet<DepNode>, node: DepNode) -> Result<usize, AllocError>
-    ensures place { IfOk result (λ i. i ≡ node_id relations.old.keys node) }
-    ensures within { IfOk result (λ i. i < length relations.new.keys) }
-    ensures held { OnOk result (relations.new.keys ≡ with_node relations.old.keys node) }
-    ensures absent { OnErr result (is_node relations.old.keys node ≡ false) }
-    ensures refused { OnErr result (relations.new.keys ≡ relations.old.keys) }
-{
-    match relations.insert_full(node) {
-        Ok((place, _)) => Ok(place),
-        Err(_) => Err(AllocError),
-    }
-}
 
 impl Pool {
     ghost use Rattle.solv_base.specs.Pool.{Held, IsPool, Grows, text_at, text_tree};
@@ -101,8 +53,8 @@ impl Pool {
     {
         Pool {
             alloc,
-            texts: IndexSet::new(alloc),
-            relations: IndexSet::new(alloc),
+            texts: Texts::new(alloc),
+            relations: Relations::new(alloc),
         }
     }
 
@@ -134,7 +86,7 @@ impl Pool {
     fn has_room_for_name(&self) -> bool
         ensures { result ≡ true → length self.now.names < most }
     {
-        self.texts.len() < MOST
+        self.texts.held().len() < MOST
     }
 
     /// The id of any text. It is looked for before memory is taken for it.
@@ -150,14 +102,17 @@ impl Pool {
         ensures no_relation { IsErrOf result PoolFault.FullRelations → ⊥ }
         ensures refused { OnErr result (self.new ≡ self.old) }
     {
-        if let Some(place) = place_of(&self.texts, text) {
+        if let Some(place) = self.texts.place_of(text) {
             return Ok(NameId(place as u32));
         }
-        let place = self.texts.len();
+        let place = self.texts.held().len();
         if place >= MOST {
             return Err(PoolFault::FullNames);
         }
-        if add_text(self.alloc, &mut self.texts, text).is_err() {
+        let Ok(copy) = Text::new(self.alloc, text) else {
+            return Err(PoolFault::Memory);
+        };
+        if self.texts.enter(copy).is_err() {
             return Err(PoolFault::Memory);
         }
         Ok(NameId(place as u32))
@@ -175,15 +130,24 @@ impl Pool {
         ensures absent { OnErr result (is_name self.old.names text.now ≡ false) }
         ensures refused { OnErr result (self.new ≡ self.old) }
     {
-        let place = enter_text(&mut self.texts, Text::short(text))?;
+        let place = self.texts.enter(Text::short(text))?;
         Ok(NameId(place as u32))
+    }
+
+    /// Lets the tables go that find texts and relations. What is held stays, and each new text and relation is looked for in
+    /// turn from then on: for a pool to which little or nothing more comes.
+    pub fn close(&mut self)
+        ensures { self.new ≡ self.old }
+    {
+        self.texts.close(self.alloc);
+        self.relations.close(self.alloc);
     }
 
     /// How many names are held: each id is below.
     pub fn name_count(&self) -> usize
         ensures { result ≡ length self.now.names }
     {
-        self.texts.len()
+        self.texts.held().len()
     }
 
     /// The bytes of a name.
@@ -192,7 +156,7 @@ impl Pool {
         ensures held { slice_get self.now.names id ≡ Some result.now }
         ensures text { result.now ≡ text_at self.now id }
     {
-        self.texts.as_slice()[id.0 as usize].bytes()
+        self.texts.held()[id.0 as usize].bytes()
     }
 
     /// The id of a relation, which the relation keeps for good. One that is held already takes no memory.
@@ -221,7 +185,7 @@ impl Pool {
     fn has_room_for_relation(&self) -> bool
         ensures { result ≡ true → length self.now.nodes < most }
     {
-        self.relations.len() < MOST
+        self.relations.held().len() < MOST
     }
 
     /// The id of a relation, where there is room for one more. It is looked for once, whether it is new or not.
@@ -238,7 +202,7 @@ impl Pool {
         ensures absent { OnErr result (Contains self.old.nodes node → ⊥) }
         ensures refused { OnErr result (self.new ≡ self.old) }
     {
-        let place = enter_node(&mut self.relations, node)?;
+        let place = self.relations.enter(node)?;
         Ok(DepId(place as u32))
     }
 
@@ -258,14 +222,14 @@ impl Pool {
         ensures no_name { IsErrOf result PoolFault.FullNames → ⊥ }
         ensures refused { OnErr result (self.new ≡ self.old) }
     {
-        if let Some(place) = self.relations.get_index_of(&node) {
+        if let Some(place) = self.relations.place_of(&node) {
             return Ok(DepId(place as u32));
         }
-        let place = self.relations.len();
+        let place = self.relations.held().len();
         if place >= MOST {
             return Err(PoolFault::FullRelations);
         }
-        if self.relations.insert(node).is_err() {
+        if self.relations.enter(node).is_err() {
             return Err(PoolFault::Memory);
         }
         Ok(DepId(place as u32))
@@ -275,7 +239,7 @@ impl Pool {
     pub fn relation_count(&self) -> usize
         ensures { result ≡ length self.now.nodes }
     {
-        self.relations.len()
+        self.relations.held().len()
     }
 
     /// The relation of an id.
@@ -294,7 +258,7 @@ impl Pool {
         ensures node { slice_get self.now.nodes id ≡ Some result }
         ensures pool { IsPool self.now }
     {
-        self.relations.as_slice()[id.0 as usize]
+        self.relations.held()[id.0 as usize]
     }
 
     /// Whether the relation is one that a single package meets or does not: built of plain, versioned and namespace

@@ -10,6 +10,7 @@
 
 mod comparison;
 mod interning;
+mod keys;
 mod relation;
 mod relation_laws;
 mod texts;

@@ -3,8 +3,7 @@ use Rattle.std.specs.Prelude.{ℕ, List, Option, Some, None, if◌then◌else◌
 use Rattle.std.specs.Option.{option_map}
 use Rattle.solv_io.specs.Lines.{ended_lines}
 use Rattle.solv_pool.specs.HardRules.{hard_rules}
-use Rattle.solv_pool.specs.Inner.PackageText.{found}
-use Rattle.solv_pool.specs.PackageText.{package_text}
+use Rattle.solv_pool.specs.PackageText.{package_text, found}
 use Rattle.solv_pool.specs.declared.tasks.Task.{Task}
 use Rattle.solv_remedy.specs.declared.problems.Solution.{Solution}
 use Rattle.solv_lines.specs.RuleTexts.{text_of_rule}

@@ -1,12 +1,11 @@
-use Rattle.std.proofs.Common.{◌≡◌, ◌∙◌, sym, refl, length, ◌++◌, ◌∷◌, [], ◌<◌, false, true, arith, Contains, slice_get, Some}
+use Rattle.std.proofs.Common.{◌≡◌, ◌∙◌, sym, ap, refl, length, ◌++◌, ◌∷◌, [], ◌<◌, false, true, arith, Contains, slice_get, Some}
 use Rattle.std.specs.List.{list_any}
 use Rattle.std.proofs.lemmas.Grind.{common_steps}
 use Rattle.indexmap.proofs.CallerLemmas.{Contains-list_any}
-use Rattle.indexmap.specs.IndexSet.{insert_key}
 use Rattle.solv_base.specs.contracts.relation.DepNodePartialEq.TheImpl.{eq-value}
 use Rattle.solv_base.specs.Pool.{IsPool, most}
 use Rattle.solv_base.specs.Inner.Pool.{uses_below}
-use Rattle.solv_base.proofs.Places.{if_ok, place_found, position_first}
+use Rattle.solv_base.proofs.Places.{if_ok, place_found}
 use Rattle.solv_base.proofs.Growth.{text_tree-is}
 use Rattle.solv_base.proofs.Trees.{tree-is}
 use Rattle.solv_base.proofs.Pools.{same_relation, IsPool-node, Grows-node, tree_of_new, text_tree_of_new}
@@ -15,12 +14,12 @@ use Rattle.solv_base.proofs.interning.Pool.relation_any.Goals.{In-Some, Else-is_
 use Rattle.solv_list.proofs.Lists.{at_end}
 
 held : (c : In-Some) → Contains c.args.self.now.nodes c.args.node
-held c = rw (← c.self.view_is) (Contains-list_any eq-value.it same_relation c.self.inside.relations.keys c.args.node (sym c.in-Some.ensures.found))
+held c = rw (← c.self.view_is) (Contains-list_any eq-value.it same_relation c.self.inside.relations c.args.node (sym c.in-Some.ensures.found))
 
 found : (c : In-Some) → slice_get c.args.self.now.nodes c.in-Some.place ≡ Some c.args.node
 found c =
-    rw (← c.self.view_is) (place_found eq-value.it same_relation c.args.node c.self.inside.relations.keys c.in-Some.place
-    (position_first (eq-value.it c.args.node) c.self.inside.relations.keys (Some c.in-Some.place) c.in-Some.ensures.index) c.in-Some.ensures.within)
+    rw (← c.self.view_is) (place_found eq-value.it same_relation c.args.node c.self.inside.relations c.in-Some.place
+    c.in-Some.ensures.place c.in-Some.ensures.within)
 
 pool : (c : In-Some) → IsPool c.args.self.now
 pool c = rw (← c.self.view_is) c.self.invariant
@@ -40,34 +39,36 @@ returns-in-Some-clause-text_tree c = text_tree-is c.args.self.now (pool c).opera
 pub returns-in-Some-clause-full : goal.returns-in-Some-clause-full
 returns-in-Some-clause-full c = (λ e. cc, λ h. absurd (h.0 (held c)))
 
-fresh : (c : Else-is_err) → list_any (eq-value.it c.args.node) c.self.inside.relations.keys ≡ false
+fresh : (c : Else-is_err) → list_any (eq-value.it c.args.node) c.self.inside.relations ≡ false
 fresh c = grind (arith, common_steps)
 
-pushed : (c : Else-is_err) → c.insert.new.self.keys ≡ c.self.inside.relations.keys ++ c.args.node ∷ []
+pushed : (c : Else-is_err) → c.enter.new.self ≡ c.self.inside.relations ++ c.args.node ∷ []
 pushed c =
-    let keys : c.insert.new.self.keys ≡ insert_key eq-value.it c.self.inside.relations.keys c.args.node =
-    if_ok _ c.insert.result (sym c.is_err.ensures.value ∙ c.if-is_err.false) c.insert.ensures.keys in
-    rw (keys, fresh c) refl
+    let held = if_ok _ c.enter.result (sym c.is_err.ensures.value ∙ c.if-is_err.false) c.enter.ensures.held in
+    rw (held, fresh c) refl
 
-uses : (c : Else-is_err) → uses_below (length c.self.inside.texts.keys) (length c.self.inside.relations.keys) c.args.node ≡ true
+uses : (c : Else-is_err) → uses_below (length c.self.inside.texts) (length c.self.inside.relations) c.args.node ≡ true
 uses c = rw (← c.self.view_is) at c.requires
 
-room : (c : Else-is_err) → length c.self.inside.relations.keys < most
-room c = let at = c.len-place.ensures.len in omega arith
+place : (c : Else-is_err) → length c.held-place.result.now ≡ length c.self.inside.relations
+place c = ap length c.held-place.ensures
+
+room : (c : Else-is_err) → length c.self.inside.relations < most
+room c = let at = place c in omega arith
 
 pub invariant_of-self-2 : goal.invariant_of-self-2
-invariant_of-self-2 c = rw (pushed c) (IsPool-node c.self.inside.texts.keys c.self.inside.relations.keys c.args.node c.self.invariant (uses c) (fresh c) (room c))
+invariant_of-self-2 c = rw (pushed c) (IsPool-node c.self.inside.texts c.self.inside.relations c.args.node c.self.invariant (uses c) (fresh c) (room c))
 
 pub returns-clause-id : goal.returns-clause-id
-returns-clause-id c = rw (pushed c, c.len-place.ensures.len) (at_end c.self.inside.relations.keys c.args.node)
+returns-clause-id c = rw (pushed c, place c) (at_end c.self.inside.relations c.args.node)
 
 pub returns-clause-tree : goal.returns-clause-tree
 returns-clause-tree c =
-    rw (← c.self.view_is, pushed c, c.len-place.ensures.len) (tree_of_new c.self.inside.texts.keys c.self.inside.relations.keys c.args.node c.self.invariant (uses c))
+    rw (← c.self.view_is, pushed c, place c) (tree_of_new c.self.inside.texts c.self.inside.relations c.args.node c.self.invariant (uses c))
 
 pub returns-clause-text_tree : goal.returns-clause-text_tree
 returns-clause-text_tree c =
-    rw (← c.self.view_is, pushed c, c.len-place.ensures.len) (text_tree_of_new c.self.inside.texts.keys c.self.inside.relations.keys c.args.node c.self.invariant (uses c))
+    rw (← c.self.view_is, pushed c, place c) (text_tree_of_new c.self.inside.texts c.self.inside.relations c.args.node c.self.invariant (uses c))
 
 pub returns-clause-grows : goal.returns-clause-grows
-returns-clause-grows c = rw (← c.self.view_is, pushed c) (Grows-node c.self.inside.texts.keys c.self.inside.relations.keys c.args.node c.self.invariant (uses c))
+returns-clause-grows c = rw (← c.self.view_is, pushed c) (Grows-node c.self.inside.texts c.self.inside.relations c.args.node c.self.invariant (uses c))
