@@ -3,10 +3,11 @@ use Rattle.std.proofs.Common.{◌≡◌, ℕ, zero, suc, ◌<◌, Bool, true, �
 use Rattle.std.specs.Prelude.{slice_get, nat_lt, unwrap_or, option_map}
 use Rattle.std.specs.List.{list_all}
 use borrow.Author.Tests.{ltb-true}
-use Rattle.solv_base.specs.Dependency.{Dep, and, or, with, without, if_then, if_else, unless, unless_else, missing, tree_of_node, tree_within, tree, operands, IsWellFounded}
+use Rattle.solv_base.specs.Dependency.{Dep, and, or, with, without, if_then, if_else, unless, unless_else, missing, tree_of_node, tree_within, tree, operands, IsWellFounded, capability_of_node}
 use Rattle.solv_base.specs.declared.relation.DepNode.{DepNode}
 use Rattle.solv_base.specs.declared.relation.DepNode.TheVariants.{Simple, Versioned, Namespace, And, Or, With, Without, If, IfElse, Unless, UnlessElse}
 use Rattle.solv_list.proofs.Booleans.{first_of_both, second_of_both}
+use Rattle.solv_base.specs.declared.comparison.Cmp.{Cmp}
 
 module _ (at bt : ℕ → Dep ℕ) (small : ℕ → Bool) (same : (o : ℕ) → small o ≡ true → at o ≡ bt o) where
   first : (a : ℕ) (r : Bool) → (small a && r) ≡ true → at a ≡ bt a
@@ -57,3 +58,17 @@ tree-is nodes falls id node e =
     ∙ same-node (tree_within nodes id) (tree nodes) (λ p. nat_lt p id)
     (λ p q. let below : p < id = ltb-true p id q in same-tree nodes nodes id (λ k _. refl) falls id (p + 1) p below below (omega arith))
     node (falls id node e)
+
+-- a relation that is no name, with or without a version, is no capability
+pub no_capability : (node : DepNode) → ((n : ℕ) → node ≡ Simple n → ⊥) → ((n : ℕ) (c : Cmp) (e : ℕ) → node ≡ Versioned n c e → ⊥) → capability_of_node node ≡ None
+no_capability (Simple n) h k = absurd (h n refl)
+no_capability (Versioned n c e) h k = absurd (k n c e refl)
+no_capability (Namespace n) h k = refl
+no_capability (And a b) h k = refl
+no_capability (Or a b) h k = refl
+no_capability (With a b) h k = refl
+no_capability (Without a b) h k = refl
+no_capability (If a b) h k = refl
+no_capability (Unless a b) h k = refl
+no_capability (IfElse a b c) h k = refl
+no_capability (UnlessElse a b c) h k = refl

@@ -11,7 +11,8 @@ use Rattle.std.proofs.lemmas.List.Folds.{list_any-append}
 use Rattle.std.proofs.lemmas.List.Sums.{sum_by-set}
 use Rattle.solv_list.proofs.Booleans.{or_cases}
 use Rattle.solv_clean.specs.Inner.Tables.{is_marked}
-use Rattle.solv_clean.specs.Inner.Finding.{one_if, Finds, itself}
+use Rattle.solv_clean.specs.Inner.Finding.{Finds, itself}
+use Rattle.solv_graph.specs.Inner.Searching.{one_if}
 
 is_only : (q x : ℕ) → list_any (λ y. itself y x) (q ∷ []) ≡ true → q ≡ x
 is_only q x h = elim (or_cases (eqb q x) false h) [ inl e ↦ eqb-true q x e | inr n ↦ absurd (false≢true n) ]

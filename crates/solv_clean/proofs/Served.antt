@@ -1,10 +1,10 @@
 -- What serves a dependency, by the lists of the index.
 use Rattle.std.proofs.Common.{◌≡◌, ℕ, zero, suc, ◌+◌, ◌-◌, ◌<◌, Bool, true, false, ◌&&◌, ◌||◌, ◌⊎◌, inl, inr, List, [], ◌∷◌, ◌++◌, length, filter, map, refl, sym, ap, ◌∙◌, arith, eqb, Some}
-use Rattle.std.specs.Prelude.{slice_get, if◌then◌else◌}
+use Rattle.std.specs.Prelude.{slice_get}
 use Rattle.std.specs.List.{list_any}
 use Rattle.std.proofs.lemmas.Bool.{false≢true, or_right}
 use Rattle.std.proofs.lemmas.List.Folds.{list_any-append}
-use Rattle.solv_list.proofs.Booleans.{or_false, and_true, and_false}
+use Rattle.solv_list.proofs.Booleans.{or_false}
 use Rattle.solv_base.specs.Dependency.{Dep}
 use Rattle.solv_pool.specs.Words.{is_among, passes}
 use Rattle.solv_pool.specs.Catalog.{Catalog, members, packages, package_at, dependency}
@@ -15,9 +15,9 @@ use Rattle.solv_pool.specs.declared.packages.Package.{Package}
 use Rattle.solv_pool.specs.declared.packages.Need.{Need}
 use Rattle.solv_pool.proofs.Among.{among_filter}
 use Rattle.solv_prov.proofs.Obsoleting.{among_range}
-use Rattle.solv_clean.proofs.Lists.{past_end}
 use Rattle.solv_clean.specs.Inner.Tables.{is_marked}
 use Rattle.solv_clean.specs.Inner.Finding.{itself, serving, serving_need, serving_package}
+use Rattle.std.proofs.lemmas.Option.{slice_get_past}
 
 -- the record of a package
 pub package_is : (catalog : Catalog) (p : ℕ) (a : Package) → 0 < p → slice_get catalog.universe.packages (p - 1) ≡ Some a → package_at catalog p ≡ Some a
@@ -28,15 +28,6 @@ pub marked_below : (M : List Bool) (q : ℕ) → is_marked M q ≡ true → q < 
 marked_below [] q h = absurd (false≢true h)
 marked_below (x ∷ M) zero h = omega arith
 marked_below (x ∷ M) (suc q) h = let k = marked_below M q h in omega arith
-
--- some member of the set meets what others meet alone
-pub met_by : (set meets : ℕ → Bool) (xs : List ℕ) → list_any set (filter meets xs) ≡ list_any (λ p. set p && meets p) xs
-met_by set meets [] = refl
-met_by set meets (x ∷ xs) =
-    (elim (meets x) as (λ b. meets x ≡ b → list_any set (if b then x ∷ filter meets xs else filter meets xs) ≡ ((set x && meets x) || list_any (λ p. set p && meets p) xs)) [
-      | true ↦ λ e. ap (λ t. set x || t) (met_by set meets xs) ∙ ap (λ t. t || list_any (λ p. set p && meets p) xs) (sym (and_true (set x)) ∙ ap (λ t. set x && t) (sym e))
-      | false ↦ λ e. met_by set meets xs ∙ ap (λ t. t || list_any (λ p. set p && meets p) xs) (sym (and_false (set x)) ∙ ap (λ t. set x && t) (sym e))
-    ]) refl
 
 module _ (catalog : Catalog) where
   pub single : (d : Dep ℕ) → parts d ≡ d ∷ [] → (q : ℕ) → serves catalog q d ≡ package_meets catalog d q
@@ -79,4 +70,4 @@ module _ (catalog : Catalog) where
   -- the system asks for nothing, and neither does what is no package
   pub asks_nothing : (v : ℕ) → (v ≡ 0) ⊎ (length catalog.universe.packages < v) → (q : ℕ) → serving_package catalog v q ≡ false
   asks_nothing zero h q = refl
-  asks_nothing (suc k) h q = ap (λ o. passes o (λ (a : Package). list_any (λ id. serves catalog q (dependency catalog id)) (asked_by a))) (past_end catalog.universe.packages k (elim h [ inl e ↦ absurd (omega (arith, e)) | inr lt ↦ omega (arith, lt) ]))
+  asks_nothing (suc k) h q = ap (λ o. passes o (λ (a : Package). list_any (λ id. serves catalog q (dependency catalog id)) (asked_by a))) (slice_get_past catalog.universe.packages k (elim h [ inl e ↦ absurd (omega (arith, e)) | inr lt ↦ omega (arith, lt) ]))

@@ -3,20 +3,19 @@ use Rattle.std.proofs.Common.{◌≡◌, ℕ, zero, suc, ◌+◌, ◌-◌, ◌<�
 use Rattle.std.specs.Prelude.{if◌then◌else◌, nat_eq}
 use Rattle.std.specs.List.{list_any, range_with_len}
 use Rattle.std.specs.Option.{option_eq}
-use Rattle.std.proofs.lemmas.Bool.{false≢true, eqb-true, false_from_ne_true, or_right}
+use Rattle.std.proofs.lemmas.Bool.{false≢true, false_from_ne_true, or_right, cases_lt}
 use Rattle.std.proofs.lemmas.List.{length-map}
 use Rattle.std.proofs.lemmas.List.FromFn.{length-range_with_len}
-use Rattle.solv_list.proofs.Booleans.{or_cases}
 use Rattle.solv_list.proofs.Lists.{range_more}
 use Rattle.solv_pool.specs.Words.{is_among, passes}
 use Rattle.solv_pool.specs.Catalog.{Catalog, packages, is_installed, installed_set}
 use Rattle.solv_pool.specs.JobMarks.{mark_each}
 use Rattle.solv_pool.specs.declared.jobs.Job.{Job}
 use Rattle.solv_pool.specs.declared.packages.Package.{Package}
-use Rattle.solv_pool.proofs.Among.{here}
+use Rattle.solv_pool.proofs.Among.{here, in_range}
 use Rattle.solv_prov.proofs.Obsoleting.{among_range}
-use Rattle.solv_clean.proofs.Lists.{below_or, past_end}
 use Rattle.solv_clean.specs.Inner.Tables.{is_marked, table_of, Tells}
+use Rattle.std.proofs.lemmas.Option.{slice_get_past}
 
 map_append : (f : ℕ → Bool) (xs ys : List ℕ) → map f (xs ++ ys) ≡ map f xs ++ map f ys
 map_append f [] ys = refl
@@ -48,7 +47,7 @@ told_at f m p lt = let e : 0 + p ≡ p = omega arith in told_from f 0 m p lt ∙
 
 -- a table tells a test that nothing beyond it passes
 pub told : (f g : ℕ → Bool) (m : ℕ) → ((p : ℕ) → p < m → f p ≡ g p) → ((p : ℕ) → g p ≡ true → p < m) → Tells (table_of m f) g
-told f g m same most p = elim (below_or p m) [
+told f g m same most p = elim (cases_lt p m) [
   | inl lt ↦ told_at f m p lt ∙ same p lt
   | inr le ↦ told_past f 0 m p le ∙ sym (false_from_ne_true (g p) (λ h. let b = most p h in omega (arith, le, b)))
 ]
@@ -70,13 +69,6 @@ any_members f g [] h = refl
 any_members f g (x ∷ xs) h =
     ap (λ b. b || list_any f xs) (h x (here x xs)) ∙ ap (λ t. g x || t) (any_members f g xs (λ q i. h q (or_right (eqb x q) (is_among xs q) i)))
 
-in_range : (a n q : ℕ) → is_among (range_with_len a n) q ≡ true → (a ≤ q) × (q < a + n)
-in_range a zero q h = absurd (false≢true h)
-in_range a (suc n) q h = elim (or_cases (eqb a q) (is_among (range_with_len (a + 1) n) q) h) [
-  | inl e ↦ let s = eqb-true a q e in (omega (arith, s), omega (arith, s))
-  | inr k ↦ let r = in_range (a + 1) n q k in (omega (arith, r.0), omega (arith, r.1))
-]
-
 module _ (catalog : Catalog) where
   -- the numbers of packages
   pub bounds : (p : ℕ) → is_among (packages catalog) p ≡ true → (0 < p) × (p < length catalog.universe.packages + 1)
@@ -87,9 +79,9 @@ module _ (catalog : Catalog) where
 
   pub installed_there : (p : ℕ) → is_installed catalog p ≡ true → (0 < p) × (p < length catalog.universe.packages + 1)
   installed_there zero h = absurd (false≢true h)
-  installed_there (suc k) h = elim (below_or k (length catalog.universe.packages)) [
+  installed_there (suc k) h = elim (cases_lt k (length catalog.universe.packages)) [
     | inl lt ↦ (omega arith, omega (arith, lt))
-    | inr le ↦ absurd (false≢true (ap (λ o. passes o (λ (a : Package). option_eq nat_eq (Some a.repo) catalog.universe.installed)) (sym (past_end catalog.universe.packages k le)) ∙ h))
+    | inr le ↦ absurd (false≢true (ap (λ o. passes o (λ (a : Package). option_eq nat_eq (Some a.repo) catalog.universe.installed)) (sym (slice_get_past catalog.universe.packages k le)) ∙ h))
   ]
 
   pub set_there : (p : ℕ) → installed_set catalog p ≡ true → p < length catalog.universe.packages + 1
@@ -104,10 +96,6 @@ module _ (catalog : Catalog) where
 
     pub mark_entries : length (mark_each catalog jobs test) ≡ length catalog.universe.packages + 1
     mark_entries = ap (λ n. suc n) (length-map (packages catalog) test ∙ length-range_with_len 1 (length catalog.universe.packages)) ∙ sym (add-one (length catalog.universe.packages))
-
--- a range by its first number, and a list with nothing behind it
-pub range_step : (a i n : ℕ) → i < n → range_with_len a (n - i) ≡ a ∷ range_with_len (a + 1) (n - (i + 1))
-range_step a i n lt = let e : n - i ≡ suc (n - (i + 1)) = omega (arith, lt) in ap (range_with_len a) e
 
 pub append_none : (xs : List ℕ) → xs ++ [] ≡ xs
 append_none [] = refl

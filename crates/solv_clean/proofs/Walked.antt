@@ -2,9 +2,8 @@
 use Rattle.std.proofs.Common.{◌≡◌, ℕ, zero, suc, ◌+◌, ◌-◌, ◌<◌, ◌≤◌, Bool, true, false, ◌&&◌, ◌||◌, List, [], ◌∷◌, length, take, inl, inr, refl, sym, ap, ◌∙◌, arith, Option, Some, None}
 use Rattle.std.specs.Prelude.{slice_index, sum_by, if◌then◌else◌, nat_lt}
 use Rattle.std.specs.List.{list_any}
-use Rattle.std.proofs.lemmas.Bool.{and_parts, and_from, false≢true, false_from_ne_true, or_left, or_right}
+use Rattle.std.proofs.lemmas.Bool.{and_parts, and_from, false≢true, false_from_ne_true, or_left, or_right, cases_lt}
 use Rattle.std.proofs.lemmas.Bool.Decides.{eqb_tells, nat_tests}
-use Rattle.std.proofs.lemmas.List.Sums.{sum_by-cons}
 use Rattle.solv_list.proofs.Booleans.{or_cases, or_false, same_truth}
 use Rattle.solv_list.proofs.Lists.{below_true}
 use Rattle.solv_pool.specs.Words.{is_among, passes}
@@ -18,11 +17,12 @@ use Rattle.solv_graph.specs.Inner.Graphs.{edge_to}
 use Rattle.solv_graph.specs.Reaching.{LeadsFrom, ReachedIsWhereWalksLead}
 use Rattle.solv_graph.proofs.Walking.{leads_here, leads_step, leads_through, closed_holds}
 use Rattle.solv_clean.specs.Inner.Tables.{is_marked, IsWithRelations}
-use Rattle.solv_clean.specs.Inner.Finding.{one_if, AreListed, Finds, itself, serving, serving_package, next_to}
+use Rattle.solv_clean.specs.Inner.Finding.{AreListed, Finds, itself, serving, serving_package, next_to}
 use Rattle.solv_clean.specs.Inner.Joining.{AreSupplements, Says, a_serving, a_part, a_supplement, has_supplement}
 use Rattle.solv_clean.specs.Inner.Searching.{edge_in, HasBegun, IsFound}
-use Rattle.solv_clean.proofs.Lists.{below_or}
 use Rattle.solv_clean.proofs.Served.{marked_below, in_members, asks_nothing}
+use Rattle.solv_graph.specs.Inner.Searching.{one_if}
+use Rattle.solv_graph.proofs.Marks.{ones_within}
 
 taken : (M : List Bool) (n q : ℕ) → q < n → is_marked (take n M) q ≡ is_marked M q
 taken M zero q lt = absurd (omega (arith, lt))
@@ -40,11 +40,6 @@ sum_ones : (M : List Bool) → ((q : ℕ) → is_marked M q ≡ false) → sum_b
 sum_ones [] none = refl
 sum_ones (true ∷ M) none = absurd (false≢true (sym (none 0)))
 sum_ones (false ∷ M) none = sum_ones M (λ q. none (suc q))
-
-ones_within : (M : List Bool) → sum_by one_if M ≤ length M
-ones_within [] = omega arith
-ones_within (true ∷ M) = let h = ones_within M in let e = sum_by-cons one_if true M in omega (arith, e, h)
-ones_within (false ∷ M) = let h = ones_within M in let e = sum_by-cons one_if false M in omega (arith, e, h)
 
 -- the members from which a search starts
 pub has_begun : (may : List Bool) (starts : List ℕ) (M0 M : List Bool) (F : List ℕ) → length M0 ≡ length may → ((q : ℕ) → is_marked M0 q ≡ false) → ((q : ℕ) → is_among starts q ≡ true → is_marked may q ≡ true)
@@ -134,7 +129,7 @@ module _ (catalog : Catalog) (in_set : List Bool) (each : length in_set ≡ leng
 
   -- what asks for something is a package
   asks_there : (v q : ℕ) → serving_package catalog v q ≡ true → v < length in_set
-  asks_there v q h = elim (below_or v (length in_set)) [
+  asks_there v q h = elim (cases_lt v (length in_set)) [
     | inl lt ↦ lt
     | inr le ↦ absurd (false≢true (sym (asks_nothing catalog v (inr (omega (arith, le, each))) q) ∙ h))
   ]
@@ -170,7 +165,7 @@ module _ (catalog : Catalog) (in_set : List Bool) (each : length in_set ≡ leng
 
     -- the members alone
     pub cut_are : (M : List Bool) → ((q : ℕ) → q < length in_set → is_marked M q ≡ needed q) → (q : ℕ) → is_marked (take (length in_set) M) q ≡ needed q
-    cut_are M same q = elim (below_or q (length in_set)) [
+    cut_are M same q = elim (cases_lt q (length in_set)) [
       | inl lt ↦ taken M (length in_set) q lt ∙ same q lt
       | inr le ↦ taken_past M (length in_set) q le ∙ sym (false_from_ne_true (needed q) (λ h. let b = marked_below in_set q (needed_inside q h) in omega (arith, le, b)))
     ]

@@ -19,7 +19,7 @@ use Rattle.solv_core.specs.Cores.{CoreOf}
 use Rattle.solv_core.specs.Inner.Cores.{none_in_use}
 use Rattle.solv_core.specs.declared.ledger.Entry.{Entry}
 use Rattle.solv_core.specs.declared.ledger.Ledger.{Ledger}
-use Rattle.solv_list.proofs.Lists.{place_there, at_end}
+use Rattle.solv_list.proofs.Lists.{place_there, at_end, get_front_again}
 
 -- hints in use name steps below the number of rules
 pub steps_below : (used : ℕ → Bool) (count all most : ℕ) → all < most → (hints : List Hint) → list_all (is_in_use used count 0 all) hints ≡ true → list_all (is_step_below most) hints ≡ true
@@ -88,11 +88,6 @@ rules_same f [] = refl
 rules_same f (hint.Book r ∷ hints) = ap (λ l. r ∷ l) (rules_same f hints)
 rules_same f (hint.Step n ∷ hints) = rules_same f hints
 
-get_more : {X : Type 0} (xs ys : List X) (i : ℕ) (x : X) → slice_get xs i ≡ Some x → slice_get (xs ++ ys) i ≡ Some x
-get_more [] ys i x e = absurd (cc)
-get_more (y ∷ xs) ys zero x e = e
-get_more (y ∷ xs) ys (suc i) x e = get_more xs ys i x e
-
 -- one element more: one of those before it, or it
 pub get_pushed : {X : Type 0} (xs : List X) (x y : X) (i : ℕ) → slice_get (xs ++ x ∷ []) i ≡ Some y → ((slice_get xs i ≡ Some y) × (i < length xs)) ⊎ ((i ≡ length xs) × (x ≡ y))
 get_pushed [] x y zero e = inr (refl, ap (λ o. unwrap_or o x) e)
@@ -160,7 +155,7 @@ entries_more entries number steps e h next below =
         | inr last ↦ let b = below n (ap (λ v. hints_at n v.hints) last.1 ∙ hinted) in omega (arith, b, last.0)
       ];
       held = λ i s at. elim (get_pushed steps (step_of e) s i at) [
-        | inl front ↦ let a = h.held i s front.0 in (a.0, (get_more entries (numbered_entry number e ∷ []) (number i) a.0 a.1.0, a.1.1))
+        | inl front ↦ let a = h.held i s front.0 in (a.0, (get_front_again entries (numbered_entry number e ∷ []) (number i) a.0 a.1.0, a.1.1))
         | inr last ↦
             let P : Step → Type 0 = λ v. IsStepAt (entries ++ numbered_entry number e ∷ []) (number i) (renumbered_step number v) in
             let same : number i ≡ length entries = ap number last.0 ∙ next in

@@ -1,5 +1,5 @@
 -- What a book gives a core, and what the first run finds.
-use Rattle.std.proofs.Common.{◌≡◌, ◌<◌, ◌≤◌, ◌+◌, ◌*◌, ℕ, suc, Bool, true, false, List, [], ◌∷◌, ◌++◌, map, Option, Some, None, refl, sym, ap, ◌∙◌, subst, arith, if◌then◌else◌}
+use Rattle.std.proofs.Common.{◌≡◌, ◌<◌, ◌≤◌, ◌+◌, ◌*◌, ℕ, suc, Bool, true, false, List, [], ◌∷◌, ◌++◌, Option, Some, None, refl, sym, ap, ◌∙◌, subst, arith, if◌then◌else◌}
 use Rattle.std.specs.Prelude.{ℤ, pos, negsuc, nat_lt, nat_le, flat_map, length, fold, ◌==◌}
 use Rattle.std.specs.List.{list_all, range_with_len}
 use Rattle.std.proofs.lemmas.Bool.{and_parts, and_from, lt-ltb, le-leb, eqb-true}
@@ -26,6 +26,7 @@ use Rattle.solv_decide.proofs.Enabling.{lengths_are, owners_below}
 use Rattle.solv_pool.proofs.Members.{Has, any_has}
 use Rattle.solv_questions.proofs.Asking.{in_range}
 use Rattle.solv_list.proofs.Lists.{all_weaker, list_all_join}
+use Rattle.std.proofs.lemmas.List.{length-map}
 
 -- a number among a range is one of it
 among_range : (n p : ℕ) → is_among (range_with_len 1 n) p ≡ true → (1 ≤ p) × (p < 1 + n)
@@ -137,10 +138,6 @@ asked_for r asker core clauses owners rules is_asker is_core of_clauses of_owner
 pub owners_fit : (catalog : Catalog) (rules : List HardRule) (owners : List ℕ) (m : ℕ) → owners ≡ owners_from catalog 0 rules → m ≡ length rules → list_all (λ o. nat_lt o m) owners ≡ true
 owners_fit catalog rules owners m is size = ap (λ l. list_all (λ o. nat_lt o m) l) is ∙ owners_below catalog m 0 rules (omega (arith, size))
 
-mapped_length : {X Y : Type 0} (f : X → Y) (xs : List X) → length (map f xs) ≡ length xs
-mapped_length f [] = refl
-mapped_length f (x ∷ xs) = ap suc (mapped_length f xs)
-
 -- as many rules as are read
 pub length_read : (rules : Rules) → length (read_rules rules) ≡ length rules.list
-length_read rules = mapped_length (rule_with rules.sets) rules.list
+length_read rules = length-map rules.list (rule_with rules.sets)

@@ -1,6 +1,5 @@
 -- What a pool's calls do is the entering of texts and relations.
-use Rattle.std.proofs.Common.{◌≡◌, ℕ, ◌<◌, ◌≤◌, Bool, true, false, List, [], ◌∷◌, ◌++◌, length, Some, Ok, Err, refl, ap, ◌∙◌, arith, nat_lt, Contains, slice_get, true≢false}
-use Rattle.std.specs.List.{list_any, position_or_len}
+use Rattle.std.proofs.Common.{◌≡◌, ℕ, ◌≤◌, true, false, List, [], ◌∷◌, ◌++◌, length, Some, Ok, Err, refl, ap, ◌∙◌, arith, nat_lt, Contains, slice_get}
 use Rattle.std.proofs.lemmas.Bool.Decides.{nat_tests}
 use Rattle.std.proofs.lemmas.Map.Views.{Contains-from_any}
 use Rattle.solv_base.specs.contracts.relation.DepNodePartialEq.TheImpl.{eq-value}
@@ -14,7 +13,7 @@ use Rattle.solv_base.proofs.Pools.{same_relation, relation_itself}
 use Rattle.solv_deps.specs.declared.fault.DepFault.TheVariants.{FullRelations}
 use Rattle.solv_deps.specs.Entering.{is_relation, relation_id, text_entered, relation_entered}
 use Rattle.solv_deps.specs.Inner.Entering.{IsRefusal, refusal}
-use Rattle.solv_list.proofs.Lists.{at_end}
+use Rattle.solv_list.proofs.Lists.{at_end, place_none, place_within}
 
 below_most : (n : ℕ) → n ≤ most → (n ≡ most → ⊥) → nat_lt n most ≡ true
 below_most n le ne = grind (arith, nat_tests)
@@ -29,24 +28,6 @@ text_fits old new text id fit full e f =
     elim (is_name old.names text) as (λ b. is_name old.names text ≡ b → text_entered text old ≡ Ok (record { id = id; held = new })) [
       | true ↦ λ k. rw (e, f, k) refl
       | false ↦ λ k. let l = below_most (length old.names) fit (λ s. full (k, s)) in rw (e, f, k, l) refl
-    ] refl
-
--- a test that a value of the list meets has a place in it
-pub place_within : {X : Type 0} (p : X → Bool) (xs : List X) → list_any p xs ≡ true → position_or_len p xs < length xs
-place_within p [] h = cc
-place_within p (x ∷ xs) h =
-    elim (p x) as (λ b. p x ≡ b → position_or_len p (x ∷ xs) < length (x ∷ xs)) [
-      | true ↦ λ k. rw k (omega arith)
-      | false ↦ λ k. rw k (omega (arith, place_within p xs (rw k at h)))
-    ] refl
-
--- and otherwise the end
-place_none : {X : Type 0} (p : X → Bool) (xs : List X) → list_any p xs ≡ false → position_or_len p xs ≡ length xs
-place_none p [] h = refl
-place_none p (x ∷ xs) h =
-    elim (p x) as (λ b. p x ≡ b → position_or_len p (x ∷ xs) ≡ length (x ∷ xs)) [
-      | true ↦ λ k. absurd (true≢false (rw k at h))
-      | false ↦ λ k. rw k (omega (arith, place_none p xs (rw k at h)))
     ] refl
 
 not_there : (nodes : List DepNode) (node : DepNode) → is_relation nodes node ≡ false → Contains nodes node → ⊥

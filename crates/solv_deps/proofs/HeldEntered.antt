@@ -1,5 +1,5 @@
 -- What a pool holds is entered there as itself.
-use Rattle.std.proofs.Common.{◌≡◌, ℕ, zero, suc, ◌<◌, Bool, true, false, List, [], ◌∷◌, length, slice_get, Option, Some, None, Ok, refl, sym, ap, ◌∙◌, arith, nat_lt, unwrap_or}
+use Rattle.std.proofs.Common.{◌≡◌, ℕ, zero, suc, ◌<◌, Bool, true, false, List, [], ◌∷◌, length, slice_get, Some, Ok, refl, arith, nat_lt}
 use Rattle.std.specs.List.{list_any, list_all, position_or_len}
 use Rattle.std.specs.Str.{bytes_eq}
 use Rattle.std.proofs.lemmas.Bool.{ltb-true}
@@ -14,9 +14,9 @@ use Rattle.solv_base.proofs.Identity.{node_there}
 use Rattle.solv_base.proofs.Places.{place_found, absent}
 use Rattle.solv_base.proofs.Pools.{same_relation, relation_itself}
 use Rattle.solv_deps.specs.Entering.{text_entered, relation_entered, dependency_entered}
-use Rattle.solv_deps.proofs.Entering.{place_within}
 use Rattle.solv_list.proofs.Booleans.{first_of_both, second_of_both}
-use Rattle.solv_list.proofs.Lists.{bytes_themselves, same_bytes}
+use Rattle.solv_list.proofs.Lists.{bytes_themselves, same_bytes, place_within}
+use Rattle.solv_deps.proofs.PartHeld.{some_at}
 
 -- the place of a value that a list holds once
 place_here : {X : Type 0} (eq : X → X → Bool) → ((x y : X) → eq x y ≡ true → x ≡ y) → ((x : X) → eq x x ≡ true)
@@ -28,11 +28,6 @@ place_here eq same itself k xs n once at =
       | false ↦ λ h. absurd (absent eq itself k xs n h at)
     ] refl in
     (found, once (position_or_len (eq k) xs) n k (place_found eq same k xs (position_or_len (eq k) xs) refl (place_within (eq k) xs found)) at)
-
-some_at : {X : Type 0} (xs : List X) (k : ℕ) (d : X) → k < length xs → slice_get xs k ≡ Some (unwrap_or (slice_get xs k) d)
-some_at [] k d h = absurd (omega arith)
-some_at (x ∷ xs) zero d h = refl
-some_at (x ∷ xs) (suc k) d h = some_at xs k d (omega arith)
 
 module _ (held : Held) (p : IsPool held) where
   text_there : (n : ℕ) → n < length held.names → text_entered (text_at held n) held ≡ Ok (record { id = n; held = held })

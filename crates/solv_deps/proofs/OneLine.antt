@@ -9,7 +9,7 @@ use Rattle.solv_base.specs.Dependency.{Dep, plain, versioned, one, namespace, an
 use Rattle.solv_deps.specs.Canonical.{comparison_text, is_rich, is_chain, space_before_close, parenthesised, operand_text, spaced, text}
 use Rattle.solv_deps.specs.Grammar.{named, joined, under, under_else, is_namespace, spelled, Operand, Chain, Expr, name, compared, inside, two, more, alone, chain, less, provided, provided_else, provided_inside, operand_words, chain_words, expr_words, operand_sense, chain_sense, expr_sense}
 use Rattle.solv_deps.specs.Laws.{PrintedIsOneLine, ReadIsWritten, Spells}
-use Rattle.solv_deps.specs.Reading.{and_then, reading, dependency}
+use Rattle.solv_deps.specs.Reading.{and_then, reading}
 use Rattle.solv_deps.specs.Table.{stands_at}
 use Rattle.solv_deps.specs.Words.{after_first, words_behind, words}
 use Rattle.solv_deps.specs.declared.fault.DepFault.{DepFault}
@@ -21,7 +21,7 @@ use Rattle.solv_deps.specs.declared.sign.Conditional.TheVariants.{If, Unless}
 use Rattle.solv_deps.specs.declared.sign.Operator.{Operator}
 use Rattle.solv_deps.specs.declared.sign.Operator.TheVariants.{Link, Minus, Condition, Else}
 use Rattle.solv_list.proofs.Booleans.{first_of_both, second_of_both}
-use Rattle.solv_list.proofs.Lists.{list_all_join, all_left, all_right}
+use Rattle.solv_list.proofs.Lists.{list_all_join, all_left, all_right, all_taken}
 use Rattle.solv_io.specs.JoinedWords.{is_inner, is_line}
 
 -- all names and EVRs stand on one line
@@ -39,12 +39,6 @@ lined (if_else a b c) = lined a && (lined b && lined c)
 lined (unless_else a b c) = lined a && (lined b && lined c)
 lined missing = true
 
--- the words of a line
-all_take : {X : Type 0} (f : X → Bool) (n : ℕ) (xs : List X) → list_all f xs ≡ true → list_all f (take n xs) ≡ true
-all_take f zero xs h = refl
-all_take f (suc n) [] h = refl
-all_take f (suc n) (x ∷ xs) h = and_from (f x) (list_all f (take n xs)) (first_of_both (f x) (list_all f xs) h) (all_take f n xs (second_of_both (f x) (list_all f xs) h))
-
 words_lined : (n : ℕ) (t : List ℕ) → is_line t ≡ true → list_all is_line (words_behind n t) ≡ true
 words_lined n [] h = refl
 words_lined (suc n) (c ∷ cs) h = words_lined n cs (second_of_both (is_inner c) (list_all is_inner cs) h)
@@ -53,7 +47,7 @@ words_lined zero (c ∷ cs) h =
     elim (is_blank c) as (λ b. list_all is_line (if b then words_behind (after_first c cs) cs else (c ∷ take (after_first c cs) cs) ∷ words_behind (after_first c cs) cs) ≡ true) [
       | true ↦ later
       | false ↦ and_from (is_line (c ∷ take (after_first c cs) cs)) _
-          (and_from (is_inner c) _ (first_of_both (is_inner c) (list_all is_inner cs) h) (all_take is_inner (after_first c cs) cs (second_of_both (is_inner c) (list_all is_inner cs) h))) later
+          (and_from (is_inner c) _ (first_of_both (is_inner c) (list_all is_inner cs) h) (all_taken is_inner (after_first c cs) cs (second_of_both (is_inner c) (list_all is_inner cs) h))) later
     ]
 
 named_lined : (w : List ℕ) → is_line w ≡ true → lined (named w) ≡ true
@@ -119,7 +113,7 @@ mutual
       (operand_lined c (front (operand_words c) (codes ")" ∷ []) (back (operand_words b) (spelled t Else) (operand_words c ++ codes ")" ∷ []) r)))
 
 -- and its text is one line
-join : (a b : List ℕ) → is_line a ≡ true → is_line b ≡ true → is_line (a ++ b) ≡ true
+pub join : (a b : List ℕ) → is_line a ≡ true → is_line b ≡ true → is_line (a ++ b) ≡ true
 join a b h k = list_all_join is_inner a b h k
 
 cmp_lined : (c : Cmp) → is_line (comparison_text c) ≡ true

@@ -23,7 +23,7 @@ use Rattle.solv_list.proofs.Lists.{bytes_themselves}
 use Rattle.solv_deps.specs.Parts.{HoldsTree, IsPart, IsEnteredText, IsEnteredTree, TextsOfTheWholeAreEntered, TreesOfTheWholeAreEntered}
 use Rattle.solv_deps.proofs.PartHeld.{some_at, name_below, text_enters, node_enters}
 
-then_ok : {A B : Type 0} (P : A → Type 0) (Q : B → Type 0) (r : Result A DepFault) (next : A → Result B DepFault) → IsOkAnd r P → ((x : A) → P x → IsOkAnd (next x) Q) → IsOkAnd (and_then r next) Q
+pub then_ok : {A B : Type 0} (P : A → Type 0) (Q : B → Type 0) (r : Result A DepFault) (next : A → Result B DepFault) → IsOkAnd r P → ((x : A) → P x → IsOkAnd (next x) Q) → IsOkAnd (and_then r next) Q
 then_ok P Q (Ok x) next h k = k x h
 then_ok P Q (Err e) next h k = absurd h
 

@@ -1,7 +1,6 @@
 -- What a pool holds can be entered in a part of it.
-use Rattle.std.proofs.Common.{◌≡◌, ℕ, zero, suc, ◌+◌, ◌==◌, ◌<◌, Bool, true, false, ◌||◌, List, [], ◌∷◌, ◌++◌, length, slice_get, Some, Result, Ok, Err, cond, ◌⊎◌, inl, inr, refl, sym, ap, ◌∙◌, arith, nat_lt, unwrap_or}
+use Rattle.std.proofs.Common.{◌≡◌, ℕ, zero, suc, ◌+◌, ◌==◌, ◌<◌, true, false, ◌||◌, List, [], ◌∷◌, ◌++◌, length, slice_get, Some, Result, Ok, Err, cond, ◌⊎◌, inl, inr, refl, sym, ap, ◌∙◌, arith, nat_lt, unwrap_or}
 use Rattle.std.specs.Prelude.{IsOkAnd, if◌then◌else◌}
-use Rattle.std.specs.List.{list_any, position_or_len}
 use Rattle.std.specs.Str.{bytes_eq}
 use Rattle.std.proofs.lemmas.Bool.{ltb-true, lt-ltb}
 use Rattle.std.proofs.lemmas.Bool.Decides.{nat_tests}
@@ -21,7 +20,7 @@ use Rattle.solv_deps.specs.Entering.{Entered, is_relation, relation_id, text_ent
 use Rattle.solv_deps.specs.Laws.{HeldIsEntered}
 use Rattle.solv_deps.specs.declared.fault.DepFault.{DepFault}
 use Rattle.solv_deps.specs.declared.fault.DepFault.TheVariants.{FullNames, FullRelations}
-use Rattle.solv_list.proofs.Lists.{at_end, bytes_themselves}
+use Rattle.solv_list.proofs.Lists.{at_end, bytes_themselves, place_none, place_within}
 use Rattle.solv_list.proofs.Numbers.{same_number, equal_to_itself}
 use Rattle.solv_deps.specs.Parts.{HoldsTree, IsPart, IsEnteredText, IsEnteredTree}
 
@@ -69,22 +68,6 @@ pub some_at : {X : Type 0} (xs : List X) (k : ℕ) (d : X) → k < length xs →
 some_at [] k d h = absurd (omega arith)
 some_at (x ∷ xs) zero d h = refl
 some_at (x ∷ xs) (suc k) d h = some_at xs k d (omega arith)
-
-place_within : {X : Type 0} (p : X → Bool) (xs : List X) → list_any p xs ≡ true → position_or_len p xs < length xs
-place_within p [] h = cc
-place_within p (x ∷ xs) h =
-    elim (p x) as (λ b. p x ≡ b → position_or_len p (x ∷ xs) < length (x ∷ xs)) [
-      | true ↦ λ k. rw k (omega arith)
-      | false ↦ λ k. rw k (omega (arith, place_within p xs (rw k at h)))
-    ] refl
-
-place_none : {X : Type 0} (p : X → Bool) (xs : List X) → list_any p xs ≡ false → position_or_len p xs ≡ length xs
-place_none p [] h = refl
-place_none p (x ∷ xs) h =
-    elim (p x) as (λ b. p x ≡ b → position_or_len p (x ∷ xs) ≡ length (x ∷ xs)) [
-      | true ↦ λ k. absurd (let bad : true ≡ false = (rw k at h) in cc)
-      | false ↦ λ k. rw k (omega (arith, place_none p xs (rw k at h)))
-    ] refl
 
 -- the place of a name that is held
 pub name_below : (names : List (List ℕ)) (text : List ℕ) → is_name names text ≡ true → name_id names text < length names

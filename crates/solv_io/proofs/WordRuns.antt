@@ -8,7 +8,7 @@ use Rattle.solv_list.proofs.Lists.{drop_one_more, take_one_more}
 inside : ℕ → Bool
 inside byte = not (is_blank byte)
 
-words_at : (c : ℕ) (cs : List ℕ) → is_blank c ≡ false → words_of (c ∷ cs) ≡ cond (begins_word cs) (lengthened c (words_of cs)) ((c ∷ []) ∷ words_of cs)
+pub words_at : (c : ℕ) (cs : List ℕ) → is_blank c ≡ false → words_of (c ∷ cs) ≡ cond (begins_word cs) (lengthened c (words_of cs)) ((c ∷ []) ∷ words_of cs)
 words_at c cs h = rw h refl
 
 run_cut : (c : ℕ) (cs : List ℕ) → is_blank c ≡ false

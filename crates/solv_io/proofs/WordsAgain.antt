@@ -6,22 +6,20 @@ use Rattle.std.proofs.lemmas.Bool.{and_from}
 use Rattle.solv_io.specs.Words.{is_blank, begins_word, lengthened, words_of}
 use Rattle.solv_list.proofs.Booleans.{first_of_both, second_of_both, false_of_not}
 use Rattle.solv_io.specs.JoinedWords.{is_inner, is_solid, is_word, is_line, joined}
+use Rattle.solv_io.proofs.WordRuns.{words_at}
 
 -- a byte of a word is no blank
 pub solid_blank : (c : ℕ) → is_solid c ≡ true → is_blank c ≡ false
 solid_blank c h = false_of_not (is_blank c) (first_of_both (not (is_blank c)) (is_inner c) h)
 
-words_at : (c : ℕ) (cs : List ℕ) → is_blank c ≡ false → words_of (c ∷ cs) ≡ cond (begins_word cs) (lengthened c (words_of cs)) ((c ∷ []) ∷ words_of cs)
-words_at c cs h = rw h refl
-
 -- one more byte in front of a word
-longer : (c d : ℕ) (w rest : List ℕ) (ws : List (List ℕ)) → is_blank c ≡ false → is_blank d ≡ false → words_of (d ∷ rest) ≡ w ∷ ws → words_of (c ∷ d ∷ rest) ≡ (c ∷ w) ∷ ws
+pub longer : (c d : ℕ) (w rest : List ℕ) (ws : List (List ℕ)) → is_blank c ≡ false → is_blank d ≡ false → words_of (d ∷ rest) ≡ w ∷ ws → words_of (c ∷ d ∷ rest) ≡ (c ∷ w) ∷ ws
 longer c d w rest ws h k e =
     words_at c (d ∷ rest) h
     ∙ ap (λ b. cond (not b) (lengthened c (words_of (d ∷ rest))) ((c ∷ []) ∷ words_of (d ∷ rest))) k
     ∙ ap (lengthened c) e
 
-alone : (c : ℕ) (rest : List ℕ) → is_blank c ≡ false → begins_word rest ≡ false → words_of (c ∷ rest) ≡ (c ∷ []) ∷ words_of rest
+pub alone : (c : ℕ) (rest : List ℕ) → is_blank c ≡ false → begins_word rest ≡ false → words_of (c ∷ rest) ≡ (c ∷ []) ∷ words_of rest
 alone c rest h k = words_at c rest h ∙ ap (λ b. cond b (lengthened c (words_of rest)) ((c ∷ []) ∷ words_of rest)) k
 
 -- solid bytes in front of a blank or the end are one word

@@ -1,5 +1,5 @@
 -- Lines that are written out are read again.
-use Rattle.std.proofs.Common.{ℕ, ◌≡◌, ◌≢◌, ◌∙◌, ◌<◌, true, ◌==◌, List, [], ◌∷◌, ◌++◌, All, length, refl, ap, arith, append_assoc}
+use Rattle.std.proofs.Common.{ℕ, ◌≡◌, ◌≢◌, ◌∙◌, ◌<◌, true, ◌==◌, List, [], ◌∷◌, ◌++◌, All, length, refl, ap, arith, append_assoc, sym}
 use Rattle.std.proofs.lemmas.Bool.Decides.{nat_tests}
 use Rattle.std.proofs.lemmas.List.Elements.{All-head, All-tail}
 use Rattle.solv_io.specs.Lines.{lines_of, begun_with, ended_lines, IsLine}
@@ -39,3 +39,8 @@ lines_of-open [] rest free last some = lines_of-rest rest last some
 lines_of-open (line ∷ more) rest free last some =
     ap lines_of (append_assoc line (10 ∷ ended_lines more) rest) ∙ lines_of-line line (ended_lines more ++ rest) (All-head IsLine line more free)
     ∙ ap (λ ls. line ∷ ls) (lines_of-open more rest (All-tail IsLine line more free) last some)
+
+-- lines behind others
+pub ended_lines-append : (xs ys : List (List ℕ)) → ended_lines (xs ++ ys) ≡ ended_lines xs ++ ended_lines ys
+ended_lines-append [] ys = refl
+ended_lines-append (x ∷ xs) ys = ap (λ t. x ++ 10 ∷ t) (ended_lines-append xs ys) ∙ sym (append_assoc x (10 ∷ ended_lines xs) (ended_lines ys))

@@ -36,6 +36,7 @@ use Rattle.solv_laws.proofs.ClauseWords.{size, size_made, raw_words, passes_no_l
 use Rattle.solv_laws.proofs.FewOfOneName.{IsModest, asked, compared, plain_at, few_named, few_members, meeting_named, namesake_named, near_named}
 use Rattle.solv_laws.proofs.Packs.{some_passes}
 use Rattle.solv_laws.proofs.Totals.{total, total_join, total_made, total_flat, total_when, fewer_pass}
+use Rattle.std.proofs.lemmas.Bool.{or_right}
 
 -- rules of all numbers, by the records
 total_by_records : (w : HardRule → ℕ) (make : ℕ → List HardRule) (ps : List Package) (a : ℕ) → ((k : ℕ) (b : Package) → slice_get ps k ≡ Some b → total w (make (a + k)) ≤ 23 + 24 * asked b)
@@ -63,10 +64,6 @@ numbered_count k (job ∷ jobs) = ap suc (numbered_count (k + 1) jobs)
 narrower : (a b c : Bool) → (a || (b && c)) ≡ true → (a || b) ≡ true
 narrower true b c h = refl
 narrower false b c h = first_of_both b c h
-
-wider : (a b : Bool) → b ≡ true → (a || b) ≡ true
-wider true b h = refl
-wider false b h = h
 
 module _ (task : Task) (modest : IsModest task) where
   abbrev catalog : Catalog
@@ -172,7 +169,7 @@ module _ (task : Task) (modest : IsModest task) where
     few_successors : length (successors catalog task.flags marks p) ≤ 3
     few_successors =
         few_either (marked marks.dup p) (dup_set catalog marks p) (update_candidates catalog task.flags marks p) 3
-        (few_either (may_stay catalog marks p) (itself_and catalog (is_feature catalog marks p) p) (feature_set catalog marks p) 3 few_features (few_near (is_feature catalog marks p) (λ q t. wider (q == p) (is_feature catalog marks p q) t)))
+        (few_either (may_stay catalog marks p) (itself_and catalog (is_feature catalog marks p) p) (feature_set catalog marks p) 3 few_features (few_near (is_feature catalog marks p) (λ q t. or_right (q == p) (is_feature catalog marks p q) t)))
         few_candidates
 
     few_best : length (best catalog (update_candidates catalog task.flags marks p)) ≤ 3

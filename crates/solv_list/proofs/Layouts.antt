@@ -5,7 +5,7 @@ use Rattle.std.proofs.lemmas.List.{append_assoc, append-nil, take-take, drop-tak
 use Rattle.solv_list.specs.Inner.Layout.{pieces, start_of, AreEnds, IsInOrder, row_at}
 use Rattle.solv_list.proofs.Lists.{at_end, get_front}
 
-cons : {X : Type 0} (x y : X) (xs ys : List X) → x ≡ y → xs ≡ ys → x ∷ xs ≡ y ∷ ys
+pub cons : {X : Type 0} (x y : X) (xs ys : List X) → x ≡ y → xs ≡ ys → x ∷ xs ≡ y ∷ ys
 cons x y xs ys e f = rw (e, f) refl
 
 pub length-pieces : {X : Type 0} (xs : List X) (from : ℕ) (es : List ℕ) → length (pieces xs from es) ≡ length es
@@ -36,10 +36,10 @@ piece_within from [] upto k h lt = absurd (omega arith)
 piece_within from (e ∷ es) upto zero h lt = record { forward = h.0; inside = ends_above e es upto h.1 }
 piece_within from (e ∷ es) upto (suc k) h lt = rw (start_behind from e es k) (piece_within e es upto k h.1 (omega arith))
 
-range_is : {X : Type 0} (xs : List X) (a b : ℕ) → a ≤ b → slice_range xs a b ≡ drop a (take b xs)
+pub range_is : {X : Type 0} (xs : List X) (a b : ℕ) → a ≤ b → slice_range xs a b ≡ drop a (take b xs)
 range_is xs a b le = let fit : a + (b - a) ≡ b = omega arith in sym (drop-take a (b - a) xs) ∙ ap (λ n. drop a (take n xs)) fit
 
-range-front : {X : Type 0} (xs ys : List X) (a b upto : ℕ) → a ≤ b → b ≤ upto → take upto xs ≡ take upto ys → slice_range xs a b ≡ slice_range ys a b
+pub range-front : {X : Type 0} (xs ys : List X) (a b upto : ℕ) → a ≤ b → b ≤ upto → take upto xs ≡ take upto ys → slice_range xs a b ≡ slice_range ys a b
 range-front xs ys a b upto le within e =
     range_is xs a b le
     ∙ ap (λ t. drop a t) (sym (take-take b upto xs within) ∙ ap (λ t. take b t) e ∙ take-take b upto ys within)

@@ -3,3 +3,4 @@ pub mod Lists
 pub mod Numbers
 pub mod Answers
 pub mod Layouts
+pub mod Digits

@@ -1,17 +1,17 @@
 -- Lists, and tests of what is in them.
-use Rattle.std.proofs.Common.{Bool, List, None, Some, [], add-one, add-zero, ap, append_assoc, arith, cond, drop, false, get_or, length, map, nat_lt, refl, rules, suc, sym, take, true, zero, ℕ, ◌&&◌, ◌++◌, ◌+◌, ◌<◌, ◌∙◌, ◌∷◌, ◌≡◌, ◌≤◌}
+use Rattle.std.proofs.Common.{Bool, List, None, Some, [], add-one, add-zero, ap, append_assoc, arith, cond, drop, false, get_or, length, map, nat_lt, refl, rules, suc, sym, take, true, zero, ℕ, ◌&&◌, ◌++◌, ◌+◌, ◌<◌, ◌∙◌, ◌∷◌, ◌≡◌, ◌≤◌, ◌-◌, ◌||◌, true≢false}
 use Rattle.std.proofs.lemmas.Bool.{and_from, and_parts, lt-ltb, ltb-true}
 use Rattle.std.proofs.lemmas.Bool.Decides.{nat_tests}
 use Rattle.std.proofs.lemmas.Grind.{common_steps}
 use Rattle.std.proofs.lemmas.List.{drop_more}
 use Rattle.std.proofs.lemmas.List.Folds.{list_all-append}
 use Rattle.std.proofs.lemmas.Slice.Eq.{bytes_eq-Decides}
-use Rattle.std.specs.List.{list_all, list_any, range_with_len}
+use Rattle.std.specs.List.{list_all, list_any, range_with_len, position_or_len}
 use Rattle.std.specs.List.Sorted.{IsStrictlyIncreasing}
 use Rattle.std.specs.Option.{option_map_or}
 use Rattle.std.specs.Prelude.{filter, flat_map, fold, if◌then◌else◌, min, nat_le, slice_get, ℤ}
 use Rattle.std.specs.Str.{bytes_eq}
-use Rattle.solv_list.proofs.Booleans.{first_of_both, second_of_both}
+use Rattle.solv_list.proofs.Booleans.{first_of_both, second_of_both, and_true, and_false}
 use Rattle.solv_list.proofs.Numbers.{at_most_true}
 
 pub all_at : {X : Type 0} (f : X → Bool) (xs : List X) (k : ℕ) (x : X) → list_all f xs ≡ true → slice_get xs k ≡ Some x → f x ≡ true
@@ -170,10 +170,10 @@ below_later (x ∷ off) i h =
     let less : x < i = ltb-true x i both.0 in
     and_from (nat_lt x (i + 1)) (list_all (λ k. nat_lt k (i + 1)) off) (lt-ltb x (i + 1) (omega arith)) (below_later off i both.1)
 
-pub get_front_again : (rules others : List (List ℤ)) (r : ℕ) (c : List ℤ) → slice_get rules r ≡ Some c → slice_get (rules ++ others) r ≡ Some c
-get_front_again [] others r c e = absurd (cc)
-get_front_again (x ∷ rules) others zero c e = e
-get_front_again (x ∷ rules) others (suc r) c e = get_front_again rules others r c e
+pub get_front_again : {X : Type 0} (xs ys : List X) (i : ℕ) (x : X) → slice_get xs i ≡ Some x → slice_get (xs ++ ys) i ≡ Some x
+get_front_again [] ys i x e = absurd (cc)
+get_front_again (y ∷ xs) ys zero x e = e
+get_front_again (y ∷ xs) ys (suc i) x e = get_front_again xs ys i x e
 
 pub get_beyond : (owners : List ℕ) (k : ℕ) → length owners ≤ k → slice_get owners k ≡ None
 get_beyond [] k h = refl
@@ -234,3 +234,71 @@ filter_twice_againagain f g h same (q ∷ qs) =
       | true ↦ rw (filter_twice_againagain f g h same qs) refl
       | false ↦ filter_twice_againagain f g h same qs
     ])
+
+pub some_there : {X : Type 0} (xs : List X) (k : ℕ) → k < length xs → (x : X) × (slice_get xs k ≡ Some x)
+some_there [] k h = absurd (omega (arith, h))
+some_there (x ∷ xs) zero h = (x, refl)
+some_there (x ∷ xs) (suc k) h = some_there xs k (omega (arith, h))
+
+pub list_any_map : {X Y : Type 0} (f : Y → Bool) (make : X → Y) (xs : List X) → list_any f (map make xs) ≡ list_any (λ x. f (make x)) xs
+list_any_map f make [] = refl
+list_any_map f make (x ∷ xs) = ap (λ b. f (make x) || b) (list_any_map f make xs)
+
+pub any_filter : {X : Type 0} (f g : X → Bool) (xs : List X) → list_any f (filter g xs) ≡ list_any (λ x. f x && g x) xs
+any_filter f g [] = refl
+any_filter f g (x ∷ xs) =
+    elim (g x) as (λ b. list_any f (if b then x ∷ filter g xs else filter g xs) ≡ ((f x && b) || list_any (λ y. f y && g y) xs)) [
+      | true ↦ rw (any_filter f g xs, and_true (f x)) refl
+      | false ↦ rw (any_filter f g xs, and_false (f x)) refl
+    ]
+
+-- what holds of an element by its place
+pub all_get : {X : Type 0} (f : X → Bool) (xs : List X) (i : ℕ) (x : X) → list_all f xs ≡ true → i < length xs → x ≡ get_or xs i x → f x ≡ true
+all_get f [] i x h lt at = absurd (omega arith)
+all_get f (y ∷ xs) zero x h lt at = ap f at ∙ (and_parts (f y) (list_all f xs) h).0
+all_get f (y ∷ xs) (suc i) x h lt at = all_get f xs i x (and_parts (f y) (list_all f xs) h).1 (omega (arith, lt)) at
+
+-- one element more
+pub take_next : {X : Type 0} (xs : List X) (i : ℕ) (x : X) → i < length xs → x ≡ get_or xs i x → take (i + 1) xs ≡ take i xs ++ x ∷ []
+take_next [] i x lt at = absurd (omega arith)
+take_next (y ∷ xs) zero x lt at = ap (λ z. z ∷ []) (sym at)
+take_next (y ∷ xs) (suc i) x lt at =
+    let e : suc i + 1 ≡ suc (i + 1) = omega arith in
+    ap (λ k. take k (y ∷ xs)) e ∙ ap (λ t. y ∷ t) (take_next xs i x (omega (arith, lt)) at)
+
+pub all_taken : {X : Type 0} (p : X → Bool) (n : ℕ) (xs : List X) → list_all p xs ≡ true → list_all p (take n xs) ≡ true
+all_taken p zero xs h = refl
+all_taken p (suc n) [] h = refl
+all_taken p (suc n) (x ∷ xs) h = rw (first_of_both (p x) (list_all p xs) h) (all_taken p n xs (second_of_both (p x) (list_all p xs) h))
+
+-- what holds of all holds of the last ones
+pub all_dropped : {X : Type 0} (p : X → Bool) (n : ℕ) (xs : List X) → list_all p xs ≡ true → list_all p (drop n xs) ≡ true
+all_dropped p zero xs h = h
+all_dropped p (suc n) [] h = h
+all_dropped p (suc n) (x ∷ xs) h = all_dropped p n xs (second_of_both (p x) (list_all p xs) h)
+
+pub none_passes : {X : Type 0} (xs : List X) → filter (λ x. false) xs ≡ []
+none_passes [] = refl
+none_passes (x ∷ xs) = none_passes xs
+
+-- the first number of a range that is left
+pub range_step : (a i n : ℕ) → i < n → range_with_len a (n - i) ≡ a ∷ range_with_len (a + 1) (n - (i + 1))
+range_step a i n lt = let e : n - i ≡ suc (n - (i + 1)) = omega (arith, lt) in ap (range_with_len a) e
+
+-- a test that a value of the list meets has a place in it
+pub place_within : {X : Type 0} (p : X → Bool) (xs : List X) → list_any p xs ≡ true → position_or_len p xs < length xs
+place_within p [] h = cc
+place_within p (x ∷ xs) h =
+    elim (p x) as (λ b. p x ≡ b → position_or_len p (x ∷ xs) < length (x ∷ xs)) [
+      | true ↦ λ k. rw k (omega arith)
+      | false ↦ λ k. rw k (omega (arith, place_within p xs (rw k at h)))
+    ] refl
+
+-- and otherwise the end
+pub place_none : {X : Type 0} (p : X → Bool) (xs : List X) → list_any p xs ≡ false → position_or_len p xs ≡ length xs
+place_none p [] h = refl
+place_none p (x ∷ xs) h =
+    elim (p x) as (λ b. p x ≡ b → position_or_len p (x ∷ xs) ≡ length (x ∷ xs)) [
+      | true ↦ λ k. absurd (true≢false (rw k at h))
+      | false ↦ λ k. rw k (omega (arith, place_none p xs (rw k at h)))
+    ] refl

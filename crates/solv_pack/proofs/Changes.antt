@@ -6,8 +6,9 @@ use Rattle.solv_pack.specs.declared.place.Place.{Place}
 use Rattle.solv_pack.specs.Inner.Packing.{most_literals}
 use Rattle.solv_pack.specs.Inner.Layout.{block_at, rule_in, rules_in, IsInside, AreInside, AreBehind, Grows}
 use Rattle.solv_pack.specs.Inner.Moving.{EndsBefore, AllBefore, HasChanged}
-use Rattle.solv_pack.proofs.Places.{cons, rules_in-append, inside-append, behind_snoc, range_is, same_block, same_front, same_back}
-use Rattle.solv_pack.proofs.ClosedUp.{equal_or_not}
+use Rattle.solv_pack.proofs.Places.{rules_in-append, inside-append, behind_snoc, same_block, same_front, same_back}
+use Rattle.std.proofs.lemmas.Bool.{cases_eq}
+use Rattle.solv_list.proofs.Layouts.{cons, range_is}
 
 -- a block more
 pub all_grown : {X : Type 0} (old new : List (List X)) (ps : List Place) → Grows old new → AreInside old ps → (rules_in new ps ≡ rules_in old ps) × AreInside new ps
@@ -47,7 +48,7 @@ module _ {X : Type 0} (words new : List (List X)) (q : Place) (lits : List X) (l
       ∙ sym (take_all q.start (block_at words q.block) (omega (arith, start)))
 
   stays : (p : Place) → IsInside words p → (rule_in new p ≡ rule_in words p) × IsInside new p
-  stays p h = elim (equal_or_not p.block q.block) [
+  stays p h = elim (cases_eq p.block q.block) [
     | inl e ↦ at_block e
     | inr n ↦ same_block words new p count (ap (λ t. block_at t p.block) is ∙ get_or-set_other words q.block p.block (block_at words q.block ++ lits) [] n) h
   ]
@@ -83,7 +84,7 @@ module _ {X : Type 0} (words new : List (List X)) (q : Place) (lits : List X) (l
 -- a rule changed
 module _ {X : Type 0} (old new : List (List X)) (q : Place) (ys : List X) (c : HasChanged old new q ys) where
   inside_too : (p : Place) → IsInside old p → IsInside new p
-  inside_too p h = elim (equal_or_not p.block q.block) [
+  inside_too p h = elim (cases_eq p.block q.block) [
     | inl e ↦ record { there = omega (arith, h.there, c.count); whole = let same : length (block_at new p.block) ≡ length (block_at old p.block) = rw e c.long in omega (arith, h.whole, same); short = h.short }
     | inr n ↦ (same_block old new p c.count (c.other p.block n) h).1
   ]
@@ -94,14 +95,14 @@ module _ {X : Type 0} (old new : List (List X)) (q : Place) (ys : List X) (c : H
 
   -- before the place
   same_before : (p : Place) → EndsBefore q.block q.start p → q.start ≤ length (block_at old q.block) → IsInside old p → rule_in new p ≡ rule_in old p
-  same_before p ends le h = elim (equal_or_not p.block q.block) [
+  same_before p ends le h = elim (cases_eq p.block q.block) [
     | inl e ↦ (same_front old new p q.start c.count (ends.1 e) (rw e (omega (arith, le, c.long))) (rw e c.front) h).0
     | inr n ↦ (same_block old new p c.count (c.other p.block n) h).0
   ]
 
   -- behind it
   same_behind : (p : Place) → (q.block ≡ p.block → q.start + q.len ≤ p.start) → IsInside old p → rule_in new p ≡ rule_in old p
-  same_behind p starts h = elim (equal_or_not p.block q.block) [
+  same_behind p starts h = elim (cases_eq p.block q.block) [
     | inl e ↦ (same_back old new p (q.start + q.len) c.count (starts (sym e)) (rw e c.long) (rw e c.back) h).0
     | inr n ↦ (same_block old new p c.count (c.other p.block n) h).0
   ]
@@ -155,7 +156,7 @@ module _ {X : Type 0} (words new : List (List X)) (block start : ℕ) (is : new 
   at k le = ap (λ t. block_at t k) is ∙ get_or-take (block + 1) cut k [] (omega arith)
 
   keeps : (p : Place) → EndsBefore block start p → IsInside words p → (rule_in new p ≡ rule_in words p) × IsInside new p
-  keeps p ends h = elim (equal_or_not p.block block) [
+  keeps p ends h = elim (cases_eq p.block block) [
     | inl e ↦ here e
     | inr n ↦ there n
   ]

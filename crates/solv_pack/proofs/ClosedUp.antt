@@ -1,12 +1,14 @@
 -- Closing up: the rules that are kept move down, from first to last, and those that are still to come stay as they are.
-use Rattle.std.proofs.Common.{◌≡◌, ◌<◌, ◌≤◌, ◌+◌, ℕ, zero, suc, Bool, true, false, List, [], ◌∷◌, ◌++◌, length, take, drop, get_or, inl, inr, ◌⊎◌, refl, sym, ap, ◌∙◌, subst, arith, append_assoc}
+use Rattle.std.proofs.Common.{◌≡◌, ◌<◌, ◌≤◌, ◌+◌, ℕ, Bool, true, false, List, [], ◌∷◌, ◌++◌, length, take, drop, get_or, inl, inr, refl, sym, ap, ◌∙◌, subst, arith, append_assoc}
 use Rattle.std.specs.Prelude.{slice_set}
 use Rattle.std.proofs.lemmas.List.{append-nil, take-take, length-take-le, drop_more, drop_all, take_more_set, drop-set-lt, drop_at, take_at, length-set}
 use Rattle.solv_pack.specs.declared.place.Place.{Place}
 use Rattle.solv_pack.specs.Inner.Packing.{kept}
 use Rattle.solv_pack.specs.Inner.Layout.{block_at, rule_in, rules_in, IsInside, AreInside, AreBehind}
 use Rattle.solv_pack.specs.Inner.Moving.{IsPoint, IsTarget, HasMoved, EndsBefore, AllBefore, IsClosed}
-use Rattle.solv_pack.proofs.Places.{cons, rules_in-append, inside-append, behind_sooner, before_later, before-append, behind_snoc, range_is, same_block, same_front, same_back}
+use Rattle.solv_pack.proofs.Places.{rules_in-append, inside-append, behind_sooner, before_later, before-append, behind_snoc, same_block, same_front, same_back}
+use Rattle.std.proofs.lemmas.Bool.{cases_eq}
+use Rattle.solv_list.proofs.Layouts.{cons, range_is}
 
 -- some rules are closed up, and those that are left make the whole with them
 pub record IsClosing {X : Type 0} (whole : List (List X)) (words : List (List X)) (places : List Place) (keep : List Bool) (i count block start : ℕ) : Type 0 where
@@ -19,16 +21,6 @@ pub record IsClosing {X : Type 0} (whole : List (List X)) (words : List (List X)
   pub written : start ≤ length (block_at words block)
   pub fewer : count ≤ i
   pub each : length keep ≡ length places
-
--- two numbers are equal or not
-pub equal_or_not : (a b : ℕ) → (a ≡ b) ⊎ (a ≡ b → ⊥)
-equal_or_not zero zero = inl refl
-equal_or_not zero (suc b) = inr (λ e. absurd (cc e))
-equal_or_not (suc a) zero = inr (λ e. absurd (cc e))
-equal_or_not (suc a) (suc b) = elim (equal_or_not a b) [
-  | inl e ↦ inl (ap (λ n. suc n) e)
-  | inr n ↦ inr (λ e. n (omega (arith, e)))
-]
 
 pub closing_start : {X : Type 0} (words : List (List X)) (places : List Place) (keep : List Bool) → AreInside words places → AreBehind 0 0 places → length keep ≡ length places → IsClosing (kept keep (rules_in words places)) words places keep 0 0 0 0
 closing_start words places keep h k each = record {
@@ -50,7 +42,7 @@ kept_all keep rules e = rw e refl
 module _ {X : Type 0} (old new : List (List X)) (rooms : List ℕ) (from : Place) (block start to_block to_start : ℕ) (target : IsTarget old rooms from block start to_block to_start) (moved : HasMoved old new from to_block to_start) where
   -- before
   stays_before : (p : Place) → EndsBefore to_block to_start p → IsInside old p → (rule_in new p ≡ rule_in old p) × IsInside new p
-  stays_before p ends h = elim (equal_or_not p.block to_block) [
+  stays_before p ends h = elim (cases_eq p.block to_block) [
     | inl e ↦ at_block e
     | inr n ↦ same_block old new p moved.count (moved.other p.block n) h
   ]
@@ -72,7 +64,7 @@ module _ {X : Type 0} (old new : List (List X)) (rooms : List ℕ) (from : Place
 
   -- behind
   stays_behind : (p : Place) → from.block ≤ p.block → (from.block ≡ p.block → from.start + from.len ≤ p.start) → IsInside old p → (rule_in new p ≡ rule_in old p) × IsInside new p
-  stays_behind p le starts h = elim (equal_or_not p.block to_block) [
+  stays_behind p le starts h = elim (cases_eq p.block to_block) [
     | inl e ↦ at_block e
     | inr n ↦ same_block old new p moved.count (moved.other p.block n) h
   ]

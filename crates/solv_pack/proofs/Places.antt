@@ -1,14 +1,11 @@
 -- Places in order, what lies at them, and what is left of it where blocks change elsewhere.
 use Rattle.std.proofs.Common.{◌≡◌, ◌<◌, ◌≤◌, ◌+◌, ◌-◌, ℕ, zero, suc, List, [], ◌∷◌, ◌++◌, length, take, drop, get_or, refl, sym, ap, ◌∙◌, arith}
 use Rattle.std.specs.Prelude.{slice_get, slice_range, Some}
-use Rattle.std.proofs.lemmas.List.{take-take, drop-take}
 use Rattle.solv_pack.specs.declared.place.Place.{Place}
 use Rattle.solv_pack.specs.Inner.Layout.{block_at, rule_in, rules_in, IsInside, AreInside, AreBehind}
 use Rattle.solv_pack.specs.Inner.Moving.{AllBefore}
 use Rattle.solv_pack.proofs.Moves.{drop_further}
-
-pub cons : {X : Type 0} (x y : X) (xs ys : List X) → x ≡ y → xs ≡ ys → x ∷ xs ≡ y ∷ ys
-cons x y xs ys e f = rw (e, f) refl
+use Rattle.solv_list.proofs.Layouts.{range-front}
 
 pub length_rules_in : {X : Type 0} (words : List (List X)) (ps : List Place) → length (rules_in words ps) ≡ length ps
 length_rules_in words [] = refl
@@ -61,16 +58,6 @@ pub behind_snoc : (b s : ℕ) (ps : List Place) (q : Place) → AreBehind b s ps
 behind_snoc b s [] q h k le same = (le, same, tt)
 behind_snoc b s (p ∷ ps) q h k le same = (h.0, h.1, behind_snoc p.block (p.start + p.len) ps q h.2 k.1 k.0.0 k.0.1)
 
--- ---- what lies at a place
-pub range_is : {X : Type 0} (xs : List X) (a b : ℕ) → a ≤ b → slice_range xs a b ≡ drop a (take b xs)
-range_is xs a b le = let fit : a + (b - a) ≡ b = omega arith in sym (drop-take a (b - a) xs) ∙ ap (λ n. drop a (take n xs)) fit
-
-pub range_front : {X : Type 0} (xs ys : List X) (a b upto : ℕ) → a ≤ b → b ≤ upto → take upto xs ≡ take upto ys → slice_range xs a b ≡ slice_range ys a b
-range_front xs ys a b upto le within e =
-    range_is xs a b le
-    ∙ ap (λ t. drop a t) (sym (take-take b upto xs within) ∙ ap (λ t. take b t) e ∙ take-take b upto ys within)
-    ∙ sym (range_is ys a b le)
-
 pub range_back : {X : Type 0} (xs ys : List X) (a b from : ℕ) → from ≤ a → drop from xs ≡ drop from ys → slice_range xs a b ≡ slice_range ys a b
 range_back xs ys a b from le e = ap (λ t. take (b - a) t) (drop_further xs ys from a le e)
 
@@ -88,7 +75,7 @@ same_block old new p count e h = (
 -- it has the same up to the end of the place
 pub same_front : {X : Type 0} (old new : List (List X)) (p : Place) (upto : ℕ) → length new ≡ length old → p.start + p.len ≤ upto → upto ≤ length (block_at new p.block) → take upto (block_at new p.block) ≡ take upto (block_at old p.block) → IsInside old p → (rule_in new p ≡ rule_in old p) × IsInside new p
 same_front old new p upto count ends long e h = (
-  range_front (block_at new p.block) (block_at old p.block) p.start (p.start + p.len) upto (omega arith) ends e,
+  range-front (block_at new p.block) (block_at old p.block) p.start (p.start + p.len) upto (omega arith) ends e,
   record {
     there = omega (arith, h.there, count);
     whole = omega (arith, ends, long);

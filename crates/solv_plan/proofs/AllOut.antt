@@ -16,12 +16,7 @@ use Rattle.solv_plan.specs.Inside.{some_inside}
 use Rattle.solv_plan.specs.Inner.Settling.{all_outside, demand_quiet, keep_quiet, demands_quiet, keeps_quiet, AreQuiet}
 use Rattle.solv_plan.proofs.Joining.{first_ask-append, first_ask-flat_map, met_asks, unmet_none}
 use Rattle.solv_plan.proofs.Recalled.{any_more}
-
-all_more : {X : Type 0} (f g : X → Bool) → ((x : X) → f x ≡ true → g x ≡ true) → (xs : List X) → list_all f xs ≡ true → list_all g xs ≡ true
-all_more f g more [] h = refl
-all_more f g more (x ∷ xs) h =
-    let both = and_parts (f x) (list_all f xs) h in
-    and_from (g x) (list_all g xs) (more x both.0) (all_more f g more xs both.1)
+use Rattle.solv_list.proofs.Lists.{all_weaker}
 
 or_more : (a b c d : Bool) → (a ≡ true → c ≡ true) → (b ≡ true → d ≡ true) → (a || b) ≡ true → (c || d) ≡ true
 or_more a b c d first second h = elim (or_cases a b h) [
@@ -101,7 +96,7 @@ module _ (before after : ℤ → Bool) (more : (l : ℤ) → before l ≡ true �
 
   outside_stays : (xs : List ℕ) → all_outside before xs ≡ true → all_outside after xs ≡ true
   outside_stays xs h =
-      all_more (is_outside before) (is_outside after) (λ p e. and_more (not (eqb p 0)) (before (neg_ℤ (pos p))) (not (eqb p 0)) (after (neg_ℤ (pos p))) (λ z. z) (more (neg_ℤ (pos p))) e) xs h
+      all_weaker (is_outside before) (is_outside after) (λ p e. and_more (not (eqb p 0)) (before (neg_ℤ (pos p))) (not (eqb p 0)) (after (neg_ℤ (pos p))) (λ z. z) (more (neg_ℤ (pos p))) e) xs h
 
   demand_stays : (d : Demand) → demand_quiet before d ≡ true → demand_quiet after d ≡ true
   demand_stays d h =
@@ -110,7 +105,7 @@ module _ (before after : ℤ → Bool) (more : (l : ℤ) → before l ≡ true �
   keep_stays : (k : Keep) → keep_quiet before k ≡ true → keep_quiet after k ≡ true
   keep_stays k h =
       and_more (list_all (demand_quiet before) k.best) (not k.is_asked || rest before) (list_all (demand_quiet after) k.best) (not k.is_asked || rest after)
-      (all_more (demand_quiet before) (demand_quiet after) demand_stays k.best)
+      (all_weaker (demand_quiet before) (demand_quiet after) demand_stays k.best)
       (or_more (not k.is_asked) (rest before) (not k.is_asked) (rest after) (λ z. z)
       (or_more (some_inside before k.close) (out before) (some_inside after k.close) (out after) (inside_stays k.close)
       (and_more (all_outside before k.close) (all_outside before k.far) (all_outside after k.close) (all_outside after k.far) (outside_stays k.close) (outside_stays k.far))))

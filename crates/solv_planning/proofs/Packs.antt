@@ -18,8 +18,8 @@ use Rattle.solv_rules.proofs.Meeting.{members_within}
 use Rattle.solv_questions.specs.Questions.{Request}
 use Rattle.solv_plan.specs.Inner.PlanOf.{row_of}
 use Rattle.solv_plan.proofs.Tables.{row_there}
-use Rattle.solv_policy.proofs.Places.{packs_of}
 use Rattle.solv_list.proofs.Booleans.{first_of_both, second_of_both}
+use Rattle.solv_pool.proofs.Placed.{packs_of}
 
 -- the successors of one are packages
 pub successors_packs : (catalog : Catalog) (flags : Flags) (marks : Marks) (p : ℕ) → list_all (is_pack (length catalog.universe.packages)) (successors catalog flags marks p) ≡ true

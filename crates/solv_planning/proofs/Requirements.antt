@@ -22,10 +22,11 @@ use Rattle.solv_questions.specs.Questions.{Request, rules_of}
 use Rattle.solv_pool.proofs.Members.{all_by}
 use Rattle.solv_questions.proofs.Origins.{IsFrom, is_from}
 use Rattle.solv_plan.specs.Inner.PlanOf.{want_of, conflict_of, required_by}
-use Rattle.solv_plan.proofs.Tables.{flat_flat, flat_alike, append_none}
+use Rattle.solv_plan.proofs.Tables.{flat_flat, flat_alike}
 use Rattle.solv_planning.specs.Inner.Readiness.{asks_for_packages}
 use Rattle.solv_planning.specs.Inner.Rows.{wants_of}
-use Rattle.solv_policy.proofs.Places.{packs_of}
+use Rattle.std.proofs.lemmas.List.{append-nil}
+use Rattle.solv_pool.proofs.Placed.{packs_of}
 
 module _ (r : Request) where
   -- lists of rules by which nothing is asked for
@@ -46,7 +47,7 @@ module _ (r : Request) where
 
   -- a part behind others that has none
   none_behind : (xs ys : List HardRule) → flat_map (wants_of r.catalog) ys ≡ [] → flat_map (wants_of r.catalog) (xs ++ ys) ≡ flat_map (wants_of r.catalog) xs
-  none_behind xs ys h = flat_map-append (wants_of r.catalog) xs ys ∙ ap (λ t. flat_map (wants_of r.catalog) xs ++ t) h ∙ append_none (flat_map (wants_of r.catalog) xs)
+  none_behind xs ys h = flat_map-append (wants_of r.catalog) xs ys ∙ ap (λ t. flat_map (wants_of r.catalog) xs ++ t) h ∙ append-nil (flat_map (wants_of r.catalog) xs)
 
   none_before : (xs ys : List HardRule) → flat_map (wants_of r.catalog) xs ≡ [] → flat_map (wants_of r.catalog) (xs ++ ys) ≡ flat_map (wants_of r.catalog) ys
   none_before xs ys h = flat_map-append (wants_of r.catalog) xs ys ∙ ap (λ t. t ++ flat_map (wants_of r.catalog) ys) h

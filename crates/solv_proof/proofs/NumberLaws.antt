@@ -16,23 +16,22 @@ use Rattle.solv_proof.specs.Numbers.{is_plain, spelt, place, from_one, count, pa
 use Rattle.solv_proof.specs.Words.{is_some_word}
 use Rattle.solv_proof.specs.Reading.{is_zero}
 use Rattle.solv_proof.specs.Laws.{place_fits, literal_fits, hint_fits}
-use Rattle.solv_proof.proofs.Bools.{both, joint, below, unequal}
+use Rattle.solv_proof.proofs.Bools.{both, joint}
 use Rattle.solv_list.proofs.Lists.{below_true, same_bytes}
 use Rattle.solv_list.proofs.Numbers.{same_number}
-use Rattle.solv_proof.proofs.WordLaws.{is_inside, is_word}
+use Rattle.solv_proof.proofs.WordLaws.{is_inside, is_unspaced}
+use Rattle.solv_list.proofs.Digits.{digit_more}
+use Rattle.std.proofs.lemmas.Bool.{ltb-true, ne_eqb}
 
 abbrev are_digits : List ℕ → Bool
 are_digits w = list_all is_ascii_digit w
 
-digit_more : (d : ℕ) → d < 10 → is_ascii_digit (48 + d) ≡ true
-digit_more d h = grind (arith, nat_tests)
-
 digit_inside : (c : ℕ) → is_ascii_digit c ≡ true → is_inside c ≡ true
 digit_inside c h = grind (arith, nat_tests)
 
-digits_word : (w : List ℕ) → are_digits w ≡ true → is_word w ≡ true
+digits_word : (w : List ℕ) → are_digits w ≡ true → is_unspaced w ≡ true
 digits_word [] h = refl
-digits_word (c ∷ cs) h = let cut = both (is_ascii_digit c) (are_digits cs) h in joint (is_inside c) (is_word cs) (digit_inside c cut.0) (digits_word cs cut.1)
+digits_word (c ∷ cs) h = let cut = both (is_ascii_digit c) (are_digits cs) h in joint (is_inside c) (is_unspaced cs) (digit_inside c cut.0) (digits_word cs cut.1)
 
 -- a plain word has a byte, and digits alone
 plain_digits : (w : List ℕ) → is_plain w ≡ true → are_digits w ≡ true
@@ -40,7 +39,7 @@ plain_digits [] h = absurd (cc)
 plain_digits (c ∷ []) h = rw h refl
 plain_digits (c ∷ d ∷ cs) h = (both (not (c == 48)) (are_digits (c ∷ d ∷ cs)) h).1
 
-pub plain_word : (w : List ℕ) → is_plain w ≡ true → is_word w ≡ true
+pub plain_word : (w : List ℕ) → is_plain w ≡ true → is_unspaced w ≡ true
 plain_word w h = digits_word w (plain_digits w h)
 
 pub plain_some : (w : List ℕ) → is_plain w ≡ true → is_some_word w ≡ true
@@ -77,7 +76,7 @@ decimal_plain n small = (decimal_by_steps (λ m ds. (is_plain ds ≡ true) × (0
     (λ m ds ten before. (more_plain ds (48 + m % 10) before.0 (before.1 (omega arith)) (digit_more (m % 10) (remainder_small m)), λ some. more_other ds (48 + m % 10) (before.1 (omega arith))))
     n small).0
 
-pub decimal_word : (n : ℕ) → n < 2 ^ 64 → is_word (decimal n) ≡ true
+pub decimal_word : (n : ℕ) → n < 2 ^ 64 → is_unspaced (decimal n) ≡ true
 decimal_word n small = plain_word (decimal n) (decimal_plain n small)
 
 pub spelt_decimal : (limit n : ℕ) → n < limit → limit ≤ 2 ^ 64 → spelt limit (decimal n) ≡ Some n
@@ -104,7 +103,7 @@ spelt_is limit n w most h =
     elim (is_plain w && nat_lt (digits_value 10 w) limit) as (λ b. (is_plain w && nat_lt (digits_value 10 w) limit) ≡ b → (if b then Some (digits_value 10 w) else None) ≡ Some n → (w ≡ decimal n) × (n < limit)) [
       | true ↦ λ e f.
           let cut = both (is_plain w) (nat_lt (digits_value 10 w) limit) e in
-          let small : digits_value 10 w < limit = below (digits_value 10 w) limit cut.1 in
+          let small : digits_value 10 w < limit = ltb-true (digits_value 10 w) limit cut.1 in
           let is : digits_value 10 w ≡ n = same_some (digits_value 10 w) n f in
           (sym (decimal-digits_value own w (plain_digits w cut.0) (plain_length w cut.0) (plain_lead w cut.0) (omega arith)) ∙ ap decimal is, omega (arith, is, small))
       | false ↦ λ e f. absurd (cc)
@@ -115,14 +114,14 @@ spelt_is limit n w most h =
 
 -- a place
 pub place_decimal : (n : ℕ) → place_fits n ≡ true → place (decimal n) ≡ Some n
-place_decimal n h = spelt_decimal (2 ^ 64) n (below n (2 ^ 64) h) (omega arith)
+place_decimal n h = spelt_decimal (2 ^ 64) n (ltb-true n (2 ^ 64) h) (omega arith)
 
 pub place_is : (n : ℕ) (w : List ℕ) → place w ≡ Some n → (w ≡ decimal n) × (place_fits n ≡ true)
 place_is n w h = let is = spelt_is (2 ^ 64) n w (omega arith) h in (is.0, below_true n (2 ^ 64) is.1)
 
 -- a number from 1
 from_one_some : (n : ℕ) → 0 < n → from_one (Some n) ≡ Some n
-from_one_some n h = rw (unequal n 0 (λ e. omega (arith, e))) refl
+from_one_some n h = rw (ne_eqb n 0 (λ e. omega (arith, e))) refl
 
 from_one_is : (read : Option ℕ) (n : ℕ) → from_one read ≡ Some n → (read ≡ Some n) × (0 < n)
 from_one_is None n h = absurd (cc)
@@ -135,7 +134,7 @@ from_one_is (Some m) n h = elim (m == 0) as (λ b. (m == 0) ≡ b → (if b then
     positive m n e f = let is : m ≡ n = cc in grind (arith, nat_tests, e, is)
 
 pub count_decimal : (n : ℕ) → nat_lt 0 n ≡ true → place_fits n ≡ true → count (decimal n) ≡ Some n
-count_decimal n some h = ap from_one (place_decimal n h) ∙ from_one_some n (below 0 n some)
+count_decimal n some h = ap from_one (place_decimal n h) ∙ from_one_some n (ltb-true 0 n some)
 
 pub count_is : (n : ℕ) (w : List ℕ) → count w ≡ Some n → (w ≡ decimal n) × (place_fits n ≡ true) × (nat_lt 0 n ≡ true)
 count_is n w h =
@@ -166,11 +165,11 @@ plain_literal (c ∷ cs) h = rw (no_minus c (first_digit c cs h)) refl
 pub literal_decimal : (l : ℤ) → literal_fits l ≡ true → literal (signed_decimal l) ≡ Some l
 literal_decimal (pos n) h =
     let cut = both (nat_lt 0 n) (nat_lt n (2 ^ 20)) h in
-    let low : n < 2 ^ 20 = below n (2 ^ 20) cut.1 in
-    plain_literal (decimal n) (decimal_plain n (omega arith)) ∙ ap (option_map pos) (package_decimal n (below 0 n cut.0) low)
+    let low : n < 2 ^ 20 = ltb-true n (2 ^ 20) cut.1 in
+    plain_literal (decimal n) (decimal_plain n (omega arith)) ∙ ap (option_map pos) (package_decimal n (ltb-true 0 n cut.0) low)
 literal_decimal (negsuc n) h =
     let cut = both (nat_lt 0 (suc n)) (nat_lt (suc n) (2 ^ 20)) h in
-    ap (option_map (λ m. neg_ℤ (pos m))) (package_decimal (suc n) (omega arith) (below (suc n) (2 ^ 20) cut.1))
+    ap (option_map (λ m. neg_ℤ (pos m))) (package_decimal (suc n) (omega arith) (ltb-true (suc n) (2 ^ 20) cut.1))
 
 pub literal_is : (l : ℤ) (w : List ℕ) → literal w ≡ Some l → (w ≡ signed_decimal l) × (literal_fits l ≡ true)
 literal_is l [] h = absurd (cc)
@@ -195,9 +194,9 @@ literal_is l (c ∷ cs) h = elim (c == 45) as (λ b. (c == 45) ≡ b → (if b t
     minus None e f m = absurd (cc)
     minus (Some n) e f m = let is = package_is n cs e in let same : neg_ℤ (pos n) ≡ l = cc in rw (← same) (negative n cs is.0 is.1 is.2 (same_number c 45 m))
 
-pub literal_word : (l : ℤ) → literal_fits l ≡ true → is_word (signed_decimal l) ≡ true
-literal_word (pos n) h = let low : n < 2 ^ 20 = below n (2 ^ 20) (both (nat_lt 0 n) (nat_lt n (2 ^ 20)) h).1 in decimal_word n (omega arith)
-literal_word (negsuc n) h = let low : suc n < 2 ^ 20 = below (suc n) (2 ^ 20) (both (nat_lt 0 (suc n)) (nat_lt (suc n) (2 ^ 20)) h).1 in decimal_word (suc n) (omega arith)
+pub literal_word : (l : ℤ) → literal_fits l ≡ true → is_unspaced (signed_decimal l) ≡ true
+literal_word (pos n) h = let low : n < 2 ^ 20 = ltb-true n (2 ^ 20) (both (nat_lt 0 n) (nat_lt n (2 ^ 20)) h).1 in decimal_word n (omega arith)
+literal_word (negsuc n) h = let low : suc n < 2 ^ 20 = ltb-true (suc n) (2 ^ 20) (both (nat_lt 0 (suc n)) (nat_lt (suc n) (2 ^ 20)) h).1 in decimal_word (suc n) (omega arith)
 
 -- the word `0` is no literal
 pub literal_not_zero : (w : List ℕ) (l : ℤ) → literal w ≡ Some l → is_zero w ≡ false
@@ -208,7 +207,7 @@ literal_not_zero w l h = elim (is_zero w) as (λ b. is_zero w ≡ b → b ≡ fa
 
 -- hints
 pub hint_decimal : (h : Hint) → hint_fits h ≡ true → hint_of (hint_word h) ≡ Some h
-hint_decimal (hint.Book rule) f = ap (option_map hint.Book) (spelt_decimal (2 ^ 32) rule (below rule (2 ^ 32) f) (omega arith))
+hint_decimal (hint.Book rule) f = ap (option_map hint.Book) (spelt_decimal (2 ^ 32) rule (ltb-true rule (2 ^ 32) f) (omega arith))
 hint_decimal (hint.Step step) f = ap (option_map hint.Step) (place_decimal step f)
 
 pub hint_is : (h : Hint) (w : List ℕ) → hint_of w ≡ Some h → (w ≡ hint_word h) × (hint_fits h ≡ true)
@@ -239,6 +238,6 @@ hint_is h (c ∷ cs) e = elim (c == 98) as (λ b. (c == 98) ≡ b → (if b then
       | false ↦ λ m g. absurd (cc)
     ] refl f
 
-pub hint_word_inside : (h : Hint) → hint_fits h ≡ true → is_word (hint_word h) ≡ true
-hint_word_inside (hint.Book rule) f = let low : rule < 2 ^ 32 = below rule (2 ^ 32) f in decimal_word rule (omega arith)
-hint_word_inside (hint.Step step) f = decimal_word step (below step (2 ^ 64) f)
+pub hint_word_inside : (h : Hint) → hint_fits h ≡ true → is_unspaced (hint_word h) ≡ true
+hint_word_inside (hint.Book rule) f = let low : rule < 2 ^ 32 = ltb-true rule (2 ^ 32) f in decimal_word rule (omega arith)
+hint_word_inside (hint.Step step) f = decimal_word step (ltb-true step (2 ^ 64) f)

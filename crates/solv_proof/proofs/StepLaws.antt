@@ -12,8 +12,8 @@ use Rattle.solv_proof.specs.Reading.{all_of, is_zero, clause_of, with_hints, ste
 use Rattle.solv_proof.specs.Laws.{literal_fits, hint_fits, step_fits}
 use Rattle.solv_proof.proofs.Bools.{both, joint}
 use Rattle.solv_list.proofs.Lists.{same_bytes}
-use Rattle.solv_proof.proofs.WordLaws.{is_word}
 use Rattle.solv_proof.proofs.NumberLaws.{literal_decimal, literal_is, literal_not_zero, literal_word, hint_decimal, hint_is, hint_word_inside}
+use Rattle.solv_proof.proofs.WordLaws.{is_unspaced}
 
 module _ {T : Type 0} (read : List ℕ → Option T) (write : T → List ℕ) (fits : T → Bool) where
   -- what each element writes reads as the elements
@@ -42,8 +42,8 @@ module _ {T : Type 0} (read : List ℕ → Option T) (write : T → List ℕ) (f
       first again (Some x) e f = behind x (all_of read ws) again e f
 
 -- words of elements have neither spaces nor line feeds
-pub all_words : {T : Type 0} (write : T → List ℕ) (fits : T → Bool) → ((x : T) → fits x ≡ true → is_word (write x) ≡ true) → (xs : List T) → list_all fits xs ≡ true
-    → list_all is_word (map write xs) ≡ true
+pub all_words : {T : Type 0} (write : T → List ℕ) (fits : T → Bool) → ((x : T) → fits x ≡ true → is_unspaced (write x) ≡ true) → (xs : List T) → list_all fits xs ≡ true
+    → list_all is_unspaced (map write xs) ≡ true
 all_words write fits each [] h = refl
 all_words write fits each (x ∷ xs) h = let cut = both (fits x) (list_all fits xs) h in rw (each x cut.0, all_words write fits each xs cut.1) refl
 
@@ -124,11 +124,11 @@ step_read ws s h = of_clause (clause_of ws) refl h
     of_clause None e f = absurd (cc)
     of_clause (Some cut) e f = of_hints cut.0 cut.1 (all_of hint_of cut.1) e refl f
 
-pub step_line_words : (s : Step) → step_fits s ≡ true → list_all is_word (behind_step s) ≡ true
+pub step_line_words : (s : Step) → step_fits s ≡ true → list_all is_unspaced (behind_step s) ≡ true
 step_line_words s h =
     let cut = both (list_all literal_fits s.clause) (list_all hint_fits s.hints) h in
     rw (
-      list_all-append is_word (map signed_decimal s.clause) (codes "0" ∷ map hint_word s.hints),
+      list_all-append is_unspaced (map signed_decimal s.clause) (codes "0" ∷ map hint_word s.hints),
       all_words signed_decimal literal_fits literal_word s.clause cut.0,
       all_words hint_word hint_fits hint_word_inside s.hints cut.1,
     ) refl

@@ -12,32 +12,27 @@ use Rattle.solv_proof.specs.Reading.{is_fed}
 use Rattle.solv_proof.proofs.Bools.{both, joint}
 use Rattle.solv_list.proofs.Numbers.{same_number}
 use Rattle.solv_proof.proofs.Cuts.{words_some}
+use Rattle.solv_io.specs.JoinedWords.{is_inner, is_line}
 
 -- neither a space nor a line feed
 abbrev pub is_inside : ℕ → Bool
 is_inside b = not (b == 32) && not (b == 10)
 
-abbrev pub is_word : List ℕ → Bool
-is_word w = list_all is_inside w
-
--- no line feed
-abbrev pub is_other : ℕ → Bool
-is_other b = not (b == 10)
-
-abbrev pub is_line : List ℕ → Bool
-is_line l = list_all is_other l
+-- a word of a line whose words are parted by one space
+abbrev pub is_unspaced : List ℕ → Bool
+is_unspaced w = list_all is_inside w
 
 no_space : (b : ℕ) → is_inside b ≡ true → (b == 32) ≡ false
 no_space b h = grind (arith, nat_tests)
 
-no_feed : (b : ℕ) → is_other b ≡ true → (b == 10) ≡ false
+no_feed : (b : ℕ) → is_inner b ≡ true → (b == 10) ≡ false
 no_feed b h = grind (arith, nat_tests)
 
 -- words joined are the words of their line
-pub words_joined : (w : List ℕ) (ws : List (List ℕ)) → is_word w ≡ true → list_all is_word ws ≡ true → words_between (w ++ spaced ws) ≡ w ∷ ws
+pub words_joined : (w : List ℕ) (ws : List (List ℕ)) → is_unspaced w ≡ true → list_all is_unspaced ws ≡ true → words_between (w ++ spaced ws) ≡ w ∷ ws
 words_joined [] [] h hs = refl
-words_joined [] (v ∷ vs) h hs = let cut = both (is_word v) (list_all is_word vs) hs in ap (λ l. [] ∷ l) (words_joined v vs cut.0 cut.1)
-words_joined (c ∷ cs) ws h hs = let cut = both (is_inside c) (is_word cs) h in rw (no_space c cut.0, words_joined cs ws cut.1 hs) refl
+words_joined [] (v ∷ vs) h hs = let cut = both (is_unspaced v) (list_all is_unspaced vs) hs in ap (λ l. [] ∷ l) (words_joined v vs cut.0 cut.1)
+words_joined (c ∷ cs) ws h hs = let cut = both (is_inside c) (is_unspaced cs) h in rw (no_space c cut.0, words_joined cs ws cut.1 hs) refl
 
 -- the words of a line, joined, are the line
 longer_joined : (c : ℕ) (ws : List (List ℕ)) → is_some_list ws ≡ true → joined (lengthened c ws) ≡ c ∷ joined ws
@@ -56,28 +51,28 @@ joined_words (c ∷ cs) = elim (c == 32) as (λ b. (c == 32) ≡ b → joined (c
 ] refl
 
 -- a word has no line feed, and so has a line of words
-word_line : (w : List ℕ) → is_word w ≡ true → is_line w ≡ true
+word_line : (w : List ℕ) → is_unspaced w ≡ true → is_line w ≡ true
 word_line [] h = refl
 word_line (c ∷ cs) h =
-    let cut = both (is_inside c) (is_word cs) h in
-    joint (is_other c) (is_line cs) (both (not (c == 32)) (is_other c) cut.0).1 (word_line cs cut.1)
+    let cut = both (is_inside c) (is_unspaced cs) h in
+    joint (is_inner c) (is_line cs) (both (not (c == 32)) (is_inner c) cut.0).1 (word_line cs cut.1)
 
-spaced_line : (ws : List (List ℕ)) → list_all is_word ws ≡ true → is_line (spaced ws) ≡ true
+spaced_line : (ws : List (List ℕ)) → list_all is_unspaced ws ≡ true → is_line (spaced ws) ≡ true
 spaced_line [] h = refl
 spaced_line (w ∷ ws) h =
-    let cut = both (is_word w) (list_all is_word ws) h in
-    rw (list_all-append is_other w (spaced ws), word_line w cut.0, spaced_line ws cut.1) refl
+    let cut = both (is_unspaced w) (list_all is_unspaced ws) h in
+    rw (list_all-append is_inner w (spaced ws), word_line w cut.0, spaced_line ws cut.1) refl
 
-pub joined_line : (ws : List (List ℕ)) → list_all is_word ws ≡ true → is_line (joined ws) ≡ true
+pub joined_line : (ws : List (List ℕ)) → list_all is_unspaced ws ≡ true → is_line (joined ws) ≡ true
 joined_line [] h = refl
 joined_line (w ∷ ws) h =
-    let cut = both (is_word w) (list_all is_word ws) h in
-    rw (list_all-append is_other w (spaced ws), word_line w cut.0, spaced_line ws cut.1) refl
+    let cut = both (is_unspaced w) (list_all is_unspaced ws) h in
+    rw (list_all-append is_inner w (spaced ws), word_line w cut.0, spaced_line ws cut.1) refl
 
 -- lines with line feeds are the lines of their text
 line_first : (line rest : List ℕ) → is_line line ≡ true → lines_of (line ++ 10 ∷ rest) ≡ line ∷ lines_of rest
 line_first [] rest h = refl
-line_first (c ∷ cs) rest h = let cut = both (is_other c) (is_line cs) h in rw (no_feed c cut.0, line_first cs rest cut.1) refl
+line_first (c ∷ cs) rest h = let cut = both (is_inner c) (is_line cs) h in rw (no_feed c cut.0, line_first cs rest cut.1) refl
 
 pub lines_ended : (lines : List (List ℕ)) → list_all is_line lines ≡ true → lines_of (ended_lines lines) ≡ lines
 lines_ended [] h = refl

@@ -27,6 +27,7 @@ use Rattle.solv_prov.specs.Index.{relations, names, providers_of, named_by, obso
 use Rattle.solv_prov.proofs.Booleans.{filter_none, at_range, made_at}
 use Rattle.solv_list.proofs.Booleans.{first_of_both}
 use Rattle.std.proofs.lemmas.List.FromFn.{length-range_with_len}
+use Rattle.solv_base.proofs.Trees.{no_capability}
 
 -- what a relation of a dependency has
 abbrev providers_by : Catalog → Dep ℕ → List ℕ
@@ -78,19 +79,6 @@ none_meets catalog at (Unless a b) h = filter_none (λ p. false) (λ p. refl) (m
 none_meets catalog at (IfElse a b c) h = filter_none (λ p. false) (λ p. refl) (members catalog)
 none_meets catalog at (UnlessElse a b c) h = filter_none (λ p. false) (λ p. refl) (members catalog)
 
-has_no_capability : (node : DepNode) → IsOther node → capability_of_node node ≡ None
-has_no_capability (Simple n) h = absurd (h.not_simple n refl)
-has_no_capability (Versioned n c e) h = absurd (h.not_versioned n c e refl)
-has_no_capability (Namespace n) h = refl
-has_no_capability (And a b) h = refl
-has_no_capability (Or a b) h = refl
-has_no_capability (With a b) h = refl
-has_no_capability (Without a b) h = refl
-has_no_capability (If a b) h = refl
-has_no_capability (Unless a b) h = refl
-has_no_capability (IfElse a b c) h = refl
-has_no_capability (UnlessElse a b c) h = refl
-
 -- a relation of the pool by its node
 module _ (catalog : Catalog) (id : ℕ) (node : DepNode) (held : slice_get catalog.pool.nodes id ≡ Some node) (read : dependency catalog id ≡ tree_of_node (tree catalog.pool.nodes) node) where
   pub capability_is : capability_at catalog id ≡ capability_of_node node
@@ -100,7 +88,7 @@ module _ (catalog : Catalog) (id : ℕ) (node : DepNode) (held : slice_get catal
   other_providers h = ap (λ d. providers_by catalog d) read ∙ none_meets catalog (tree catalog.pool.nodes) node h
 
   pub other_named : IsOther node → named_by catalog id ≡ []
-  other_named h = named_by-none catalog id (capability_is ∙ has_no_capability node h)
+  other_named h = named_by-none catalog id (capability_is ∙ no_capability node h.not_simple h.not_versioned)
 
 -- an index that was made
 pub IsIndexOf-made : (catalog : Catalog) (index : Index) → index ≡ index_of catalog → IsIndexOf index catalog

@@ -10,11 +10,7 @@ use Rattle.solv_script.specs.Inner.Turns.{exchanged, with_front}
 use Rattle.solv_script.specs.declared.scripts.Round.{Round}
 use Rattle.solv_script.specs.declared.scripts.Script.{Script}
 use Rattle.solv_rounds.specs.Inner.Fronts.{in_front}
-
-pub there : {A : Type 0} (xs : List A) (k : ℕ) → k < length xs → (x : A) × (slice_get xs k ≡ Some x)
-there [] k h = absurd (omega (arith, h))
-there (x ∷ xs) zero h = (x, refl)
-there (x ∷ xs) (suc k) h = there xs k (omega (arith, h))
+use Rattle.solv_list.proofs.Lists.{some_there}
 
 got_set : {A : Type 0} (xs : List A) (k : ℕ) (f : A) → k < length xs → slice_get (slice_set xs k f) k ≡ Some f
 got_set [] k f h = absurd (omega (arith, h))
@@ -35,11 +31,11 @@ of_all P (y ∷ ys) (suc k) x e all = of_all P ys k x e (λ n d h. all (suc n) d
 -- turned and turned back
 module _ (script : Script) (place : ℕ) (within : place < length script.later) where
   pub other : Round
-  other = (there script.later place within).0
+  other = (some_there script.later place within).0
 
   pub is_other : slice_get script.later place ≡ Some other
   unfolding other
-  is_other = (there script.later place within).1
+  is_other = (some_there script.later place within).1
 
   pub turned_is : exchanged place script ≡ with_front script other (slice_set script.later place (first_round script))
   turned_is = by other is_other

@@ -1,10 +1,8 @@
 -- The first rules of a list: their clauses, owners, spans and faults stand first.
-use Rattle.std.proofs.Common.{◌≡◌, ◌+◌, ◌≤◌, ℕ, zero, suc, ℤ, Bool, true, List, [], ◌∷◌, ◌++◌, length, map, replicate, Option, Some, None, refl, sym, ap, subst, ◌∙◌, append_assoc, length-append, arith}
+use Rattle.std.proofs.Common.{◌≡◌, ◌+◌, ◌≤◌, ℕ, zero, suc, ℤ, List, [], ◌∷◌, ◌++◌, length, map, replicate, Option, Some, None, refl, sym, ap, subst, ◌∙◌, append_assoc, length-append, arith}
 use Rattle.std.specs.Prelude.{flat_map, take, drop}
-use Rattle.std.specs.List.{list_all}
 use Rattle.std.proofs.lemmas.List.{drop-map, length-replicate, length-take-le}
 use Rattle.std.proofs.Math.Seq.{drop-append_seam}
-use Rattle.solv_list.proofs.Booleans.{second_of_both}
 use Rattle.solv_pool.specs.Catalog.{Catalog}
 use Rattle.solv_pool.specs.Clauses.{rule_clauses, words_of_all}
 use Rattle.solv_pool.specs.RuleMeaning.{HardRule}
@@ -28,12 +26,6 @@ both_parts (suc n) (x ∷ xs) = ap (λ t. x ∷ t) (both_parts n xs)
 -- the words of both parts
 pub words_parts : (n : ℕ) (cs : List (List ℤ)) → words_of_all cs ≡ words_of_all (take n cs) + words_of_all (drop n cs)
 words_parts n cs = ap words_of_all (sym (both_parts n cs)) ∙ words_append (take n cs) (drop n cs)
-
--- what holds of all holds of the last ones
-pub all_dropped : {A : Type 0} (test : A → Bool) (n : ℕ) (xs : List A) → list_all test xs ≡ true → list_all test (drop n xs) ≡ true
-all_dropped test zero xs h = h
-all_dropped test (suc n) [] h = h
-all_dropped test (suc n) (x ∷ xs) h = all_dropped test n xs (second_of_both (test x) (list_all test xs) h)
 
 clause_of_both : (a b : Option BookFault) → or_else a b ≡ None → (a ≡ None) × (b ≡ None)
 clause_of_both None b h = (refl, h)

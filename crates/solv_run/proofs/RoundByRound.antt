@@ -21,8 +21,10 @@ use Rattle.solv_run.specs.Rounds.{AreAnswers, IsGoodAnswer, all_answered, one_sp
 use Rattle.solv_run.specs.Texts.{are_as_wanted, is_as_wanted, next_lines, round_lines, rounds_lines}
 use Rattle.solv_run.specs.declared.reports.Reached.{Reached}
 use Rattle.solv_run.specs.declared.rounds.Begun.{Begun}
-use Rattle.solv_run.proofs.CheckLines.{ended_join}
 use Rattle.solv_run.proofs.Together.{few, within}
+use Rattle.solv_list.proofs.Booleans.{or_false}
+use Rattle.std.proofs.lemmas.List.{append-nil}
+use Rattle.solv_io.proofs.WrittenLines.{ended_lines-append}
 
 spent_is : (a : Answer) → is_spent a ≡ true → a ≡ Spent
 spent_is (Transaction trail set made ordered) h = absurd (cc)
@@ -33,16 +35,12 @@ and_more : (a b c : Bool) → ((a && b) && c) ≡ (a && (b && c))
 and_more true b c = refl
 and_more false b c = refl
 
-or_none : (b : Bool) → (b || false) ≡ b
-or_none true = refl
-or_none false = refl
-
 and_true : (b : Bool) → b ≡ (b && true)
 and_true true = refl
 and_true false = refl
 
 some_more : (xs : List Answer) (a : Answer) → some_spent xs ≡ false → some_spent (xs ++ a ∷ []) ≡ is_spent a
-some_more [] a h = or_none (is_spent a)
+some_more [] a h = or_false (is_spent a)
 some_more (x ∷ xs) a h = by (is_spent x) h (λ k. some_more xs a k)
   where
     by : (b : Bool) → (b || some_spent xs) ≡ false → (some_spent xs ≡ false → some_spent (xs ++ a ∷ []) ≡ is_spent a) → (b || some_spent (xs ++ a ∷ [])) ≡ is_spent a
@@ -133,7 +131,7 @@ module _ (command : Command) (ts : List Task) (us : List Turn) (turn : Turn) (la
     text = λ plain answers.
         ap (λ t. t ++ ended_lines (later_lines command later_turns answers)) (more.text plain)
         ∙ append_assoc old.text.items (ended_lines (codes "nextjob" ∷ round_lines command.shows turn more.answer)) (ended_lines (later_lines command later_turns answers))
-        ∙ ap (λ t. old.text.items ++ t) (sym (ended_join (codes "nextjob" ∷ round_lines command.shows turn more.answer) (later_lines command later_turns answers)))
+        ∙ ap (λ t. old.text.items ++ t) (sym (ended_lines-append (codes "nextjob" ∷ round_lines command.shows turn more.answer) (later_lines command later_turns answers)))
         ∙ has.text plain (more.answer ∷ answers)
         ∙ ap (λ l. ended_lines (rounds_lines command.shows us l)) (sym (answers_are answers));
     as_wanted = λ plain answers.
@@ -178,12 +176,12 @@ first_begun command turn later_tasks later_turns old new no_answer no_ledger no_
           (subst (λ (l : List Answer). AreAnswers command.budget (turn.task ∷ later_tasks) l (more.ledger ∷ [])) (ap (λ a. a ∷ []) (sym is) ∙ sym answers) (one_spent command.budget turn.task later_tasks more.ledger one));
       text = λ plain told.
           ap (λ t. t ++ ended_lines (later_lines command later_turns told)) (more.text plain ∙ ap (λ t. t ++ ended_lines (round_lines command.shows turn more.answer)) no_text)
-          ∙ sym (ended_join (round_lines command.shows turn more.answer) (later_lines command later_turns told))
+          ∙ sym (ended_lines-append (round_lines command.shows turn more.answer) (later_lines command later_turns told))
           ∙ ap (λ l. ended_lines (rounds_lines command.shows (turn ∷ later_turns) (l ++ told))) (sym answers);
       as_wanted = λ plain told.
           ap (λ b. b && are_as_wanted later_turns told) (more.as_wanted plain ∙ ap (λ b. b && is_as_wanted turn more.answer) all)
           ∙ ap (λ l. are_as_wanted (turn ∷ later_turns) (l ++ told)) (sym answers);
-      spent = more.spent ∙ sym (or_none (is_spent more.answer)) ∙ ap some_spent (sym answers);
+      spent = more.spent ∙ sym (or_false (is_spent more.answer)) ∙ ap some_spent (sym answers);
     }
 
 -- of no answers nothing is said
@@ -191,24 +189,20 @@ none_beside : {A B : Type 0} (xs : List A) → zip {K = A} {X = B} xs [] ≡ []
 none_beside [] = refl
 none_beside (x ∷ xs) = refl
 
-nothing_more : {A : Type 0} (xs : List A) → xs ++ [] ≡ xs
-nothing_more [] = refl
-nothing_more (x ∷ xs) = ap (λ l. x ∷ l) (nothing_more xs)
-
 -- where none is left, all are begun
 pub all_begun : (command : Command) (ts : List Task) (us : List Turn) (begun : Begun) → HasBegun command ts us [] [] begun → AreAll command ts us begun
 all_begun command ts us begun has = record {
   are = by begun.spent refl;
-  text = λ plain. sym (nothing_more begun.text.items) ∙ has.text plain [] ∙ ap (λ l. ended_lines (rounds_lines command.shows us l)) (nothing_more begun.reached.answers);
-  as_wanted = λ plain. and_true begun.as_wanted ∙ has.as_wanted plain [] ∙ ap (are_as_wanted us) (nothing_more begun.reached.answers);
+  text = λ plain. sym (append-nil begun.text.items) ∙ has.text plain [] ∙ ap (λ l. ended_lines (rounds_lines command.shows us l)) (append-nil begun.reached.answers);
+  as_wanted = λ plain. and_true begun.as_wanted ∙ has.as_wanted plain [] ∙ ap (are_as_wanted us) (append-nil begun.reached.answers);
   spent = has.spent;
 }
   where
     by : (b : Bool) → begun.spent ≡ b → AreAnswers command.budget ts begun.reached.answers begun.reached.ledgers
     by true e = has.ended_there e
     by false e =
-        subst (λ (l : List Ledger). AreAnswers command.budget ts begun.reached.answers l) (nothing_more begun.reached.ledgers)
-        (subst (λ (l : List Answer). AreAnswers command.budget ts l (begun.reached.ledgers ++ [])) (nothing_more begun.reached.answers) (has.unspent e [] [] (all_answered begun.left)))
+        subst (λ (l : List Ledger). AreAnswers command.budget ts begun.reached.answers l) (append-nil begun.reached.ledgers)
+        (subst (λ (l : List Answer). AreAnswers command.budget ts l (begun.reached.ledgers ++ [])) (append-nil begun.reached.answers) (has.unspent e [] [] (all_answered begun.left)))
 
 -- and so they are where the budget is spent
 pub spent_begun : (command : Command) (ts : List Task) (us : List Turn) (later_tasks : List Task) (later_turns : List Turn) (begun : Begun) → HasBegun command ts us later_tasks later_turns begun → begun.spent ≡ true
@@ -216,11 +210,11 @@ pub spent_begun : (command : Command) (ts : List Task) (us : List Turn) (later_t
 spent_begun command ts us later_tasks later_turns begun has spent = record {
   are = has.ended_there spent;
   text = λ plain.
-      sym (nothing_more begun.text.items) ∙ ap (λ (l : List (Turn × Answer)). begun.text.items ++ ended_lines (flat_map (λ x. next_lines command.shows x.0 x.1) l)) (sym (none_beside later_turns))
-      ∙ has.text plain [] ∙ ap (λ l. ended_lines (rounds_lines command.shows us l)) (nothing_more begun.reached.answers);
+      sym (append-nil begun.text.items) ∙ ap (λ (l : List (Turn × Answer)). begun.text.items ++ ended_lines (flat_map (λ x. next_lines command.shows x.0 x.1) l)) (sym (none_beside later_turns))
+      ∙ has.text plain [] ∙ ap (λ l. ended_lines (rounds_lines command.shows us l)) (append-nil begun.reached.answers);
   as_wanted = λ plain.
       and_true begun.as_wanted ∙ ap (λ (l : List (Turn × Answer)). begun.as_wanted && list_all (λ x. is_as_wanted x.0 x.1) l) (sym (none_beside later_turns))
-      ∙ has.as_wanted plain [] ∙ ap (are_as_wanted us) (nothing_more begun.reached.answers);
+      ∙ has.as_wanted plain [] ∙ ap (are_as_wanted us) (append-nil begun.reached.answers);
   spent = has.spent;
 }
 

@@ -4,7 +4,7 @@ use Rattle.std.specs.Prelude.{Result, Ok, Err, IfSome, IfErr, IsSomeAnd, IsOkAnd
 use Rattle.std.specs.Option.{option_map}
 use Rattle.std.proofs.lemmas.Bool.{ltb-true, ltb-false, lt-ltb}
 use Rattle.std.proofs.lemmas.Grind.{common_steps}
-use Rattle.std.proofs.lemmas.List.{append-nil}
+use Rattle.std.proofs.lemmas.List.{append-nil, take_all, length-take-le}
 use Rattle.solv_io.specs.Counters.{Rose}
 use Rattle.solv_script.specs.FileRuns.{FilesRun, AskedBesides, AreFetched, IsFront, bytes_in}
 use Rattle.solv_script.specs.Inner.FileRuns.{Piece, HasFetched, IsRead, HasEnded, script_piece}
@@ -21,12 +21,6 @@ use Rattle.solv_said.specs.Fetches.{IsNamed, HasAskedAll, HasAskedFront, HasScri
 use Rattle.solv_said.specs.Inner.Faults.{HasNoScript, IsFaultDue, IsReadFaultOf}
 use Rattle.solv_said.specs.declared.dues.Due.{Due}
 
-whole_take : (n : ℕ) (xs : List ℕ) → length xs ≤ n → take n xs ≡ xs
-whole_take n xs h = grind (arith, common_steps)
-
-long_take : (n : ℕ) (xs : List ℕ) → n ≤ length xs → length (take n xs) ≡ n
-long_take n xs h = grind (arith, common_steps)
-
 -- what is read of a file: all of it, or so much that it is seen to be too long
 data IsTaken (all : List ℕ) : Type 0 where
   all_taken : take 67108865 all ≡ all → IsTaken all
@@ -38,10 +32,10 @@ taken all = by (nat_lt most_file (length all)) refl
     by : (b : Bool) → nat_lt most_file (length all) ≡ b → IsTaken all
     by true e =
         let long : 67108864 < length all = ltb-true most_file (length all) e in
-        too_long e (lt-ltb most_file (length (take 67108865 all)) (rw (long_take 67108865 all (omega arith)) (omega arith)))
+        too_long e (lt-ltb most_file (length (take 67108865 all)) (rw (length-take-le 67108865 all (omega arith)) (omega arith)))
     by false e =
         let short : length all ≤ 67108864 = ltb-false most_file (length all) e in
-        all_taken (whole_take 67108865 all (omega arith))
+        all_taken (take_all 67108865 all (omega arith))
 
 -- a script whose first bytes pass the limit is too long however it goes on
 module _ (file : List ℕ) (fetched : List (List ℕ)) (all : List ℕ) where

@@ -23,18 +23,13 @@ use Rattle.solv_script.specs.declared.whole.reader.Reader.{Reader}
 use Rattle.solv_script.proofs.EarlierRounds.{round_fits, of_mapped, round_formed, to_mapped}
 use Rattle.solv_script.proofs.RowForms.{task_forms}
 use Rattle.solv_list.proofs.Booleans.{first_of_both, second_of_both}
-use Rattle.solv_list.proofs.Lists.{list_all_join}
+use Rattle.solv_list.proofs.Lists.{list_all_join, some_there}
 
 -- one list with another element at a place, and the one that stood there in front of the rest
 pub brought : {A : Type 0} (xs : List A) (k : ℕ) (x f : A) → slice_get xs k ≡ Some x → take k (slice_set xs k f) ++ x ∷ drop k (slice_set xs k f) ≡ take (suc k) xs ++ f ∷ drop (suc k) xs
 brought [] k x f e = absurd (cc)
 brought (y ∷ ys) zero x f e = let same : y ≡ x = ap (λ o. unwrap_or o y) e in ap (λ z. z ∷ f ∷ ys) (sym same)
 brought (y ∷ ys) (suc k) x f e = ap (λ l. y ∷ l) (brought ys k x f e)
-
-there : {A : Type 0} (xs : List A) (k : ℕ) → k < length xs → (x : A) × (slice_get xs k ≡ Some x)
-there [] k h = absurd (omega (arith, h))
-there (x ∷ xs) zero h = (x, refl)
-there (x ∷ xs) (suc k) h = there xs k (omega (arith, h))
 
 as_long : {A : Type 0} (xs : List A) (k : ℕ) (f : A) → length (slice_set xs k f) ≡ length xs
 as_long [] k f = refl
@@ -152,7 +147,7 @@ module _ (old script new : Script) (place : ℕ) (some : 0 < place) (is : new �
   at_place : (k : ℕ) → place ≡ suc k → new ≡ exchanged k script → P new k
   at_place k e is =
       let near : k < length script.later = omega (arith, e, within) in
-      let at = there script.later k near in
+      let at = some_there script.later k near in
       let turned_is : exchanged k script ≡ with_front script at.0 (slice_set script.later k (first_round script)) = rw (exchanged, at.1) refl in
       let whole : take (suc k) script.later ++ first_round script ∷ drop (suc k) script.later ≡ old.later ++ first_round old ∷ [] = rw e at all in
       subst (λ (s : Script). P s k) (sym (is ∙ turned_is)) (record {

@@ -6,8 +6,7 @@ use Rattle.std.specs.Str.{bytes_eq}
 use Rattle.std.proofs.lemmas.Bool.Decides.{nat_tests}
 use Rattle.solv_io.specs.Lines.{numbered_lines}
 use Rattle.solv_io.specs.Words.{words_of}
-use Rattle.solv_base.specs.Dependency.{Dep, one, namespace, and, or, with, without, operators}
-use Rattle.solv_base.specs.Places.{fits_place}
+use Rattle.solv_base.specs.Dependency.{Dep, operators}
 use Rattle.solv_base.specs.Pool.{Held}
 use Rattle.solv_pool.specs.Written.{WrittenNeed, WrittenPackage}
 use Rattle.solv_pool.specs.Contents.{most_packages}
@@ -139,11 +138,11 @@ hand_is (Some a) h = and_from (is_written_formed a) true (formed_is a h) refl
 so_far_formed : (s : Tagged) → AreFormed s → list_all is_written_formed (packages_so_far s) ≡ true
 so_far_formed s f = list_all_join is_written_formed s.done (option_to_list s.hand) f.done (hand_is s.hand f.hand)
 
-text_then : {A B : Type 0} (P : B → Type 0) (r : Result A DepFault) (next : A → Result B TagCause) → ((x : A) → r ≡ Ok x → IfOk (next x) P) → IfOk (or_cause r next) P
+pub text_then : {A B : Type 0} (P : B → Type 0) (r : Result A DepFault) (next : A → Result B TagCause) → ((x : A) → r ≡ Ok x → IfOk (next x) P) → IfOk (or_cause r next) P
 text_then P (Ok x) next h = h x refl
 text_then P (Err e) next h = tt
 
-texts_then : (P : Tagged → Type 0) (texts : List (List ℕ)) (held : Held) (next : Held → Result Tagged TagCause) → ((h : Held) → IfOk (next h) P) → IfOk (texts_entered texts held next) P
+pub texts_then : (P : Tagged → Type 0) (texts : List (List ℕ)) (held : Held) (next : Held → Result Tagged TagCause) → ((h : Held) → IfOk (next h) P) → IfOk (texts_entered texts held next) P
 texts_then P [] held next h = h held
 texts_then P (text ∷ texts) held next h = text_then P (text_entered text held) (λ e. texts_entered texts e.held next) (λ e is. texts_then P texts e.held next h)
 

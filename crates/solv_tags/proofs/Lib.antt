@@ -5,3 +5,4 @@ pub mod ReaderLines
 pub mod EntriesFormed
 pub mod FormsById
 pub mod OwnCauses
+pub mod InTurn

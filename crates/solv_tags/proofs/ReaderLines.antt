@@ -1,11 +1,10 @@
 -- What a reader of testtags lines does is what the lines give.
-use Rattle.std.proofs.Common.{◌≡◌, ℕ, ◌<◌, ◌+◌, Bool, true, false, List, [], ◌∷◌, ◌++◌, map, take, drop, length, Option, Some, None, Result, Ok, Err, refl, sym, ap, ◌∙◌, arith, length-drop}
+use Rattle.std.proofs.Common.{◌≡◌, ℕ, ◌<◌, ◌+◌, Bool, true, false, List, [], ◌∷◌, ◌++◌, map, drop, length, Option, Some, None, Result, Ok, Err, refl, ap, ◌∙◌, arith, length-drop}
 use Rattle.std.specs.Prelude.{nat_le, ◌&&◌, option_to_list, OnOk, is_some}
 use Rattle.std.specs.Option.{option_map}
 use Rattle.std.specs.List.{list_all}
 use Rattle.std.specs.Str.{bytes_eq}
-use Rattle.std.proofs.lemmas.List.{map-append, take-append-drop, length-append, drop-append-le, length-map, append_assoc}
-use Rattle.std.proofs.lemmas.List.Folds.{list_all-append}
+use Rattle.std.proofs.lemmas.List.{map-append, length-append, drop-append-le, length-map, append_assoc}
 use Rattle.solv_base.specs.Pool.{Held, Grows}
 use Rattle.solv_pool.specs.Belonging.{IsOver, fits}
 use Rattle.solv_pool.specs.Contents.{Contents, most_packages}
@@ -23,13 +22,8 @@ use Rattle.solv_tags.specs.declared.tag_fault.TagCause.TheVariants.{Dep, BadPack
 use Rattle.solv_tags.specs.declared.tag_reader.TagReader.{TagReader}
 use Rattle.solv_tags.proofs.Staying.{fits_of, of_grown, package_stays, packages_stay}
 use Rattle.solv_base.proofs.Growth.{Grows-itself}
-use Rattle.solv_list.proofs.Booleans.{second_of_both}
-use Rattle.solv_list.proofs.Lists.{below_true, list_all_join}
+use Rattle.solv_list.proofs.Lists.{below_true, list_all_join, all_dropped}
 use Rattle.std.proofs.lemmas.Bool.{and_from}
-
-all_dropped : {X : Type 0} (p : X → Bool) (n : ℕ) (xs : List X) → list_all p xs ≡ true → list_all p (drop n xs) ≡ true
-all_dropped p n xs h =
-    second_of_both (list_all p (take n xs)) (list_all p (drop n xs)) (sym (list_all-append p (take n xs) (drop n xs)) ∙ ap (list_all p) (take-append-drop n xs) ∙ h)
 
 -- the packages before the one in hand stay
 done_stays : (r : TagReader) (old new : Held) (universe : Contents) → Grows old new → IsReading r old universe

@@ -20,10 +20,10 @@ use Rattle.solv_graph.specs.declared.orders.Turn.TheVariants.{Never, Early, Late
 use Rattle.solv_trans.specs.Moving.{comes, goes, is_kept, is_part}
 use Rattle.solv_trans.specs.Edges.{is_met_already, brings}
 use Rattle.solv_trans.specs.Inner.Joining.{AreTurns, is_early_in, settles}
-use Rattle.solv_trans.proofs.Lists.{in_filter, filter_in, in_range}
+use Rattle.solv_trans.proofs.Lists.{in_filter, filter_in}
 use Rattle.solv_list.proofs.Booleans.{false_of_not, or_cases, or_false, same_truth}
 use Rattle.solv_list.proofs.Lists.{all_at}
-use Rattle.solv_pool.proofs.Among.{any_from, any_gives, here}
+use Rattle.solv_pool.proofs.Among.{any_from, any_gives, here, in_range}
 use Rattle.solv_pool.specs.Needs.{serves}
 use Rattle.solv_prov.proofs.Obsoleting.{among_range}
 

@@ -43,12 +43,6 @@ range_all test f start (suc count) end within some h = step (f start) (h start s
     step true here k = rw here k
     step false here k = k
 
-pub packs_of : (catalog : Catalog) (f : ℕ → Bool) → list_all (is_pack (length catalog.universe.packages)) (filter f (packages catalog)) ≡ true
-packs_of catalog f = range_all (is_pack (length catalog.universe.packages)) f 1 (length catalog.universe.packages) (length catalog.universe.packages + 1) (omega arith) (omega arith) each
-  where
-    each : (p : ℕ) → 0 < p → p < length catalog.universe.packages + 1 → is_pack (length catalog.universe.packages) p ≡ true
-    each p some within = let above : nat_lt 0 p ≡ true = grind (arith, nat_tests, some) in let below : nat_le p (length catalog.universe.packages) ≡ true = grind (arith, nat_tests, within) in rw (above, below) refl
-
 pub below_of : (catalog : Catalog) (f : ℕ → Bool) (end : ℕ) → end ≡ length catalog.universe.packages + 1 → list_all (λ p. nat_lt p end) (filter f (packages catalog)) ≡ true
 below_of catalog f end is = range_all (λ p. nat_lt p end) f 1 (length catalog.universe.packages) (length catalog.universe.packages + 1) (omega arith) (omega arith) (λ p some within. grind (arith, nat_tests, within, is))
 

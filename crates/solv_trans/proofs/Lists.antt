@@ -1,7 +1,7 @@
 -- Members of lists.
-use Rattle.std.proofs.Common.{◌≡◌, ℕ, zero, suc, ◌+◌, ◌<◌, ◌≤◌, Bool, true, false, List, [], ◌∷◌, ◌++◌, length, filter, inl, inr, refl, sym, ap, ◌∙◌, arith, eqb, take, get_or}
+use Rattle.std.proofs.Common.{◌≡◌, ℕ, Bool, true, false, List, [], ◌∷◌, filter, inl, inr, refl, sym, ap, ◌∙◌, eqb}
 use Rattle.std.specs.Prelude.{if◌then◌else◌}
-use Rattle.std.specs.List.{list_all, range_with_len}
+use Rattle.std.specs.List.{list_all}
 use Rattle.std.proofs.lemmas.Bool.{and_from, false≢true, eqb-true, or_left, or_right}
 use Rattle.solv_pool.specs.Words.{is_among}
 use Rattle.solv_list.proofs.Booleans.{or_cases}
@@ -33,22 +33,7 @@ filter_in m (x ∷ xs) q i h =
       ]
     ]) refl
 
-pub in_range : (a n q : ℕ) → is_among (range_with_len a n) q ≡ true → (a ≤ q) × (q < a + n)
-in_range a zero q h = absurd (false≢true h)
-in_range a (suc n) q h = elim (or_cases (eqb a q) (is_among (range_with_len (a + 1) n) q) h) [
-  | inl e ↦ let s = eqb-true a q e in (omega (arith, s), omega (arith, s))
-  | inr k ↦ let r = in_range (a + 1) n q k in (omega (arith, r.0), omega (arith, r.1))
-]
-
 -- what holds of all members
 pub all_members : (f : ℕ → Bool) (xs : List ℕ) → ((q : ℕ) → is_among xs q ≡ true → f q ≡ true) → list_all f xs ≡ true
 all_members f [] h = refl
 all_members f (x ∷ xs) h = and_from (f x) (list_all f xs) (h x (here x xs)) (all_members f xs (λ q i. h q (or_right (eqb x q) (is_among xs q) i)))
-
--- one element more
-pub take_next : {X : Type 0} (xs : List X) (i : ℕ) (x : X) → i < length xs → x ≡ get_or xs i x → take (i + 1) xs ≡ take i xs ++ x ∷ []
-take_next [] i x lt at = absurd (omega arith)
-take_next (y ∷ xs) zero x lt at = ap (λ z. z ∷ []) (sym at)
-take_next (y ∷ xs) (suc i) x lt at =
-    let e : suc i + 1 ≡ suc (i + 1) = omega arith in
-    ap (λ k. take k (y ∷ xs)) e ∙ ap (λ t. y ∷ t) (take_next xs i x (omega (arith, lt)) at)

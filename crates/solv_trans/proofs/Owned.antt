@@ -1,5 +1,5 @@
 -- The edges that each package owns.
-use Rattle.std.proofs.Common.{◌≡◌, ℕ, zero, suc, ◌+◌, ◌<◌, Bool, true, false, not, ◌&&◌, ◌||◌, List, [], ◌∷◌, ◌++◌, length, filter, map, inl, inr, refl, sym, ap, ◌∙◌, arith, eqb, eq-eqb, get_or, Option, Some, None}
+use Rattle.std.proofs.Common.{◌≡◌, ℕ, ◌+◌, ◌<◌, Bool, true, false, not, ◌&&◌, ◌||◌, List, [], ◌∷◌, ◌++◌, length, filter, map, inl, inr, refl, sym, ap, ◌∙◌, arith, eqb, eq-eqb, get_or, Option, Some, None}
 use Rattle.std.specs.Prelude.{slice_get, nat_lt, if◌then◌else◌}
 use Rattle.std.specs.List.{list_any, list_all}
 use Rattle.std.proofs.lemmas.Bool.{and_parts, and_from, false≢true, eqb-true, ne_eqb, ltb-true, false_from_ne_true, or_left, or_right}
@@ -27,7 +27,7 @@ use Rattle.solv_trans.specs.declared.edges.Link.{Link}
 use Rattle.solv_trans.proofs.Joined.{joins_by, joins_more}
 use Rattle.solv_trans.proofs.Asking.{brings_is, serves_is, settled_is, comes_pack, goes_pack, in_members, packages_bound, late_is, early_is, not_both}
 use Rattle.solv_list.proofs.Booleans.{and_false, false_of_not, or_cases, or_false, same_truth}
-use Rattle.solv_list.proofs.Lists.{all_at, all_left, all_right}
+use Rattle.solv_list.proofs.Lists.{all_at, all_left, all_right, all_get}
 use Rattle.solv_pool.proofs.Among.{any_from, any_gives}
 use Rattle.solv_pool.specs.Needs.{serves}
 
@@ -288,12 +288,6 @@ module _ (catalog : Catalog) (set : ℕ → Bool) where
                 (and_from (not (eqb a b)) (goes catalog set b && (goes catalog set a && requires_some catalog set these (serves catalog b) a)) one.0
                 (and_from (goes catalog set b) (goes catalog set a && requires_some catalog set these (serves catalog b) a) three.0 (and_from (goes catalog set a) (requires_some catalog set these (serves catalog b) a) two.0 three.1)))))
           ]
-
--- what holds of an element by its place
-pub all_get : {X : Type 0} (f : X → Bool) (xs : List X) (i : ℕ) (x : X) → list_all f xs ≡ true → i < length xs → x ≡ get_or xs i x → f x ≡ true
-all_get f [] i x h lt at = absurd (omega arith)
-all_get f (y ∷ xs) zero x h lt at = ap f at ∙ (and_parts (f y) (list_all f xs) h).0
-all_get f (y ∷ xs) (suc i) x h lt at = all_get f xs i x (and_parts (f y) (list_all f xs) h).1 (omega (arith, lt)) at
 
 all_of_map : (p : ℕ → Bool) (needs : List Need) → list_all p (map (λ (need : Need). need.dep) needs) ≡ true → list_all (λ need. p need.dep) needs ≡ true
 all_of_map p [] h = refl

@@ -1,11 +1,11 @@
 -- The places of parts: the numbers that pass a test, ascending.
-use Rattle.std.proofs.Common.{◌≡◌, ℕ, zero, suc, ◌+◌, ◌<◌, ◌≤◌, Bool, true, false, ◌&&◌, List, [], ◌∷◌, ◌++◌, length, filter, map, take, cond, ◌⊎◌, inl, inr, refl, sym, ap, ◌∙◌, arith, eqb, eq-eqb}
+use Rattle.std.proofs.Common.{◌≡◌, ℕ, zero, suc, ◌+◌, ◌<◌, ◌≤◌, Bool, true, false, ◌&&◌, List, [], ◌∷◌, ◌++◌, length, filter, map, take, cond, inl, inr, refl, sym, ap, ◌∙◌, arith, eqb, eq-eqb}
 use Rattle.std.specs.Prelude.{slice_index, nat_lt, Err}
 use Rattle.std.specs.List.{range_with_len}
 use Rattle.std.proofs.Math.ListN.{get_or-append, length-append}
 use Rattle.std.proofs.Math.Seq.{get_or-append_seam}
-use Rattle.std.proofs.lemmas.Bool.{and_parts, and_from, false≢true, eqb-true, ltb-true, or_left, or_right}
-use Rattle.std.proofs.lemmas.Bool.Decides.{eqb_tells, nat_tests}
+use Rattle.std.proofs.lemmas.Bool.{and_parts, and_from, false≢true, eqb-true, ltb-true, or_left, or_right, cases_lt}
+use Rattle.std.proofs.lemmas.Bool.Decides.{eqb_tells}
 use Rattle.std.proofs.lemmas.List.{append-nil}
 use Rattle.solv_graph.specs.Graphs.{is_in, times}
 use Rattle.solv_graph.specs.Classes.{numbers}
@@ -111,19 +111,12 @@ are_places n part within = record {
   place = λ p h. place_in (filter part (numbers n)) p (filter_in part n p (within p h) h);
 }
 
-below_or : (i j : ℕ) → (i < j) ⊎ (j ≤ i)
-below_or i j = by (nat_lt i j) refl
-  where
-    by : (b : Bool) → nat_lt i j ≡ b → (i < j) ⊎ (j ≤ i)
-    by true e = inl (grind (arith, nat_tests, e))
-    by false e = inr (grind (arith, nat_tests, e))
-
 module _ (parts : List ℕ) (rises : IsRising parts) where
   -- two places of one part are one
   pub one_place : (i j : ℕ) → i < length parts → j < length parts → slice_index parts i ≡ slice_index parts j → i ≡ j
-  one_place i j a b e = elim (below_or i j) [
+  one_place i j a b e = elim (cases_lt i j) [
     | inl less ↦ absurd (omega (arith, rises i j less b, e))
-    | inr most ↦ elim (below_or j i) [
+    | inr most ↦ elim (cases_lt j i) [
       | inl less ↦ absurd (omega (arith, rises j i less a, e))
       | inr also ↦ omega (arith, most, also)
     ]
@@ -137,9 +130,9 @@ module _ (parts : List ℕ) (rises : IsRising parts) where
   place_less i j a b = same_truth (nat_lt (slice_index parts i) (slice_index parts j)) (nat_lt i j) to from
     where
       to : nat_lt (slice_index parts i) (slice_index parts j) ≡ true → nat_lt i j ≡ true
-      to h = elim (below_or i j) [
+      to h = elim (cases_lt i j) [
         | inl less ↦ below_true i j less
-        | inr most ↦ elim (below_or j i) [
+        | inr most ↦ elim (cases_lt j i) [
           | inl less ↦ absurd (omega (arith, rises j i less a, ltb-true (slice_index parts i) (slice_index parts j) h))
           | inr also ↦
               let same : i ≡ j = omega (arith, most, also) in
@@ -186,13 +179,13 @@ pub never_missed : (parts : List ℕ) (pack place : ℕ) → IsRising parts → 
 never_missed parts pack place rises h missed =
     let i = place_in parts pack h in
     let r : (place ≤ length parts) × ((k : ℕ) → k < place → slice_index parts k < pack) × ((k : ℕ) → place ≤ k → k < length parts → pack < slice_index parts k) = searched parts pack (Err place) missed up in
-    elim (below_or i.0 place) [
+    elim (cases_lt i.0 place) [
       | inl less ↦ omega (arith, r.1 i.0 less, i.2)
       | inr most ↦ omega (arith, r.2 i.0 most i.1, i.2)
     ]
   where
     up : (i j : ℕ) → i ≤ j → j < length parts → slice_index parts i ≤ slice_index parts j
-    up i j le lt = elim (below_or i j) [
+    up i j le lt = elim (cases_lt i j) [
       | inl less ↦ omega (arith, rises i j less lt)
       | inr most ↦ let same : i ≡ j = omega (arith, le, most) in omega (arith, ap (slice_index parts) same)
     ]

@@ -44,7 +44,7 @@ then_if : {A B : Type 0} (P : B → Type 0) (r : Result A Cause) (next : A → R
 then_if P (Ok x) next h = h x refl
 then_if P (Err c) next h = tt
 
-either_if : {B : Type 0} (P : B → Type 0) (b : Bool) (q r : Result B Cause) → (b ≡ true → IfOk q P) → (b ≡ false → IfOk r P) → IfOk (if b then q else r) P
+pub either_if : {B : Type 0} (P : B → Type 0) (b : Bool) (q r : Result B Cause) → (b ≡ true → IfOk q P) → (b ≡ false → IfOk r P) → IfOk (if b then q else r) P
 either_if P true q r h k = h refl
 either_if P false q r h k = k refl
 

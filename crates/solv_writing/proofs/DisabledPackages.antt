@@ -7,13 +7,13 @@ use Rattle.solv_pool.specs.Contents.{Contents}
 use Rattle.solv_pool.specs.Installable.{is_disabled}
 use Rattle.solv_pool.specs.Inner.Catalog.{alone}
 use Rattle.solv_pool.specs.Words.{when}
-use Rattle.solv_list.proofs.Lists.{drop_get}
+use Rattle.solv_list.proofs.Lists.{drop_get, some_there}
 use Rattle.solv_writing.specs.Inner.ByIds.{disable_text, disabled_texts}
-use Rattle.solv_writing.proofs.RepositoryLines.{ended_both, some_there}
+use Rattle.solv_io.proofs.WrittenLines.{ended_lines-append}
 
 module _ (pool : Held) (contents : Contents) where
   first_mark : (p : ℕ) (mark : Bool) (marks : List Bool) → ended_lines (disabled_texts pool contents p (mark ∷ marks)) ≡ ended_lines (when mark (disable_text pool contents p ∷ [])) ++ ended_lines (disabled_texts pool contents (p + 1) marks)
-  first_mark p true marks = ended_both (disable_text pool contents p ∷ []) (disabled_texts pool contents (p + 1) marks)
+  first_mark p true marks = ended_lines-append (disable_text pool contents p ∷ []) (disabled_texts pool contents (p + 1) marks)
   first_mark p false marks = refl
 
   mark_is : (k : ℕ) (mark : Bool) → slice_get contents.disabled k ≡ Some mark → is_disabled (alone pool contents) (k + 1) ≡ mark

@@ -10,7 +10,6 @@ use Rattle.solv_io.specs.Lines.{lines_of, begun_with, numbered_lines}
 use Rattle.solv_io.specs.Words.{words_of}
 use Rattle.solv_base.specs.Pool.{Held}
 use Rattle.solv_deps.specs.Entering.{text_entered}
-use Rattle.solv_deps.proofs.Entering.{place_within}
 use Rattle.solv_deps.specs.Laws.{PrintedIsReadAgain, ReadIsWritten}
 use Rattle.solv_pool.specs.Contents.{most_packages}
 use Rattle.solv_pool.specs.Written.{WrittenRepo, WrittenPackage}
@@ -30,13 +29,15 @@ use Rattle.solv_list.proofs.Booleans.{first_of_both, second_of_both}
 use Rattle.solv_io.specs.JoinedWords.{is_inner, is_word, is_line}
 use Rattle.solv_writing.specs.Inner.ReadPackages.{IsKept, IsReadPackage}
 use Rattle.solv_writing.specs.Inner.ReadScripts.{IsReadJob, IsReadRepo, IsReadCheck, IsReadNamespace, IsReadRound, view}
-use Rattle.solv_writing.proofs.CommandWords.{IsOfWords, command_of}
+use Rattle.solv_writing.proofs.CommandWords.{IsOfWords, command_of, either_if}
 use Rattle.solv_writing.proofs.GoodStates.{IsGood, counted_good}
 use Rattle.solv_writing.proofs.Growing.{with_repository as grown_by, grown}
-use Rattle.solv_writing.proofs.KeptRows.{HasKinds, system_kept, namespace_kept, disable_kept, evrcmp_kept, flags_kept, job_kept, next_kept, result_kept, either_if, text_if}
-use Rattle.solv_writing.proofs.ReadTags.{any_of_map, all_drop, IsGiven, IsReadRepository, tags_given}
+use Rattle.solv_writing.proofs.KeptRows.{HasKinds, system_kept, namespace_kept, disable_kept, evrcmp_kept, flags_kept, job_kept, next_kept, result_kept}
+use Rattle.solv_writing.proofs.ReadTags.{all_drop, IsGiven, IsReadRepository, tags_given}
 use Rattle.solv_writing.proofs.Trimmed.{trimmed_kept}
 use Rattle.solv_io.proofs.WordsAgain.{line_words}
+use Rattle.solv_list.proofs.Lists.{place_within, list_any_map}
+use Rattle.solv_script.proofs.RowForms.{text_then}
 
 -- numbered lines that are lines
 abbrev are_lined : List (ℕ × List ℕ) → Bool
@@ -102,13 +103,13 @@ none_there f xs h =
 
 name_entered : (s : State) (text : List ℕ) (p : ℤ) → IsReadRepo (record { name = text; priority = p }) → IsGood s → IfOk (with_repo s text p) IsNamed
 name_entered s text p right g =
-    either_if IsNamed (is_some (repo_place s.task text)) (Err DuplicateRepo) _ (λ e. tt) (λ e. text_if IsNamed (text_entered text s.held) _ (λ x f. record {
+    either_if IsNamed (is_some (repo_place s.task text)) (Err DuplicateRepo) _ (λ e. tt) (λ e. text_then IsNamed (text_entered text s.held) _ (λ x f. record {
       before = s.task.repos;
       r = record { name = text; priority = p };
       is = refl;
       good = counted_good s s.bytes x.held g;
       right = right;
-      free = any_of_map (bytes_eq text) (λ (q : WrittenRepo). q.name) s.task.repos ∙ none_there (λ (q : WrittenRepo). bytes_eq text q.name) s.task.repos e;
+      free = list_any_map (bytes_eq text) (λ (q : WrittenRepo). q.name) s.task.repos ∙ none_there (λ (q : WrittenRepo). bytes_eq text q.name) s.task.repos e;
     }))
 
 module _ (again : PrintedIsReadAgain) (written : ReadIsWritten) (script : List ℕ) where

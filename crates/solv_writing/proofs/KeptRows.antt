@@ -11,9 +11,8 @@ use Rattle.solv_base.specs.declared.comparison.Cmp.{Cmp}
 use Rattle.solv_deps.specs.Entering.{text_entered, dependency_entered}
 use Rattle.solv_deps.specs.Grammar.{is_namespace}
 use Rattle.solv_deps.specs.Reading.{dependency}
-use Rattle.solv_deps.specs.declared.fault.DepFault.{DepFault}
 use Rattle.solv_deps.specs.declared.place.Place.TheVariants.{Plain}
-use Rattle.solv_pool.specs.Written.{WrittenTask, WrittenRepo, WrittenPackage, WrittenJob, WrittenChoice}
+use Rattle.solv_pool.specs.Written.{WrittenTask, WrittenRepo, WrittenPackage, WrittenJob}
 use Rattle.solv_pool.specs.Written as written
 use Rattle.solv_pool.specs.declared.jobs.Action.{Action}
 use Rattle.solv_pool.specs.declared.universes.Arch.{Arch}
@@ -26,7 +25,7 @@ use Rattle.solv_commands.specs.declared.causes.Cause.{Cause}
 use Rattle.solv_commands.specs.declared.causes.Cause.TheVariants.{UnknownFlag, DuplicateSystem, BadArch, BadDisttype, UnknownRepo, UnknownPackage, DuplicateResult, SystemInJob}
 use Rattle.solv_script.specs.Reads.{default_kinds}
 use Rattle.solv_script.specs.Results.{no_kinds, with_kind, with_kinds, kinds_named}
-use Rattle.solv_script.specs.Rows.{and_then, or_cause, or_text_cause, arch_named, installed_row, system_row, package_numbers, with_namespace, namespace_row, disabled, disable_row, evrcmp_row, result_row, no_system, one_package, chosen, job_row, flags_row}
+use Rattle.solv_script.specs.Rows.{and_then, or_cause, arch_named, installed_row, system_row, package_numbers, with_namespace, namespace_row, disabled, disable_row, evrcmp_row, result_row, no_system, one_package, chosen, job_row, flags_row}
 use Rattle.solv_script.specs.States.{State, rounds_given, repo_place, repo_name, text_of, text_of_number, package_number}
 use Rattle.solv_script.specs.declared.scripts.Kinds.{Kinds}
 use Rattle.solv_list.proofs.Booleans.{first_of_both, second_of_both}
@@ -34,26 +33,16 @@ use Rattle.solv_list.proofs.Lists.{same_bytes}
 use Rattle.solv_writing.specs.Inner.ReadPackages.{are_apart, IsKept}
 use Rattle.solv_writing.specs.Inner.ReadScripts.{Chooses, IsReadJob, IsReadCheck, IsReadNamespace, IsToldByName, IsToldByText, IsReadSystem, AreDisabledTold, view}
 use Rattle.solv_writing.specs.ScriptTexts.{kind_names, with_commas}
-use Rattle.solv_writing.proofs.CommandWords.{AreSome, IsJobOf}
+use Rattle.solv_writing.proofs.CommandWords.{AreSome, IsJobOf, either_if}
 use Rattle.solv_writing.proofs.GoodStates.{IsGood, rounds_good}
 use Rattle.solv_writing.proofs.Growing.{place_found}
 use Rattle.solv_writing.proofs.ReadTags.{apart_behind}
-
-pub rows_if : {A B : Type 0} (Q : B → Type 0) (r : Result A Cause) (next : A → Result B Cause) → ((x : A) → r ≡ Ok x → IfOk (next x) Q) → IfOk (and_then r next) Q
-rows_if Q (Ok x) next h = h x refl
-rows_if Q (Err c) next h = tt
+use Rattle.std.proofs.lemmas.Bool.{or_right}
+use Rattle.solv_script.proofs.RowForms.{ok_then, text_then}
 
 pub or_if : {A B : Type 0} (Q : B → Type 0) (o : Option A) (c : Cause) (next : A → Result B Cause) → ((x : A) → o ≡ Some x → IfOk (next x) Q) → IfOk (or_cause o c next) Q
 or_if Q None c next h = tt
 or_if Q (Some x) c next h = h x refl
-
-pub text_if : {A B : Type 0} (Q : B → Type 0) (r : Result A DepFault) (next : A → Result B Cause) → ((x : A) → r ≡ Ok x → IfOk (next x) Q) → IfOk (or_text_cause r next) Q
-text_if Q (Ok x) next h = h x refl
-text_if Q (Err e) next h = tt
-
-pub either_if : {B : Type 0} (Q : B → Type 0) (b : Bool) (q r : Result B Cause) → (b ≡ true → IfOk q Q) → (b ≡ false → IfOk r Q) → IfOk (if b then q else r) Q
-either_if Q true q r h k = h refl
-either_if Q false q r h k = k refl
 
 -- a test that finds something is met by it
 find_test : (f : ℕ → Bool) (xs : List ℕ) (p : ℕ) → find f xs ≡ Some p → f p ≡ true
@@ -86,7 +75,7 @@ record IsSome (ps : List ℕ) : Type 0 where
   is : ps ≡ first ∷ rest
 
 numbers_some : (task : WrittenTask) (w : List ℕ) (ws : List (List ℕ)) → IfOk (package_numbers task (w ∷ ws)) IsSome
-numbers_some task w ws = or_if IsSome (package_number task w) UnknownPackage _ (λ p e. rows_if IsSome (package_numbers task ws) _ (λ ps g. record { first = p; rest = ps; is = refl }))
+numbers_some task w ws = or_if IsSome (package_number task w) UnknownPackage _ (λ p e. ok_then IsSome (package_numbers task ws) _ (λ ps g. record { first = p; rest = ps; is = refl }))
 
 pub if_is : {A : Type 0} (Q : A → Type 0) (r : Result A Cause) (x : A) → r ≡ Ok x → IfOk r Q → Q x
 if_is Q (Ok y) x e h = let s : y ≡ x = cc in subst Q s h
@@ -166,7 +155,7 @@ all_with task name ps (n ∷ ns) is are =
 
 pub namespace_kept : (s : State) (text : List ℕ) (words : List (List ℕ)) → is_word text ≡ true → AreSome words → list_all is_word words ≡ true → IsNamespaceName text → IsGood s → IfOk (namespace_row s text words) IsGood
 namespace_kept s text words word some each is g =
-    rows_if IsGood (package_numbers s.task words) _ (λ ps e. text_if IsGood (text_entered text s.held) _ (λ n f.
+    ok_then IsGood (package_numbers s.task words) _ (λ ps e. text_then IsGood (text_entered text s.held) _ (λ n f.
     let told : All (IsToldByText s.task) ps = if_is (All (IsToldByText s.task)) (package_numbers s.task words) ps e (numbers_told s.task words each) in
     let few : IsSome ps = if_is IsSome (package_numbers s.task words) ps e (subst (λ ws. IfOk (package_numbers s.task ws) IsSome) (sym some.is) (numbers_some s.task some.first some.rest)) in
     let u = g.universe in
@@ -255,10 +244,10 @@ chosen_is task held (pkg w) = or_if (λ c. Chooses task (pkg w) c.choice) (packa
     on : (p : ℕ) → package_number task w ≡ Some p → IfOk (one_package held p) (λ c. Chooses task (pkg w) c.choice)
     on zero e = tt
     on (suc k) e = (k, e, refl)
-chosen_is task held (by_name ws) = text_if (λ c. Chooses task (by_name ws) c.choice) (dependency Plain (joined ws)) _ (λ d e. text_if (λ c. Chooses task (by_name ws) c.choice) (dependency_entered d held) _ (λ x f. (d, e, refl)))
-chosen_is task held (by_provides ws) = text_if (λ c. Chooses task (by_provides ws) c.choice) (dependency Plain (joined ws)) _ (λ d e. text_if (λ c. Chooses task (by_provides ws) c.choice) (dependency_entered d held) _ (λ x f. (d, e, refl)))
+chosen_is task held (by_name ws) = text_then (λ c. Chooses task (by_name ws) c.choice) (dependency Plain (joined ws)) _ (λ d e. text_then (λ c. Chooses task (by_name ws) c.choice) (dependency_entered d held) _ (λ x f. (d, e, refl)))
+chosen_is task held (by_provides ws) = text_then (λ c. Chooses task (by_provides ws) c.choice) (dependency Plain (joined ws)) _ (λ d e. text_then (λ c. Chooses task (by_provides ws) c.choice) (dependency_entered d held) _ (λ x f. (d, e, refl)))
 chosen_is task held (one_of ws) =
-    rows_if (λ c. Chooses task (one_of ws) c.choice) (package_numbers task ws) _ (λ ps e. rows_if (λ c. Chooses task (one_of ws) c.choice) (no_system ps) _ (λ qs f. on ps qs e f))
+    ok_then (λ c. Chooses task (one_of ws) c.choice) (package_numbers task ws) _ (λ ps e. ok_then (λ c. Chooses task (one_of ws) c.choice) (no_system ps) _ (λ qs f. on ps qs e f))
   where
     on : (ps qs : List ℕ) → package_numbers task ws ≡ Ok ps → no_system ps ≡ Ok qs → Chooses task (one_of ws) (written.one_of qs)
     on ps qs e f =
@@ -271,7 +260,7 @@ chosen_is task held nothing = refl
 
 pub job_kept : (s : State) (a : Action) (asked : Asked) (flags : JobFlags) (text : List ℕ) → IsJobOf (job a asked flags text) text → IsGood s → IfOk (job_row s a asked flags text) IsGood
 job_kept s a asked flags text is g =
-    rows_if IsGood (chosen s.task s.held asked) _ (λ c e.
+    ok_then IsGood (chosen s.task s.held asked) _ (λ c e.
     let j : WrittenJob = record { action = a; choice = c.choice; forcebest = flags.forcebest; cleandeps = flags.cleandeps; text = text } in
     let picks : Chooses s.task asked c.choice = if_is (λ c. Chooses s.task asked c.choice) (chosen s.task s.held asked) c e (chosen_is s.task s.held asked) in
     record {
@@ -291,10 +280,6 @@ some_kind k = k.transaction || (k.problems || (k.order || (k.reason || (k.userin
 record AreNamed (k : Kinds) : Type 0 where
   some : some_kind k ≡ true
 
-or_true : (a b : Bool) → b ≡ true → (a || b) ≡ true
-or_true true b h = refl
-or_true false b h = h
-
 kind_named : (name : List ℕ) (k : Kinds) → IfOk (with_kind name k) AreNamed
 kind_named name k =
     either_kinds (bytes_eq name (codes "transaction")) _ _ (record { some = refl })
@@ -302,23 +287,23 @@ kind_named name k =
     (either_kinds (bytes_eq name (codes "order")) _ _ (record { some = behind_problems refl })
     (either_kinds (bytes_eq name (codes "reason")) _ _ (record { some = behind_order refl })
     (either_kinds (bytes_eq name (codes "userinstalled")) _ _ (record { some = behind_reason refl })
-    (either_kinds (bytes_eq name (codes "unneeded")) _ _ (record { some = behind_reason (or_true k.userinstalled true refl) }) tt)))))
+    (either_kinds (bytes_eq name (codes "unneeded")) _ _ (record { some = behind_reason (or_right k.userinstalled true refl) }) tt)))))
   where
     either_kinds : (b : Bool) (q r : Result Kinds Cause) → IfOk q AreNamed → IfOk r AreNamed → IfOk (if b then q else r) AreNamed
     either_kinds true q r h l = h
     either_kinds false q r h l = l
 
     behind_transaction : {b : Bool} → b ≡ true → (k.transaction || b) ≡ true
-    behind_transaction {b} h = or_true k.transaction b h
+    behind_transaction {b} h = or_right k.transaction b h
 
     behind_problems : {b : Bool} → b ≡ true → (k.transaction || (k.problems || b)) ≡ true
-    behind_problems {b} h = or_true k.transaction (k.problems || b) (or_true k.problems b h)
+    behind_problems {b} h = or_right k.transaction (k.problems || b) (or_right k.problems b h)
 
     behind_order : {b : Bool} → b ≡ true → (k.transaction || (k.problems || (k.order || b))) ≡ true
-    behind_order {b} h = or_true k.transaction (k.problems || (k.order || b)) (or_true k.problems (k.order || b) (or_true k.order b h))
+    behind_order {b} h = or_right k.transaction (k.problems || (k.order || b)) (or_right k.problems (k.order || b) (or_right k.order b h))
 
     behind_reason : {b : Bool} → b ≡ true → (k.transaction || (k.problems || (k.order || (k.reason || b)))) ≡ true
-    behind_reason {b} h = or_true k.transaction (k.problems || (k.order || (k.reason || b))) (or_true k.problems (k.order || (k.reason || b)) (or_true k.order (k.reason || b) (or_true k.reason b h)))
+    behind_reason {b} h = or_right k.transaction (k.problems || (k.order || (k.reason || b))) (or_right k.problems (k.order || (k.reason || b)) (or_right k.order (k.reason || b) (or_right k.reason b h)))
 
 kinds_more : (names : List (List ℕ)) (k : Kinds) → AreNamed k → IfOk (with_kinds names k) AreNamed
 kinds_more [] k are = are
@@ -435,7 +420,7 @@ pub record HasKinds (t : State) : Type 0 where
 -- a `result` line, before its lines
 pub result_kept : (s : State) (word : List ℕ) → IsGood s → IfOk (result_row s word) (λ t. IsGood t × HasKinds t)
 result_kept s word g =
-    either_if (λ t. IsGood t × HasKinds t) (is_some s.wanted) (Err DuplicateResult) _ (λ e. tt) (λ e. rows_if (λ t. IsGood t × HasKinds t) (kinds_named word) _ (λ k f.
+    either_if (λ t. IsGood t × HasKinds t) (is_some s.wanted) (Err DuplicateResult) _ (λ e. tt) (λ e. ok_then (λ t. IsGood t × HasKinds t) (kinds_named word) _ (λ k f.
     let again = kinds_read word k f in (
       record { universe = g.universe; checks = g.checks; earlier = g.earlier; jobs = g.jobs; kinds = (again.0, again.1, All-nil IsKept); own = g.own },
       record { it = again },

@@ -27,9 +27,7 @@ use Rattle.solv_writing.specs.Inner.ReadScripts.{IsReadJob, IsReadCheck, AreRead
 use Rattle.solv_writing.specs.ScriptTexts.{inlined, content_words, repository_lines, packages_of, repositories_from, arch_text, installed_words, system_lines, disable_line, disabled_lines, namespace_line, universe_lines, check_line, flag_word, flag_words, job_line, kind_names, with_commas, result_lines, round_lines, first_round, later_lines, lines_of_script}
 use Rattle.solv_writing.specs.TagLines.{Entry, letters_of, entry_line, evr_words, package_entry, text_entry, dep_entry, need_entry, entries_of, package_lines, tag_lines}
 use Rattle.solv_writing.proofs.EvrWords.{evr_parts}
-
-join : (a b : List ℕ) → is_line a ≡ true → is_line b ≡ true → is_line (a ++ b) ≡ true
-join a b h k = list_all_join is_inner a b h k
+use Rattle.solv_deps.proofs.OneLine.{join}
 
 both : (a b : List (List ℕ)) → list_all is_line a ≡ true → list_all is_line b ≡ true → list_all is_line (a ++ b) ≡ true
 both a b h k = list_all_join is_line a b h k

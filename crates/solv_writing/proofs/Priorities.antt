@@ -13,6 +13,7 @@ use Rattle.solv_list.proofs.Booleans.{first_of_both, second_of_both}
 use Rattle.solv_list.proofs.Lists.{list_all_join}
 use Rattle.solv_list.proofs.Numbers.{at_most_true, true_at_most}
 use Rattle.solv_io.specs.JoinedWords.{is_solid, is_word}
+use Rattle.solv_list.proofs.Digits.{digit_more}
 
 abbrev are_digits : List ℕ → Bool
 are_digits w = list_all is_ascii_digit w
@@ -21,9 +22,6 @@ are_digits w = list_all is_ascii_digit w
 abbrev is_number : List ℕ → Bool
 is_number [] = false
 is_number (c ∷ cs) = are_digits (c ∷ cs)
-
-digit_more : (d : ℕ) → d < 10 → is_ascii_digit (48 + d) ≡ true
-digit_more d h = grind (arith, nat_tests)
 
 remainder_small : (n : ℕ) → n % 10 < 10
 remainder_small n = omega arith

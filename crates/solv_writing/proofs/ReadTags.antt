@@ -10,30 +10,29 @@ use Rattle.std.proofs.lemmas.List.Elements.{All-nil, All-cons, All-push, All-app
 use Rattle.solv_io.specs.Words.{words_of}
 use Rattle.solv_base.specs.Dependency.{Dep}
 use Rattle.solv_base.specs.Pool.{Held}
-use Rattle.solv_deps.specs.Canonical.{text}
 use Rattle.solv_deps.specs.Entering.{text_entered, dependency_entered}
 use Rattle.solv_deps.specs.Laws.{PrintedIsReadAgain, ReadIsWritten}
 use Rattle.solv_deps.specs.Reading.{dependency}
-use Rattle.solv_deps.specs.declared.fault.DepFault.{DepFault}
 use Rattle.solv_deps.specs.declared.place.Place.{Place}
 use Rattle.solv_deps.specs.declared.place.Place.TheVariants.{Requires, Conflicts, Plain}
 use Rattle.solv_pool.specs.Contents.{most_packages}
 use Rattle.solv_pool.specs.Written.{WrittenPackage, WrittenNeed}
 use Rattle.solv_tags.specs.Entries.{is_same, with_dependency, also_pre, with_need, with_path, with_entry, bare_package, evr_text}
 use Rattle.solv_tags.specs.Headings.{entry_sign, opening_sign, closing_sign, is_heading, letters, after_heading, tag, place_of, trimmed}
-use Rattle.solv_tags.specs.Testtags.{Tagged, Repository, packages_so_far, or_cause, texts_entered, begun, package_entry, vendor_entry, path_entry, dependency_entry, entry_of, entry_of_hand, entry, entry_if_tag, opens_block, with_block, outside_block, block_entry, inside_block, line_by_block, line_read, end_read, or_bad, lines_read, no_line, testtags}
+use Rattle.solv_tags.specs.Testtags.{Tagged, Repository, packages_so_far, begun, package_entry, vendor_entry, path_entry, dependency_entry, entry_of, entry_of_hand, entry, entry_if_tag, opens_block, with_block, outside_block, block_entry, inside_block, line_by_block, line_read, end_read, or_bad, lines_read, no_line, testtags}
 use Rattle.solv_tags.specs.declared.tag.Tag.{Tag}
 use Rattle.solv_tags.specs.declared.tag.Tag.TheVariants.{Pkg, Prv, Req, Prq, Con, Obs, Rec, Sug, Sup, Enh, Vnd, Fls}
 use Rattle.solv_tags.specs.declared.tag_fault.TagCause.{TagCause}
 use Rattle.solv_tags.specs.declared.tag_fault.TagCause.TheVariants as cause
 use Rattle.solv_list.proofs.Answers.{one_or}
 use Rattle.solv_list.proofs.Booleans.{first_of_both, second_of_both}
-use Rattle.solv_list.proofs.Lists.{list_all_join}
+use Rattle.solv_list.proofs.Lists.{list_all_join, list_any_map}
 use Rattle.solv_io.specs.JoinedWords.{is_solid, is_inner, is_word, is_line}
 use Rattle.solv_writing.specs.Inner.ReadPackages.{are_apart, ReadsBack, AreEntries, IsKept, IsReadPackage}
 use Rattle.solv_deps.proofs.OneLine.{printed_line}
 use Rattle.solv_writing.proofs.Trimmed.{trimmed_kept}
 use Rattle.solv_io.proofs.WordsAgain.{line_words, solid_word}
+use Rattle.solv_tags.proofs.EntriesFormed.{text_then, texts_then}
 
 -- lists in which all is apart
 pub apart_behind : {A : Type 0} (same : A → A → Bool) (before xs : List A) (x : A) → are_apart same before xs ≡ true → list_any (same x) (before ++ xs) ≡ false → are_apart same before (xs ++ x ∷ []) ≡ true
@@ -41,10 +40,6 @@ apart_behind same before [] x h new = and_from (not (list_any (same x) before)) 
 apart_behind same before (y ∷ xs) x h new =
     and_from (not (list_any (same y) before)) (are_apart same (before ++ y ∷ []) (xs ++ x ∷ [])) (first_of_both (not (list_any (same y) before)) (are_apart same (before ++ y ∷ []) xs) h)
     (apart_behind same (before ++ y ∷ []) xs x (second_of_both (not (list_any (same y) before)) (are_apart same (before ++ y ∷ []) xs) h) (ap (list_any (same x)) (append_assoc before (y ∷ []) xs) ∙ new))
-
-pub any_of_map : {A B : Type 0} (f : B → Bool) (g : A → B) (xs : List A) → list_any f (map g xs) ≡ list_any (λ x. f (g x)) xs
-any_of_map f g [] = refl
-any_of_map f g (x ∷ xs) = ap (λ b. f (g x) || b) (any_of_map f g xs)
 
 pub all_drop : (f : ℕ → Bool) (n : ℕ) (xs : List ℕ) → list_all f xs ≡ true → list_all f (drop n xs) ≡ true
 all_drop f zero xs h = h
@@ -76,7 +71,7 @@ need_more d pre l b are =
     (elim (list_any (λ (need : WrittenNeed). is_same d need.dep) l) as (λ x. list_any (λ (need : WrittenNeed). is_same d need.dep) l ≡ x → AreEntries Requires (deps_of (if x then map (also_pre d pre) l else l ++ record { dep = d; pre = pre } ∷ []))) [
       | true ↦ λ e. subst (AreEntries Requires) (sym (also_deps d pre l)) are
       | false ↦ λ e.
-          let new : list_any (is_same d) (deps_of l) ≡ false = any_of_map (is_same d) (λ (need : WrittenNeed). need.dep) l ∙ e in
+          let new : list_any (is_same d) (deps_of l) ≡ false = list_any_map (is_same d) (λ (need : WrittenNeed). need.dep) l ∙ e in
           subst (AreEntries Requires) (sym (map-append (λ (need : WrittenNeed). need.dep) l (record { dep = d; pre = pre } ∷ [])))
           (record { each = All-push (ReadsBack Requires) (deps_of l) d are.each b; once = apart_behind is_same [] (deps_of l) d are.once new })
     ]) refl
@@ -167,14 +162,6 @@ hand_is repo (Some a) h = All-cons (IsGiven repo) a [] h (All-nil (IsGiven repo)
 
 so_far_given : (repo before : ℕ) (s : Tagged) → AreGiven repo before s → All (IsGiven repo) (packages_so_far s)
 so_far_given repo before s f = All-append (IsGiven repo) s.done (option_to_list s.hand) f.done (hand_is repo s.hand f.hand)
-
-text_then : {A B : Type 0} (P : B → Type 0) (r : Result A DepFault) (next : A → Result B TagCause) → ((x : A) → r ≡ Ok x → IfOk (next x) P) → IfOk (or_cause r next) P
-text_then P (Ok x) next h = h x refl
-text_then P (Err e) next h = tt
-
-texts_then : (P : Tagged → Type 0) (texts : List (List ℕ)) (held : Held) (next : Held → Result Tagged TagCause) → ((h : Held) → IfOk (next h) P) → IfOk (texts_entered texts held next) P
-texts_then P [] held next h = h held
-texts_then P (text ∷ texts) held next h = text_then P (text_entered text held) (λ e. texts_entered texts e.held next) (λ e is. texts_then P texts e.held next h)
 
 cause_or : {B : Type 0} (P : B → Type 0) (b : Bool) (c : TagCause) (r : Result B TagCause) → (b ≡ false → IfOk r P) → IfOk (if b then Err c else r) P
 cause_or P true c r h = tt

@@ -1,5 +1,5 @@
 -- Repositories with their packages, put one behind another.
-use Rattle.std.proofs.Common.{◌≡◌, ◌<◌, ℕ, ◌==◌, List, [], ◌∷◌, ◌++◌, ◌+◌, map, drop, length, slice_get, Some, refl, sym, ap, ◌∙◌, nat_lt, zero, suc, arith, append_assoc}
+use Rattle.std.proofs.Common.{◌≡◌, ◌<◌, ℕ, ◌==◌, List, [], ◌∷◌, ◌++◌, ◌+◌, map, drop, length, slice_get, Some, refl, sym, ap, ◌∙◌, nat_lt, append_assoc}
 use Rattle.std.specs.Prelude.{codes, if◌then◌else◌}
 use Rattle.std.specs.Fmt.{signed_decimal}
 use Rattle.std.proofs.lemmas.Bool.{ltb-true}
@@ -12,36 +12,28 @@ use Rattle.solv_pool.specs.Written.{WrittenPackage, written_package, written_rep
 use Rattle.solv_pool.specs.declared.packages.Package.{Package}
 use Rattle.solv_pool.specs.declared.packages.Repo.{Repo}
 use Rattle.solv_script.specs.Grammar.{inline}
-use Rattle.solv_list.proofs.Lists.{all_at, drop_get}
+use Rattle.solv_list.proofs.Lists.{all_at, drop_get, some_there}
 use Rattle.solv_writing.specs.declared.spans.Span.{Span}
 use Rattle.solv_writing.specs.Inner.Spans.{IsSpan}
 use Rattle.solv_writing.specs.ScriptTexts.{content_words, inlined, packages_of, repository_lines, repositories_from}
 use Rattle.solv_writing.specs.TagLines.{tag_lines}
 use Rattle.solv_writing.proofs.PackageById.{own_first, tags_both}
 use Rattle.solv_writing.proofs.RepositorySpans.{content_is, same_there}
+use Rattle.solv_io.proofs.WrittenLines.{ended_lines-append}
 
 pub name_there : (pool : Held) (contents : Contents) (place : ℕ) (r : Repo) → IsOver pool contents → slice_get contents.repos place ≡ Some r → r.name < length pool.names
 name_there pool contents place r over at = ltb-true r.name (length pool.names) (all_at (λ (q : Repo). nat_lt q.name (length pool.names)) contents.repos place r over.repos at)
 
-pub ended_both : (xs ys : List (List ℕ)) → ended_lines (xs ++ ys) ≡ ended_lines xs ++ ended_lines ys
-ended_both [] ys = refl
-ended_both (x ∷ xs) ys = ap (λ l. x ++ 10 ∷ l) (ended_both xs ys) ∙ sym (append_assoc x (10 ∷ ended_lines xs) (ended_lines ys))
-
 inlined_both : (xs ys : List (List ℕ)) → inlined (xs ++ ys) ≡ inlined xs ++ inlined ys
 inlined_both [] ys = refl
 inlined_both (x ∷ xs) ys = ap (λ l. (codes "#>" ++ x) ∷ l) (inlined_both xs ys)
-
-pub some_there : {X : Type 0} (xs : List X) (k : ℕ) → k < length xs → (x : X) × (slice_get xs k ≡ Some x)
-some_there [] k h = absurd (omega arith)
-some_there (x ∷ xs) zero h = (x, refl)
-some_there (x ∷ xs) (suc k) h = some_there xs k (omega arith)
 
 -- the block of packages
 abbrev block : List WrittenPackage → List ℕ
 block packages = ended_lines (inlined (tag_lines packages))
 
 block_both : (xs ys : List WrittenPackage) → block (xs ++ ys) ≡ block xs ++ block ys
-block_both xs ys = ap (λ l. ended_lines (inlined l)) (tags_both xs ys) ∙ ap ended_lines (inlined_both (tag_lines xs) (tag_lines ys)) ∙ ended_both (inlined (tag_lines xs)) (inlined (tag_lines ys))
+block_both xs ys = ap (λ l. ended_lines (inlined l)) (tags_both xs ys) ∙ ap ended_lines (inlined_both (tag_lines xs) (tag_lines ys)) ∙ ended_lines-append (inlined (tag_lines xs)) (inlined (tag_lines ys))
 
 -- one package more
 pub block_turn : (pool : Held) (repo : ℕ) (packages : List Package) (k : ℕ) (a : Package) (old new whole : List ℕ) → slice_get packages k ≡ Some a
@@ -80,5 +72,5 @@ repository_turn pool repos packages place old new whole l put before =
     let first : List (List ℕ) = repository_lines (written_repo pool r) (packages_of place packages) in
     let rest : List (List ℕ) = repositories_from (place + 1) (map (written_repo pool) (drop (place + 1) repos)) packages in
     let here : ended_lines (repositories_from place (map (written_repo pool) (drop place repos)) packages) ≡ ended_lines first ++ ended_lines rest =
-    ap (λ rs. ended_lines (repositories_from place (map (written_repo pool) rs) packages)) (drop_get repos place r there.1) ∙ ended_both first rest in
+    ap (λ rs. ended_lines (repositories_from place (map (written_repo pool) rs) packages)) (drop_get repos place r there.1) ∙ ended_lines-append first rest in
     ap (λ x. x ++ ended_lines rest) (put r there.1) ∙ append_assoc old (ended_lines first) (ended_lines rest) ∙ ap (λ x. old ++ x) (sym here) ∙ before

@@ -15,22 +15,13 @@ use Rattle.solv_list.proofs.Numbers.{equal_to_itself, same_number}
 use Rattle.solv_writing.specs.declared.spans.Span.{Span}
 use Rattle.solv_writing.specs.Inner.Spans.{IsSpan, AreSpans}
 use Rattle.solv_writing.specs.ScriptTexts.{content_words, packages_of}
+use Rattle.std.proofs.lemmas.Bool.{cases_eq, ne_eqb}
 
 below_or_at : (k i : ℕ) → k < i + 1 → (k < i) ⊎ (k ≡ i)
 below_or_at k i h = grind (arith, nat_tests)
 
-same_or_not : (m n : ℕ) → (m ≡ n) ⊎ (m ≡ n → ⊥)
-same_or_not m n = grind (arith, nat_tests)
-
 pub same_there : {X : Type 0} (x y : X) → Some x ≡ Some y → x ≡ y
 same_there x y e = ap (λ o. option_map_or (λ z. z) o x) e
-
-not_same : (m n : ℕ) → (m ≡ n → ⊥) → (m == n) ≡ false
-not_same m n h =
-    (elim (m == n) as (λ b. (m == n) ≡ b → b ≡ false) [
-      | true ↦ λ e. absurd (h (same_number m n e))
-      | false ↦ λ e. refl
-    ]) refl
 
 -- none before: the span is this package
 first_turn : (packages : List Package) (i place : ℕ) (s : Span) (a : Package) → slice_get packages i ≡ Some a → a.repo ≡ place → IsSpan packages i place s → s.end ≡ 0 → IsSpan packages (i + 1) place (record { first = i; end = i + 1 })
@@ -96,7 +87,7 @@ pub spans_turn : (packages : List Package) (a : Package) (spans : List Span) (nu
     → slice_get packages place ≡ Some a → a.repo ≡ number → AreSpans packages place spans → AreSpans packages (place + 1) (set spans number (record { first = first; end = place + 1 }))
 spans_turn packages a spans number place first s here is at own each = λ r t there.
     let wide : Span = record { first = first; end = place + 1 } in
-    elim (same_or_not r number) [
+    elim (cases_eq r number) [
       | inl e ↦
           let there' : slice_get (set spans number wide) number ≡ Some t = ap (slice_get (set spans number wide)) (sym e) ∙ there in
           subst (λ u. IsSpan packages (place + 1) r u) (set_here spans number wide t there')
@@ -115,7 +106,7 @@ module _ (pool : Held) (repo : ℕ) where
   front_out zero xs h = refl
   front_out (suc n) [] h = refl
   front_out (suc n) (x ∷ xs) h =
-      let other : (x.repo == repo) ≡ false = not_same x.repo repo (λ e. let bad : suc n ≤ 0 = h 0 x refl e in absurd (omega (arith, bad))) in
+      let other : (x.repo == repo) ≡ false = ne_eqb x.repo repo (λ e. let bad : suc n ≤ 0 = h 0 x refl e in absurd (omega (arith, bad))) in
       front_out n xs (λ k a at e. let l : suc n ≤ suc k = h (suc k) a at e in omega (arith, l)) ∙ sym (rw other refl)
 
   -- none from a place on
@@ -123,7 +114,7 @@ module _ (pool : Held) (repo : ℕ) where
   back_out zero [] h = refl
   back_out (suc n) [] h = refl
   back_out zero (x ∷ xs) h =
-      let other : (x.repo == repo) ≡ false = not_same x.repo repo (λ e. let bad : 0 < 0 = h 0 x refl e in absurd (omega (arith, bad))) in
+      let other : (x.repo == repo) ≡ false = ne_eqb x.repo repo (λ e. let bad : 0 < 0 = h 0 x refl e in absurd (omega (arith, bad))) in
       rw other (back_out zero xs (λ k a at e. let l : suc k < 0 = h (suc k) a at e in absurd (omega (arith, l))))
   back_out (suc n) (x ∷ xs) h = back_out n xs (λ k a at e. let l : suc k < suc n = h (suc k) a at e in omega (arith, l))
 

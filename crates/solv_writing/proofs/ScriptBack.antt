@@ -1,10 +1,10 @@
 -- A written script is read as the same.
-use Rattle.std.proofs.Common.{◌≡◌, ℕ, ◌+◌, ◌==◌, ◌≤◌, Bool, true, false, not, ◌||◌, List, [], ◌∷◌, ◌++◌, map, filter, length, Option, Some, None, Result, Ok, Err, refl, sym, ap, subst, ◌∙◌, arith, append_assoc, append-nil, All, nat_lt}
+use Rattle.std.proofs.Common.{◌≡◌, ℕ, ◌+◌, ◌==◌, ◌≤◌, Bool, true, false, not, List, [], ◌∷◌, ◌++◌, map, filter, length, Option, Some, None, Result, Ok, Err, refl, sym, ap, subst, ◌∙◌, arith, append_assoc, append-nil, All, nat_lt}
 use Rattle.std.specs.Prelude.{codes, is_some, position, IsOkAnd, if◌then◌else◌}
-use Rattle.std.specs.List.{list_all, list_any, position_or_len}
+use Rattle.std.specs.List.{list_all, list_any}
 use Rattle.std.specs.Str.{bytes_eq}
 use Rattle.std.proofs.lemmas.Bool.Decides.{nat_tests}
-use Rattle.std.proofs.lemmas.List.{length-append}
+use Rattle.std.proofs.lemmas.List.{length-append, map-append}
 use Rattle.std.proofs.lemmas.List.Elements.{All-head, All-tail, All-filter, All-cons, All-nil}
 use Rattle.solv_io.specs.Lines.{IsLine}
 use Rattle.solv_io.proofs.WrittenLines.{lines_of-ended}
@@ -20,7 +20,7 @@ use Rattle.solv_script.specs.ScriptLines.{script_lines}
 use Rattle.solv_script.specs.States.{State, no_line, in_hand, with_rounds, script_given}
 use Rattle.solv_script.specs.declared.scripts.Kinds.{Kinds}
 use Rattle.solv_list.proofs.Booleans.{first_of_both, second_of_both, false_of_not}
-use Rattle.solv_list.proofs.Numbers.{same_number}
+use Rattle.solv_list.proofs.Numbers.{same_number, not_below_itself}
 use Rattle.solv_io.specs.JoinedWords.{is_line, joined}
 use Rattle.solv_deps.specs.Parts.{IsPart}
 use Rattle.solv_writing.specs.Inner.ReadPackages.{are_apart, IsReadPackage, HoldsText, HoldsPackage}
@@ -31,6 +31,7 @@ use Rattle.solv_writing.proofs.ResultLines.{result_leads}
 use Rattle.solv_writing.proofs.ScriptLines.{SoFar, so_far, hand_of, Reads, Goes, Leads, at_end, check_leads, flags_leads, job_leads, nextjob_leads}
 use Rattle.solv_writing.proofs.TagsRead.{IsOfRepo}
 use Rattle.solv_writing.proofs.UniverseLines.{bare_system_leads, system_leads, disabled_lead, namespace_leads, repository_leads}
+use Rattle.solv_list.proofs.Lists.{place_none, list_any_map}
 
 -- what lines gave that have these parts, and nothing of a round
 abbrev made : List WrittenRepo → List WrittenPackage → List Bool → Option Arch → Option ℕ → List (List ℕ × List ℕ) → List WrittenCheck → SoFar
@@ -58,31 +59,12 @@ given_is t = on (t.earlier ++ in_hand t ∷ [])
     on [] = refl
     on (first ∷ later) = refl
 
-map_behind : {A B : Type 0} (g : A → B) (xs : List A) (x : A) → map g (xs ++ x ∷ []) ≡ map g xs ++ g x ∷ []
-map_behind g [] x = refl
-map_behind g (y ∷ xs) x = ap (λ l. g y ∷ l) (map_behind g xs x)
-
 map_both : {A B : Type 0} (g : A → B) (xs ys : List A) → map g (xs ++ ys) ≡ map g xs ++ map g ys
 map_both g [] ys = refl
 map_both g (x ∷ xs) ys = ap (λ l. g x ∷ l) (map_both g xs ys)
 
-any_of_map : {A B : Type 0} (f : B → Bool) (g : A → B) (xs : List A) → list_any f (map g xs) ≡ list_any (λ x. f (g x)) xs
-any_of_map f g [] = refl
-any_of_map f g (x ∷ xs) = ap (λ b. f (g x) || b) (any_of_map f g xs)
-
-place_end : {X : Type 0} (f : X → Bool) (xs : List X) → list_any f xs ≡ false → position_or_len f xs ≡ length xs
-place_end f [] h = refl
-place_end f (x ∷ xs) h =
-    elim (f x) as (λ b. f x ≡ b → position_or_len f (x ∷ xs) ≡ length (x ∷ xs)) [
-      | true ↦ λ k. absurd (let bad : true ≡ false = (rw k at h) in cc)
-      | false ↦ λ k. rw k (omega (arith, place_end f xs (rw k at h)))
-    ] refl
-
-not_below : (n : ℕ) → nat_lt n n ≡ false
-not_below n = grind (arith, nat_tests)
-
 no_place : {X : Type 0} (f : X → Bool) (xs : List X) → list_any f xs ≡ false → is_some (position f xs) ≡ false
-no_place f xs h = rw (place_end f xs h, not_below (length xs)) refl
+no_place f xs h = rw (place_none f xs h, not_below_itself (length xs)) refl
 
 all_lines : (lines : List (List ℕ)) → list_all is_line lines ≡ true → All IsLine lines
 all_lines [] h = All-nil IsLine
@@ -135,7 +117,7 @@ module _ (whole : Held) (p : IsPool whole) (again : HeldIsEntered) (script : Lis
         let names : List (List ℕ) = map (λ r. r.name) done in
         let more : List (List ℕ) = map (λ r. r.name) rest in
         let free : list_any (bytes_eq r.name) names ≡ false = false_of_not (list_any (bytes_eq r.name) names) (first_of_both (not (list_any (bytes_eq r.name) names)) (are_apart bytes_eq (names ++ r.name ∷ []) more) apart) in
-        let new : is_some (position (λ (q : WrittenRepo). bytes_eq r.name q.name) done) ≡ false = no_place (λ (q : WrittenRepo). bytes_eq r.name q.name) done (sym (any_of_map (bytes_eq r.name) (λ (q : WrittenRepo). q.name) done) ∙ free) in
+        let new : is_some (position (λ (q : WrittenRepo). bytes_eq r.name q.name) done) ≡ false = no_place (λ (q : WrittenRepo). bytes_eq r.name q.name) done (sym (list_any_map (bytes_eq r.name) (λ (q : WrittenRepo). q.name) done) ∙ free) in
         let longer : length (done ++ r ∷ []) ≡ length done + 1 = length-append done (r ∷ []) in
         let both : length (own ++ later) ≡ length own + length later = length-append own later in
         let sum : length (ps ++ own) ≡ length ps + length own = length-append ps own in
@@ -146,7 +128,7 @@ module _ (whole : Held) (p : IsPool whole) (again : HeldIsEntered) (script : Lis
         let rest_leads : To (before_rest (done ++ r ∷ []) (ps ++ own)) (repositories_from (length done + 1) rest packages ++ others) end =
         subst (λ n. To (before_rest (done ++ r ∷ []) (ps ++ own)) (repositories_from n rest packages ++ others) end) longer
         (repos_lead rest (done ++ r ∷ []) (ps ++ own) end others (All-tail IsReadRepo r rest good) (All-tail (λ (q : WrittenRepo). HoldsText whole q.name) r rest held)
-        (subst (λ l. are_apart bytes_eq l more ≡ true) (sym (map_behind (λ (q : WrittenRepo). q.name) done r)) (second_of_both (not (list_any (bytes_eq r.name) names)) (are_apart bytes_eq (names ++ r.name ∷ []) more) apart))
+        (subst (λ l. are_apart bytes_eq l more ≡ true) (sym (map-append (λ (q : WrittenRepo). q.name) done (r ∷ []))) (second_of_both (not (list_any (bytes_eq r.name) names)) (are_apart bytes_eq (names ++ r.name ∷ []) more) apart))
         (subst (λ n. length (ps ++ own) + length (packages_from n rest packages) ≤ most_packages) (sym longer) (omega (arith, few, both, sum)))
         (subst (λ n. To (before_rest ((done ++ r ∷ []) ++ rest) ((ps ++ own) ++ packages_from n rest packages)) others end) (sym longer)
         (subst (λ x. To x others end) (λ i. before_rest (sym (append_assoc done (r ∷ []) rest) i) (sym (append_assoc ps own later) i)) behind))) in
@@ -255,7 +237,7 @@ module _ (whole : Held) (p : IsPool whole) (again : HeldIsEntered) (script : Lis
         (All-head (λ (x : List ℕ × List ℕ). HoldsText whole x.0) n rest held)
         (false_of_not (list_any (bytes_eq n.0) (map (λ m. m.0) done)) (first_of_both (not (list_any (bytes_eq n.0) (map (λ m. m.0) done))) (are_apart bytes_eq (map (λ m. m.0) done ++ n.0 ∷ []) (map (λ m. m.0) rest)) once))
         (namespaces_on rest (done ++ n ∷ []) end others (All-tail (IsReadNamespace (view_of w.task)) n rest good) (All-tail (λ (x : List ℕ × List ℕ). HoldsText whole x.0) n rest held)
-        (subst (λ l. are_apart bytes_eq l (map (λ m. m.0) rest) ≡ true) (sym (map_behind (λ (m : List ℕ × List ℕ). m.0) done n)) (second_of_both (not (list_any (bytes_eq n.0) (map (λ m. m.0) done))) (are_apart bytes_eq (map (λ m. m.0) done ++ n.0 ∷ []) (map (λ m. m.0) rest)) once))
+        (subst (λ l. are_apart bytes_eq l (map (λ m. m.0) rest) ≡ true) (sym (map-append (λ (m : List ℕ × List ℕ). m.0) done (n ∷ []))) (second_of_both (not (list_any (bytes_eq n.0) (map (λ m. m.0) done))) (are_apart bytes_eq (map (λ m. m.0) done ++ n.0 ∷ []) (map (λ m. m.0) rest)) once))
         (subst (λ ns. To (with_universe w.task.disabled w.task.arch w.task.installed ns) others end) (sym (append_assoc done (n ∷ []) rest)) behind))
 
     -- the system

@@ -9,7 +9,6 @@ use Rattle.solv_base.specs.Pool.{Held, IsPool}
 use Rattle.solv_deps.specs.Canonical.{comparison_text}
 use Rattle.solv_deps.specs.Entering.{dependency_entered}
 use Rattle.solv_deps.specs.Laws.{HeldIsEntered}
-use Rattle.solv_deps.specs.declared.fault.DepFault.{DepFault}
 use Rattle.solv_pool.specs.Written.{WrittenTask, WrittenJob, WrittenChoice}
 use Rattle.solv_pool.specs.declared.tasks.Flags.{Flags}
 use Rattle.solv_commands.specs.Commas.{between_commas}
@@ -20,7 +19,7 @@ use Rattle.solv_commands.specs.SolverFlags.{with_settings, with_words}
 use Rattle.solv_commands.specs.declared.causes.Cause.{Cause}
 use Rattle.solv_script.specs.Grammar.{done, Named, file_named, row, words_row, said_row, command_row, lines_row, lines_given, lines_due}
 use Rattle.solv_script.specs.Reads.{WrittenCheck, WrittenRound, default_kinds}
-use Rattle.solv_script.specs.Rows.{and_then, or_text_cause, plain_row, chosen, is_of_packages, is_too_late}
+use Rattle.solv_script.specs.Rows.{plain_row, chosen, is_of_packages, is_too_late}
 use Rattle.solv_script.specs.ScriptLines.{ScriptLine, inline_lines, script_lines, own_words}
 use Rattle.solv_script.specs.States.{State}
 use Rattle.solv_script.specs.declared.scripts.Kinds.{Kinds}
@@ -29,6 +28,7 @@ use Rattle.solv_writing.specs.Inner.ReadScripts.{Chooses, IsReadJob, HoldsChoice
 use Rattle.solv_writing.specs.ScriptTexts.{inlined, check_line, flag_word, flag_words, job_line}
 use Rattle.solv_deps.proofs.PartEntered.{trees_entered}
 use Rattle.solv_io.proofs.WordsAgain.{words_again}
+use Rattle.solv_script.proofs.GrownScripts.{texts_then, rows_then}
 
 -- what lines so far gave: the packages with the flags and jobs of the round in hand, the comparisons, what is expected of that round, and the rounds before it
 pub record SoFar : Type 0 where
@@ -44,15 +44,6 @@ so_far s = record { task = s.task; kinds = s.kinds; wanted = s.wanted; checks = 
 -- the round in hand
 abbrev pub hand_of : SoFar → WrittenRound
 hand_of w = record { flags = w.task.flags; jobs = w.task.jobs; kinds = w.kinds; wanted = w.wanted }
-
--- what follows what is right
-pub texts_then : {A B : Type 0} (P : A → Type 0) (Q : B → Type 0) (r : Result A DepFault) (next : A → Result B Cause) → IsOkAnd r P → ((x : A) → P x → IsOkAnd (next x) Q) → IsOkAnd (or_text_cause r next) Q
-texts_then P Q (Ok x) next h k = k x h
-texts_then P Q (Err e) next h k = absurd h
-
-pub rows_then : {A B C : Type 0} (P : A → Type 0) (Q : B → Type 0) (r : Result A C) (next : A → Result B C) → IsOkAnd r P → ((x : A) → P x → IsOkAnd (next x) Q) → IsOkAnd (and_then r next) Q
-rows_then P Q (Ok x) next h k = k x h
-rows_then P Q (Err e) next h k = absurd h
 
 -- the lines of a block are numbered as its lines
 pub block_is : (lines others : List (List ℕ)) → ((k : ℕ) → inline_lines k others ≡ []) → (n : ℕ) → inline_lines n (inlined lines ++ others) ≡ enumerate_from n lines

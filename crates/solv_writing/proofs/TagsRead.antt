@@ -1,11 +1,11 @@
 -- The testtags lines of packages are read as these packages.
-use Rattle.std.proofs.Common.{◌≡◌, ℕ, ◌+◌, ◌<◌, ◌≤◌, Bool, true, false, not, ◌||◌, List, [], ◌∷◌, ◌++◌, map, length, Option, Some, None, Result, Ok, Err, refl, sym, ap, subst, ◌∙◌, arith, append_assoc, append-nil, All}
+use Rattle.std.proofs.Common.{◌≡◌, ℕ, ◌+◌, ◌<◌, ◌≤◌, Bool, true, false, not, List, [], ◌∷◌, ◌++◌, map, length, Option, Some, None, Result, Ok, Err, refl, sym, ap, subst, ◌∙◌, arith, append_assoc, append-nil, All}
 use Rattle.std.specs.Prelude.{nat_le, IsOkAnd, option_to_list}
 use Rattle.std.specs.List.{list_any, enumerate_from}
 use Rattle.std.specs.Str.{bytes_eq}
 use Rattle.std.proofs.lemmas.Bool.{and_from}
 use Rattle.std.proofs.lemmas.Bool.Decides.{nat_tests}
-use Rattle.std.proofs.lemmas.List.{length-append}
+use Rattle.std.proofs.lemmas.List.{length-append, map-append}
 use Rattle.std.proofs.lemmas.List.Elements.{All-head, All-tail}
 use Rattle.solv_io.specs.Words.{words_of}
 use Rattle.solv_base.specs.Dependency.{Dep}
@@ -14,13 +14,12 @@ use Rattle.solv_deps.specs.Canonical.{text}
 use Rattle.solv_deps.specs.Entering.{text_entered, dependency_entered}
 use Rattle.solv_deps.specs.Laws.{HeldIsEntered}
 use Rattle.solv_deps.specs.Reading.{dependency}
-use Rattle.solv_deps.specs.declared.fault.DepFault.{DepFault}
 use Rattle.solv_deps.specs.declared.place.Place.TheVariants.{Requires}
 use Rattle.solv_pool.specs.Contents.{most_packages}
 use Rattle.solv_pool.specs.Written.{WrittenPackage, WrittenNeed}
 use Rattle.solv_tags.specs.Entries.{is_same, with_dependency, with_need, with_path, with_entry, bare_package}
 use Rattle.solv_tags.specs.Headings.{place_of}
-use Rattle.solv_tags.specs.Testtags.{Tagged, Repository, packages_so_far, or_cause, begun, package_entry as package_read, dependency_entry, vendor_entry, path_entry, line_read, line_by_block, end_read, or_bad, lines_read, no_line, testtags}
+use Rattle.solv_tags.specs.Testtags.{Tagged, Repository, packages_so_far, begun, package_entry as package_read, dependency_entry, vendor_entry, path_entry, line_read, line_by_block, end_read, or_bad, lines_read, no_line, testtags}
 use Rattle.solv_tags.specs.declared.tag.Tag.{Tag}
 use Rattle.solv_tags.specs.declared.tag.Tag.TheVariants.{Prv, Req, Prq, Con, Obs, Rec, Sug, Sup, Enh, Vnd, Fls}
 use Rattle.solv_tags.specs.declared.tag_fault.TagCause.{TagCause}
@@ -32,20 +31,8 @@ use Rattle.solv_writing.specs.Inner.ReadPackages.{are_apart, ReadsBack, IsKept, 
 use Rattle.solv_writing.proofs.EvrWords.{evr_parts}
 use Rattle.solv_deps.proofs.PartEntered.{texts_entered, trees_entered}
 use Rattle.solv_io.proofs.WordsAgain.{words_again}
-
--- what follows what is right
-tags_then : {A B : Type 0} (P : A → Type 0) (Q : B → Type 0) (r : Result A DepFault) (next : A → Result B TagCause) → IsOkAnd r P → ((x : A) → P x → IsOkAnd (next x) Q) → IsOkAnd (or_cause r next) Q
-tags_then P Q (Ok x) next h k = k x h
-tags_then P Q (Err e) next h k = absurd h
-
-abbrev pub then_lines : Result Tagged TagCause → (Tagged → Result Tagged TagCause) → Result Tagged TagCause
-then_lines (Ok t) next = next t
-then_lines (Err e) next = Err e
-
--- lines in turn, without their numbers
-abbrev pub lines_all : Tagged → List (List ℕ) → Result Tagged TagCause
-lines_all s [] = Ok s
-lines_all s (line ∷ lines) = then_lines (line_read s line) (λ t. lines_all t lines)
+use Rattle.solv_list.proofs.Lists.{list_any_map}
+use Rattle.solv_tags.proofs.InTurn.{tags_then, then_lines, lines_all, all_behind}
 
 -- entries in turn
 abbrev pub entries_all : Tagged → List Entry → Result Tagged TagCause
@@ -71,22 +58,6 @@ entries_behind P Q (x ∷ xs) ys s h k = on (line_read s (entry_line x)) h (λ t
     on : (r : Result Tagged TagCause) → IsOkAnd (then_lines r (λ t. entries_all t xs)) P → ((t : Tagged) → IsOkAnd (entries_all t xs) P → IsOkAnd (entries_all t (xs ++ ys)) Q) → IsOkAnd (then_lines r (λ t. entries_all t (xs ++ ys))) Q
     on (Ok t) h more = more t h
     on (Err e) h more = absurd h
-
-lines_behind : (P Q : Tagged → Type 0) (xs ys : List (List ℕ)) (s : Tagged) → IsOkAnd (lines_all s xs) P → ((t : Tagged) → P t → IsOkAnd (lines_all t ys) Q) → IsOkAnd (lines_all s (xs ++ ys)) Q
-lines_behind P Q [] ys s h k = k s h
-lines_behind P Q (x ∷ xs) ys s h k = on (line_read s x) h (λ t g. lines_behind P Q xs ys t g k)
-  where
-    on : (r : Result Tagged TagCause) → IsOkAnd (then_lines r (λ t. lines_all t xs)) P → ((t : Tagged) → IsOkAnd (lines_all t xs) P → IsOkAnd (lines_all t (xs ++ ys)) Q) → IsOkAnd (then_lines r (λ t. lines_all t (xs ++ ys))) Q
-    on (Ok t) h more = more t h
-    on (Err e) h more = absurd h
-
-any_of_map : {A B : Type 0} (f : B → Bool) (g : A → B) (xs : List A) → list_any f (map g xs) ≡ list_any (λ x. f (g x)) xs
-any_of_map f g [] = refl
-any_of_map f g (x ∷ xs) = ap (λ b. f (g x) || b) (any_of_map f g xs)
-
-map_behind : {A B : Type 0} (g : A → B) (xs : List A) (x : A) → map g (xs ++ x ∷ []) ≡ map g xs ++ g x ∷ []
-map_behind g [] x = refl
-map_behind g (y ∷ xs) x = ap (λ l. g y ∷ l) (map_behind g xs x)
 
 module _ (again : HeldIsEntered) (whole : Held) (p : IsPool whole) (repo before : ℕ) (done : List WrittenPackage) where
   -- the pool holds this, and this package is in hand
@@ -171,10 +142,10 @@ module _ (again : HeldIsEntered) (whole : Held) (p : IsPool whole) (repo before 
       let ds : List (Dep (List ℕ)) = map (λ n. n.dep) a.requires_ in
       let more : List (Dep (List ℕ)) = map (λ n. n.dep) needs in
       let free : list_any (is_same need.dep) ds ≡ false = false_of_not (list_any (is_same need.dep) ds) (first_of_both (not (list_any (is_same need.dep) ds)) (are_apart is_same (ds ++ need.dep ∷ []) more) apart) in
-      let new : list_any (λ (n : WrittenNeed). is_same need.dep n.dep) a.requires_ ≡ false = sym (any_of_map (is_same need.dep) (λ (n : WrittenNeed). n.dep) a.requires_) ∙ free in
+      let new : list_any (λ (n : WrittenNeed). is_same need.dep n.dep) a.requires_ ≡ false = sym (list_any_map (is_same need.dep) (λ (n : WrittenNeed). n.dep) a.requires_) ∙ free in
       let b : WrittenPackage = record a { requires_ = a.requires_ ++ need ∷ [] } in
       let later : are_apart is_same (map (λ n. n.dep) b.requires_) more ≡ true =
-      subst (λ l. are_apart is_same l more ≡ true) (sym (map_behind (λ (n : WrittenNeed). n.dep) a.requires_ need)) (second_of_both (not (list_any (is_same need.dep) ds)) (are_apart is_same (ds ++ need.dep ∷ []) more) apart) in
+      subst (λ l. are_apart is_same l more ≡ true) (sym (map-append (λ (n : WrittenNeed). n.dep) a.requires_ (need ∷ []))) (second_of_both (not (list_any (is_same need.dep) ds)) (are_apart is_same (ds ++ need.dep ∷ []) more) apart) in
       let rest : Reaches b (map need_entry needs) (record b { requires_ = b.requires_ ++ needs }) = needs_reach needs b (All-tail (ReadsBack Requires) need.dep more backs) (All-tail (HoldsTree whole) need.dep more holds) later in
       one_reaches a b (record a { requires_ = a.requires_ ++ need ∷ needs }) (need_entry need) (map need_entry needs)
       (need_read need.dep need.pre a (All-head (ReadsBack Requires) need.dep more backs) (All-head (HoldsTree whole) need.dep more holds) new)
@@ -334,7 +305,7 @@ module _ (again : HeldIsEntered) (whole : Held) (p : IsPool whole) (repo before 
   packages_go (a ∷ packages) ps s are b room =
       let first = All-head IsOfRepo a packages are in
       let longer : length (ps ++ a ∷ []) ≡ length ps + 1 = length-append ps (a ∷ []) in
-      lines_behind (Between whole repo before (ps ++ a ∷ [])) (Between whole repo before (ps ++ a ∷ packages)) (package_lines a) (tag_lines packages) s
+      all_behind (Between whole repo before (ps ++ a ∷ [])) (Between whole repo before (ps ++ a ∷ packages)) (package_lines a) (tag_lines packages) s
       (package_goes a first.is first.holds ps s first.own b (omega (arith, room)))
       (λ t c. subst (λ l. IsOkAnd (lines_all t (tag_lines packages)) (Between whole repo before l)) (append_assoc ps (a ∷ []) packages)
       (packages_go packages (ps ++ a ∷ []) t (All-tail IsOfRepo a packages are) c (omega (arith, room, longer))))

@@ -1,5 +1,5 @@
 -- A package that is told by its text is told by it when more repositories and packages are there.
-use Rattle.std.proofs.Common.{◌≡◌, ℕ, zero, suc, ◌+◌, ◌≤◌, ◌<◌, Bool, true, false, List, [], ◌∷◌, ◌++◌, length, slice_get, Option, Some, None, Result, Ok, Err, refl, sym, ap, subst, ◌∙◌, arith, nat_lt}
+use Rattle.std.proofs.Common.{◌≡◌, ℕ, zero, suc, ◌+◌, ◌≤◌, ◌<◌, Bool, true, false, List, [], ◌∷◌, ◌++◌, length, Option, Some, None, Result, Ok, Err, refl, sym, ap, subst, ◌∙◌, arith, nat_lt}
 use Rattle.std.specs.Prelude.{find}
 use Rattle.std.specs.List.{list_all, range_with_len}
 use Rattle.std.specs.Option.{option_map_or}
@@ -11,7 +11,7 @@ use Rattle.solv_script.specs.States.{text_of, text_of_number, package_number}
 use Rattle.solv_commands.specs.declared.causes.Cause.{Cause}
 use Rattle.solv_commands.specs.declared.causes.Cause.TheVariants.{UnknownPackage}
 use Rattle.solv_script.specs.Rows.{and_then, or_cause, package_numbers}
-use Rattle.solv_list.proofs.Lists.{all_at, get_front}
+use Rattle.solv_list.proofs.Lists.{all_at, get_front, some_there}
 use Rattle.solv_io.specs.JoinedWords.{is_word}
 use Rattle.solv_writing.specs.Inner.ReadScripts.{IsToldByText, view}
 
@@ -43,11 +43,6 @@ found_below f (suc n) a p h =
       | false ↦ λ q. let rest : find f (range_with_len (a + 1) n) ≡ Some p = sym (later_found f a (range_with_len (a + 1) n) q) ∙ h in let l = found_below f n (a + 1) p rest in omega (arith, l)
     ]) refl
 
-some_at : {X : Type 0} (xs : List X) (k : ℕ) → k < length xs → (x : X) × (slice_get xs k ≡ Some x)
-some_at [] k h = absurd (omega arith)
-some_at (x ∷ xs) zero h = (x, refl)
-some_at (x ∷ xs) (suc k) h = some_at xs k (omega arith)
-
 module _ (repos more : List WrittenRepo) (packages added : List WrittenPackage) (own : list_all (λ (a : WrittenPackage). nat_lt a.repo (length repos)) packages ≡ true) where
   abbrev now : WrittenTask
   now = view repos packages
@@ -64,7 +59,7 @@ module _ (repos more : List WrittenRepo) (packages added : List WrittenPackage) 
   pub number_text_stays : (k : ℕ) → k ≤ length packages → text_of_number later k ≡ text_of_number now k
   number_text_stays zero l = refl
   number_text_stays (suc k) l =
-      let there = some_at packages k (omega (arith, l)) in
+      let there = some_there packages k (omega (arith, l)) in
       let o : nat_lt (there.0).repo (length repos) ≡ true = all_at (λ (a : WrittenPackage). nat_lt a.repo (length repos)) packages k there.0 own there.1 in
       ap (λ (o : Option WrittenPackage). option_map_or (text_of later) o []) (get_front packages added k (omega (arith, l)) ∙ there.1)
       ∙ text_stays there.0 (ltb-true (there.0).repo (length repos) o)

@@ -29,9 +29,10 @@ use Rattle.solv_writing.specs.ScriptTexts.{repository_lines, arch_text, disable_
 use Rattle.solv_writing.specs.TagLines.{tag_lines}
 use Rattle.solv_deps.proofs.PartEntered.{texts_entered}
 use Rattle.solv_writing.proofs.ResultLines.{block_leads}
-use Rattle.solv_writing.proofs.ScriptLines.{SoFar, Reads, Leads, in_first_round, plain_leads, texts_then}
+use Rattle.solv_writing.proofs.ScriptLines.{SoFar, Reads, Leads, in_first_round, plain_leads}
 use Rattle.solv_writing.proofs.TagsRead.{IsOfRepo, IsReadAs, tags_read}
 use Rattle.solv_io.proofs.WordsAgain.{words_again}
+use Rattle.solv_script.proofs.GrownScripts.{texts_then}
 
 module _ (whole : Held) (p : IsPool whole) (again : HeldIsEntered) (script : List ℕ) where
   abbrev Gives : SoFar → State → Type 0

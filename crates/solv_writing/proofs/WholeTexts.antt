@@ -14,7 +14,7 @@ use Rattle.solv_writing.specs.Inner.ByIds.{disabled_texts, namespace_text, syste
 use Rattle.solv_writing.specs.Inner.RoundTexts.{later_text, round_text}
 use Rattle.solv_writing.specs.ScriptTexts.{check_line, first_round, later_lines, repositories_from, round_lines, text_of_script, universe_lines}
 use Rattle.solv_writing.proofs.ByTexts.{checks_are, disabled_are, later_are, namespaces_are, round_is, system_is}
-use Rattle.solv_writing.proofs.RepositoryLines.{ended_both}
+use Rattle.solv_io.proofs.WrittenLines.{ended_lines-append}
 
 -- four parts one behind another
 four_put : (p1 p2 p3 p4 : List (List ℕ)) (l0 l1 l2 l3 l4 : List ℕ) → l1 ≡ l0 ++ ended_lines p1 → l2 ≡ l1 ++ ended_lines p2 → l3 ≡ l2 ++ ended_lines p3 → l4 ≡ l3 ++ ended_lines p4
@@ -25,7 +25,7 @@ four_put p1 p2 p3 p4 l0 l1 l2 l3 l4 e1 e2 e3 e4 =
     let c = ended_lines p3 in
     let d = ended_lines p4 in
     let whole : ended_lines (p1 ++ (p2 ++ (p3 ++ p4))) ≡ a ++ (b ++ (c ++ d)) =
-    ended_both p1 (p2 ++ (p3 ++ p4)) ∙ ap (λ l. a ++ l) (ended_both p2 (p3 ++ p4) ∙ ap (λ l. b ++ l) (ended_both p3 p4)) in
+    ended_lines-append p1 (p2 ++ (p3 ++ p4)) ∙ ap (λ l. a ++ l) (ended_lines-append p2 (p3 ++ p4) ∙ ap (λ l. b ++ l) (ended_lines-append p3 p4)) in
     e4 ∙ ap (λ l. l ++ d) (e3 ∙ ap (λ l. l ++ c) (e2 ∙ ap (λ l. l ++ b) e1))
     ∙ append_assoc ((l0 ++ a) ++ b) c d ∙ append_assoc (l0 ++ a) b (c ++ d) ∙ append_assoc l0 a (b ++ (c ++ d)) ∙ ap (λ l. l0 ++ l) (sym whole)
 

@@ -1,14 +1,12 @@
 -- Members of a set that are marked and listed, for inner contracts alone.
-use Rattle.std.specs.Prelude.{◌≡◌, ℕ, ◌<◌, ◌≤◌, Bool, true, ◌&&◌, ◌||◌, ◌==◌, List, length, slice_index, sum_by, if◌then◌else◌, ◌⊎◌}
+use Rattle.std.specs.Prelude.{◌≡◌, ℕ, ◌<◌, ◌≤◌, Bool, true, ◌&&◌, ◌||◌, ◌==◌, List, length, slice_index, sum_by, ◌⊎◌}
 use Rattle.std.specs.List.{list_any}
 use Rattle.solv_pool.specs.Catalog.{Catalog, dependency}
 use Rattle.solv_pool.specs.Needs.{serves, serves_package}
 use Rattle.solv_pool.specs.declared.packages.Need.{Need}
 use Rattle.solv_graph.specs.Inner.Graphs.{edge_to}
+use Rattle.solv_graph.specs.Inner.Searching.{one_if}
 use Rattle.solv_clean.specs.Inner.Tables.{is_marked}
-
-abbrev pub one_if : Bool → ℕ
-one_if b = if b then 1 else 0
 
 -- the list has each marked number once
 pub record AreListed (marks : List Bool) (found : List ℕ) : Type 0 where

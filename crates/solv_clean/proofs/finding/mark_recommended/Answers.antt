@@ -4,8 +4,8 @@ use Rattle.solv_pool.specs.Catalog.{Catalog, catalog_of}
 use Rattle.solv_clean.specs.Inner.Finding.{serving}
 use Rattle.solv_clean.specs.Inner.Readiness.{dep_below}
 use Rattle.solv_clean.proofs.Found.{finds_same, finds_more}
-use Rattle.solv_clean.proofs.Lists.{all_get, take_next}
 use Rattle.solv_clean.proofs.finding.mark_recommended.Goals as goal
+use Rattle.solv_list.proofs.Lists.{all_get, take_next}
 
 pub mark_serving-requires-clause-held : goal.mark_serving-requires-clause-held
 mark_serving-requires-clause-held c =

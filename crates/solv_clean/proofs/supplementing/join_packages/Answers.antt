@@ -1,8 +1,8 @@
 use Rattle.std.proofs.Common.{◌≡◌, ◌+◌, inl, inr, length, arith}
 use Rattle.solv_pool.specs.Catalog.{Catalog, catalog_of}
 use Rattle.solv_clean.proofs.Joined.{to_more}
-use Rattle.solv_clean.proofs.Lists.{below_or}
 use Rattle.solv_clean.proofs.supplementing.join_packages.Goals as goal
+use Rattle.std.proofs.lemmas.Bool.{cases_lt}
 
 pub loop-before-init : goal.loop-before-init
 loop-before-init c = (c.requires.known, c.requires.joined, λ q low high. absurd (omega (arith, low, high)))
@@ -12,7 +12,7 @@ loop-before-preserved c =
     let catalog : Catalog = catalog_of c.args.task.now in (
       c.in_ok-join_to.ensures.known,
       c.in_ok-join_to.ensures.joined,
-      λ q low high. elim (below_or q (c.loop-before.before + 1)) [
+      λ q low high. elim (cases_lt q (c.loop-before.before + 1)) [
         | inl lt ↦ to_more catalog c.args.in_set.now c.loop-before.graph c.join_to.new.graph c.in_ok-join_to.ensures.grows q (c.loop-before.invariant.2 q low lt)
         | inr le ↦ let same : q ≡ c.loop-before.before + 1 = omega (arith, le, high) in
             rw same c.in_ok-join_to.ensures.to

@@ -6,8 +6,9 @@ use Rattle.solv_pool.specs.Words.{is_among}
 use Rattle.solv_pool.specs.Catalog.{Catalog, catalog_of}
 use Rattle.solv_clean.specs.Inner.Readiness.{dep_below}
 use Rattle.solv_clean.proofs.Joined.{grows_none, grows_more, by_more}
-use Rattle.solv_clean.proofs.Lists.{all_get, take_next, among_get}
+use Rattle.solv_clean.proofs.Lists.{among_get}
 use Rattle.solv_clean.proofs.supplementing.join_supplements.Goals as goal
+use Rattle.solv_list.proofs.Lists.{all_get, take_next}
 
 pub loop-dep-init : goal.loop-dep-init
 loop-dep-init c = (c.requires.known, grows_none c.args.graph.now, c.requires.joined, λ id h. absurd (false≢true h))

@@ -5,9 +5,9 @@ use Rattle.solv_pool.specs.Catalog.{catalog_of}
 use Rattle.solv_pool.specs.TaskBelonging.{is_pack}
 use Rattle.solv_pool.specs.Updates.{is_feature}
 use Rattle.solv_pool.specs.Words.{is_among}
-use Rattle.solv_policy.proofs.Places.{packs_of}
 use Rattle.solv_planning.proofs.keeps.far_candidates.Goals as goal
 use Rattle.solv_list.proofs.Lists.{list_all_filter}
+use Rattle.solv_pool.proofs.Placed.{packs_of}
 
 pub in_order-requires-clause-within : goal.in_order-requires-clause-within
 in_order-requires-clause-within c =

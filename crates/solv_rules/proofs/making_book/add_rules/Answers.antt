@@ -4,8 +4,9 @@ use Rattle.std.proofs.lemmas.List.{drop-map}
 use Rattle.solv_pool.specs.Catalog.{catalog_of}
 use Rattle.solv_pool.specs.RuleMeaning.{HardRule, rule_with}
 use Rattle.solv_rules.specs.Books.{is_bookable}
-use Rattle.solv_rules.proofs.Fronts.{all_dropped, begun_left}
+use Rattle.solv_rules.proofs.Fronts.{begun_left}
 use Rattle.solv_rules.proofs.making_book.add_rules.Goals as goal
+use Rattle.solv_list.proofs.Lists.{all_dropped}
 
 pub loop-owner-init : goal.loop-owner-init
 loop-owner-init c =

@@ -4,8 +4,8 @@ use Rattle.solv_io.specs.Lines.{ended_lines}
 use Rattle.solv_pool.specs.Words.{when}
 use Rattle.solv_script.specs.Inner.Turns.{first_turn}
 use Rattle.solv_run.specs.Texts.{told_lines, differences}
-use Rattle.solv_run.proofs.CheckLines.{ended_join}
 use Rattle.solv_run.proofs.printing.round_said.Goals as goal
+use Rattle.solv_io.proofs.WrittenLines.{ended_lines-append}
 
 pub returns-clause-text : goal.returns-clause-text
 returns-clause-text c =
@@ -18,4 +18,4 @@ returns-clause-text c =
     c.in_ok-append_lines.ensures
     ∙ ap (λ t. t ++ ended_lines c.deref.result.now) told
     ∙ ap (λ d. ended_lines shown ++ ended_lines d) (c.deref.ensures.value ∙ c.in_ok-differing.ensures)
-    ∙ sym (ended_join shown differing)
+    ∙ sym (ended_lines-append shown differing)

@@ -4,8 +4,8 @@ use Rattle.solv_script.specs.Rounds.{turns}
 use Rattle.solv_run.specs.Checks.{false_lines}
 use Rattle.solv_run.specs.Texts.{rounds_lines}
 use Rattle.solv_run.proofs.WhatIsAsked.{lines_print}
-use Rattle.solv_run.proofs.CheckLines.{ended_join}
 use Rattle.solv_run.proofs.running.answers_text.Goals as goal
+use Rattle.solv_io.proofs.WrittenLines.{ended_lines-append}
 
 pub returns : goal.returns
 returns c =
@@ -16,4 +16,4 @@ returns c =
     ∙ ap (λ t. t ++ c.deref.result.now) (c.in_ok-append_false.ensures ∙ ap (λ t. t ++ ended_lines (false_lines c.held.result.now)) c.new-out.ensures.items)
     ∙ ap (λ l. ended_lines (false_lines l) ++ c.deref.result.now) c.held.ensures
     ∙ ap (λ t. ended_lines (false_lines script.checks) ++ t) (c.deref.ensures.value ∙ c.requires.all.text (lines_print c.args.command.now.output c.requires.plain))
-    ∙ sym (ended_join (false_lines script.checks) told)
+    ∙ sym (ended_lines-append (false_lines script.checks) told)

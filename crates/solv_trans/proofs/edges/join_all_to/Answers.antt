@@ -1,8 +1,8 @@
 use Rattle.std.proofs.Common.{◌<◌, ◌∷◌, [], take, length, arith}
 use Rattle.solv_trans.specs.Inner.Joining.{to_one}
-use Rattle.solv_trans.proofs.Lists.{take_next}
 use Rattle.solv_trans.proofs.Joined.{joins_more}
 use Rattle.solv_trans.proofs.edges.join_all_to.Goals as goal
+use Rattle.solv_list.proofs.Lists.{take_next}
 
 pub loop-other-preserved : goal.loop-other-preserved
 loop-other-preserved c =

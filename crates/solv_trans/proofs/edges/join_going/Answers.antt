@@ -2,11 +2,11 @@ use Rattle.std.proofs.Common.{◌≡◌, ◌<◌, ◌-◌, ◌∙◌, ◌∷◌,
 use Rattle.std.proofs.lemmas.List.{take_all}
 use Rattle.solv_pool.specs.Catalog.{catalog_of}
 use Rattle.solv_trans.specs.Inner.Joining.{from_going, owned_by}
-use Rattle.solv_trans.proofs.Lists.{take_next}
 use Rattle.solv_trans.proofs.Joined.{joins_none, joins_more, joins_same}
 use Rattle.solv_trans.proofs.Asking.{package_is}
 use Rattle.solv_trans.proofs.Owned.{need_below, going_owned}
 use Rattle.solv_trans.proofs.edges.join_going.Goals as goal
+use Rattle.solv_list.proofs.Lists.{take_next}
 
 pub join_need_going-requires-clause-held : goal.join_need_going-requires-clause-held
 join_need_going-requires-clause-held c =

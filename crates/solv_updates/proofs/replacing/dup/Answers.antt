@@ -3,8 +3,8 @@ use Rattle.std.specs.List.{list_all}
 use Rattle.solv_pool.specs.Catalog.{catalog_of}
 use Rattle.solv_pool.specs.TaskBelonging.{is_pack}
 use Rattle.solv_pool.specs.Updates.{is_feature}
-use Rattle.solv_policy.proofs.Places.{packs_of}
 use Rattle.solv_updates.proofs.replacing.dup.Goals as goal
+use Rattle.solv_pool.proofs.Placed.{packs_of}
 
 pub may_stay-requires-clause-within : goal.may_stay-requires-clause-within
 may_stay-requires-clause-within c =
