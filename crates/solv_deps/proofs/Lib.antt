@@ -10,5 +10,6 @@ pub mod RoundTrip
 pub mod HeldEntered
 pub mod Sound
 pub mod OneLine
+pub mod Recents
 pub mod PartHeld
 pub mod PartEntered

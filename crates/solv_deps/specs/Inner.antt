@@ -4,6 +4,7 @@ pub mod Conditions
 pub mod Drafts
 pub mod Entering
 pub mod Points
+pub mod Recent
 pub mod Signs
 pub mod Singles
 pub mod Words

@@ -8,6 +8,7 @@
 //! - [`read_dep`]: the dependency that a text spells at a [`Place`], entered into a pool, or the first cause,
 //!   [`DepFault`], from left to right. A text is read into a draft first, so that one with a cause of its own enters
 //!   nothing, and every such cause comes before the limits of the pool.
+//! - [`read_again`]: the same, where the text may be one that was read a while ago, which [`Recent`] keeps.
 //! - [`dep_text`]: the canonical text of a dependency; [`comparison_sign`]: that of a comparison.
 //! - [`enter_text`]: a text that is no dependency, entered with the same causes.
 //! - [`comparison_of`], [`is_namespace_name`]: what a word of such a text is.
@@ -25,6 +26,7 @@ mod outer;
 mod place;
 mod printing;
 mod reading;
+mod recent;
 mod sign;
 mod single;
 
@@ -36,4 +38,5 @@ pub use laws::{
 };
 pub use place::Place;
 pub use printing::{comparison_sign, dep_text};
+pub use recent::{Recent, read_again};
 pub use sign::{comparison_of, is_namespace_name};

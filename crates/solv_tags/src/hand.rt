@@ -2,6 +2,7 @@
 ghost use Rattle.std.specs.Prelude.{◌≡◌, ◌<◌, ◌∷◌, [], ℕ, List, length, Result, Ok, IfOk, IfErr, OnOk};
 ghost use Rattle.solv_base.specs.Pool.{Held, Grows, text_at};
 ghost use Rattle.solv_deps.specs.Entering.{text_entered, Entered};
+ghost use Rattle.solv_deps.specs.Inner.Recent.{AreRead};
 ghost use Rattle.solv_tags.specs.Headings.{trimmed};
 ghost use Rattle.solv_tags.specs.Inner.RepositoryReading.{HasOneForm};
 ghost use Rattle.solv_tags.specs.Inner.TagReading.{IsOf, IsCause, HasRead, HasEnded, AreWithin, HaveTexts};
@@ -13,7 +14,7 @@ use crate::package_words::PackageIds;
 use crate::tag::Tag;
 use crate::tag_fault::TagCause;
 use solv_base::{NameId, Pool};
-use solv_deps::{DepFault, enter_text, read_dep};
+use solv_deps::{DepFault, Recent, enter_text, read_again};
 use solv_pool::Package;
 
 /// The cause at a line that a dependency's is.
@@ -117,17 +118,20 @@ fn take_path(pool: &mut Pool, hand: &mut Package, text: &[u8]) -> Result<(), Tag
 /// Reads a dependency.
 fn take_dependency(
     pool: &mut Pool,
+    recent: &mut Recent,
     hand: &mut Package,
     tag: Tag,
     text: &[u8],
 ) -> Result<(), TagCause>
-    requires { IsOf pool.old hand.old }
+    requires of { IsOf pool.old hand.old }
+    requires recent { AreRead pool.old recent.old }
+    ensures recent { AreRead pool.new recent.new }
     ensures ok { OnOk result (HasRead pool.old pool.new hand.old hand.new (λ s a. dependency_entry s a tag text.now)) }
     ensures refused { IfErr result (λ c. HasEnded pool.old hand.old (λ s a. dependency_entry s a tag text.now) c) }
     ensures form { IfErr result HasOneForm }
     ensures grows { Grows pool.old pool.new }
 {
-    let dep = match read_dep(pool, text, place_of(tag)) {
+    let dep = match read_again(pool, recent, text, place_of(tag)) {
         Ok(dep) => dep,
         Err(fault) => return Err(cause_of(fault)),
     };
@@ -141,11 +145,14 @@ fn take_dependency(
 /// Reads an entry of the package in hand.
 pub(crate) fn take_entry(
     pool: &mut Pool,
+    recent: &mut Recent,
     hand: &mut Package,
     tag: Tag,
     text: &[u8],
 ) -> Result<(), TagCause>
-    requires { IsOf pool.old hand.old }
+    requires of { IsOf pool.old hand.old }
+    requires recent { AreRead pool.old recent.old }
+    ensures recent { AreRead pool.new recent.new }
     ensures ok { OnOk result (HasRead pool.old pool.new hand.old hand.new (λ s a. entry_of s a tag text.now)) }
     ensures refused { IfErr result (λ c. HasEnded pool.old hand.old (λ s a. entry_of s a tag text.now) c) }
     ensures form { IfErr result HasOneForm }
@@ -154,6 +161,6 @@ pub(crate) fn take_entry(
     match tag {
         Tag::Vnd => take_vendor(pool, hand, trimmed(text)),
         Tag::Fls => take_path(pool, hand, trimmed(text)),
-        _ => take_dependency(pool, hand, tag, text),
+        _ => take_dependency(pool, recent, hand, tag, text),
     }
 }

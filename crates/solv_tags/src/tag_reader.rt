@@ -4,6 +4,7 @@ ghost use Rattle.solv_base.specs.Pool.{Held, Grows};
 ghost use Rattle.std.specs.Option.{option_map};
 ghost use Rattle.std.specs.Str.{bytes_eq};
 ghost use Rattle.solv_pool.specs.Written.{written_package};
+ghost use Rattle.solv_deps.specs.Inner.Recent.{AreRead};
 ghost use Rattle.solv_tags.specs.Entries.{evr_text};
 ghost use Rattle.solv_tags.specs.Headings.{closing_sign, is_heading, letters, tag};
 ghost use Rattle.solv_io.specs.Words.{words_of};
@@ -17,6 +18,7 @@ use crate::package_words::{PackageIds, four_words, package_with, refill, write_e
 use crate::tag::Tag;
 use crate::tag_fault::{TagCause, TagFault};
 use solv_base::Pool;
+use solv_deps::Recent;
 use solv_pool::{Package, RepoNo, Universe};
 use std::alloc::Global;
 
@@ -36,6 +38,8 @@ pub struct TagReader {
     pub(crate) block: Option<[u8; 3]>,
     /// The EVR of the package line that is read.
     pub(crate) evr: Vec<u8>,
+    /// The dependencies that were read a while ago.
+    pub(crate) recent: Recent,
 }
 
 /// Why a block of what may be a tag may not open, if so.
@@ -128,12 +132,13 @@ fn take_next(
 }
 
 impl TagReader {
-    /// Before the first line.
-    pub fn new(alloc: Global, repo: RepoNo, before: u32) -> TagReader
+    /// Before the first line of so many bytes.
+    pub fn new(alloc: Global, repo: RepoNo, before: u32, bytes: usize) -> TagReader
         ensures repo { result.repo ≡ repo }
         ensures before { result.before ≡ before }
         ensures hand { result.hand ≡ None }
         ensures block { result.block ≡ None }
+        ensures recent { (pool : Held) → AreRead pool result.recent }
     {
         TagReader {
             repo,
@@ -141,6 +146,7 @@ impl TagReader {
             hand: None,
             block: None,
             evr: Vec::new(alloc),
+            recent: Recent::new(alloc, bytes),
         }
     }
 
@@ -214,7 +220,8 @@ impl TagReader {
 
     /// Reads an entry of the package in hand.
     fn hand_entry(&mut self, pool: &mut Pool, tag: Tag, text: &[u8]) -> Result<(), TagCause>
-        requires { IsHand pool.old self.old.repo self.old.hand }
+        requires hand { IsHand pool.old self.old.repo self.old.hand }
+        requires recent { AreRead pool.old self.old.recent }
         ensures ok { OnOk result (HasReadHand pool.old pool.new self.old self.new (λ s. entry_of_hand s s.hand tag text.now)) }
         ensures refused { IfErr result (λ c. HasEndedHand pool.old self.old (λ s. entry_of_hand s s.hand tag text.now) c) }
         ensures form { IfErr result HasOneForm }
@@ -222,7 +229,7 @@ impl TagReader {
     {
         match &mut self.hand {
             None => Err(TagCause::TagBeforePackage),
-            Some(hand) => take_entry(pool, hand, tag, text),
+            Some(hand) => take_entry(pool, &mut self.recent, hand, tag, text),
         }
     }
 

@@ -92,7 +92,7 @@ pub fn read_testtags(
 {
     universe.marks_each();
     let before = universe.count();
-    let reader = TagReader::new(pool.alloc(), repo, before);
+    let reader = TagReader::new(pool.alloc(), repo, before, bytes.len());
     match read_all(reader, pool, universe, bytes) {
         Ok(()) => Ok(()),
         Err(fault) => {

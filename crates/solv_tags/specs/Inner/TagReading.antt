@@ -3,6 +3,7 @@ use Rattle.std.specs.Prelude.{ℕ, ◌≡◌, ◌<◌, ◌≤◌, ◌==◌, ◌|
 use Rattle.std.specs.Option.{option_map}
 use Rattle.std.specs.List.{list_any, list_all}
 use Rattle.solv_base.specs.Pool.{Held, text_at}
+use Rattle.solv_deps.specs.Inner.Recent.{AreRead}
 use Rattle.solv_pool.specs.Belonging.{IsOver}
 use Rattle.solv_pool.specs.Contents.{Contents}
 use Rattle.solv_pool.specs.Written.{WrittenPackage, written_package}
@@ -134,6 +135,7 @@ pub record IsReading (r : TagReader) (pool : Held) (universe : Contents) : Type 
   pub hand : IsHand pool r.repo r.hand
   pub repo : r.repo < length universe.repos
   pub before : r.before ≤ length universe.packages
+  pub recent : AreRead pool r.recent
 
 -- a universe with these packages behind the others, none of them disabled
 abbrev pub with_packages : Contents → List Package → Contents
@@ -160,6 +162,7 @@ pub record HasReadHand (old new : Held) (r t : TagReader) (reading : Tagged → 
   pub repo : t.repo ≡ r.repo
   pub before : t.before ≡ r.before
   pub block : t.block ≡ r.block
+  pub recent : AreRead new t.recent
 
 -- a reading of the package in hand, if any, ends for this cause
 abbrev pub HasEndedHand : Held → TagReader → (Tagged → Result Tagged TagCause) → TagCause → Type 0

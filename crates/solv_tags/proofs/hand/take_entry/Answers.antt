@@ -11,4 +11,5 @@ returns-in_default c =
       refused = if_err c.take_dependency.result (λ f h. other_ended c.args.tag d.not-Vnd d.not-Fls c.args.pool.now c.args.hand.now c.args.text.now f h) e.refused;
       form = e.form;
       grows = e.grows;
+      recent = e.recent;
     }

@@ -18,6 +18,6 @@ returns-clause-ok c =
     (on_both c.hold.result (λ reader put. begin_read c.args.self.now c.hold.new.self c.args.pool.now c.enter_package.new.pool c.args.universe.now c.hold.new.universe c.requires grows
     (c.stays_over.ensures c.args.pool.now c.enter_package.new.pool c.args.universe.now grows c.requires.over)
     ids.ids c.args.name.now c.deref.result.now c.args.arch.now room ids.ensures.entered ids.ensures.within ids.ensures.texts
-    (ap (λ (r : TagReader). r.repo) reader) (ap (λ (r : TagReader). r.before) reader) (ap (λ (r : TagReader). r.block) reader)
+    (ap (λ (r : TagReader). r.repo) reader) (ap (λ (r : TagReader). r.before) reader) (ap (λ (r : TagReader). r.block) reader) (ap (λ (r : TagReader). r.recent) reader)
     (ap (λ (r : TagReader). r.hand) reader) put)
     c.hold.ensures.reader c.hold.ensures.ok)
