@@ -261,3 +261,24 @@ fn long_files_are_refused(rt: HostRuntime) -> Result<(), Fail> {
     assert!(rt; is_said_of_long(alloc, FOUR_FILES, &long, "d/case.t:1: FileTooLong")?);
     Ok(())
 }
+
+/// The lines of a package that requires one thing 6,000 times, 72,019 bytes.
+fn repeated_lines(alloc: Global) -> Result<Vec<u8>, AllocError> {
+    let mut text = Vec::new(alloc);
+    text.extend_from_slice(b"=Pkg: A 1 1 noarch\n")?;
+    for _ in 0..6000 {
+        text.extend_from_slice(b"=Req: B | C\n")?;
+    }
+    Ok(text)
+}
+
+#[test]
+fn lines_that_come_again_are_read_at_their_place(rt: HostRuntime) -> Result<(), Fail> {
+    let alloc = rt.alloc();
+    let script = b"repo a 0 testtags f\n".as_slice();
+    let mut text = repeated_lines(alloc)?;
+    assert!(rt; is_said_of_long(alloc, script, &text, "read")?);
+    text.extend_from_slice(b"=Prv: B | C\n")?;
+    assert!(rt; is_said_of_long(alloc, script, &text, "d/f:6002: OperatorNotHere")?);
+    Ok(())
+}

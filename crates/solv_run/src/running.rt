@@ -215,6 +215,13 @@ fn solved_due(
     }
 }
 
+/// Lets the tables go that found each text and relation of a script while it was read. An answer asks for them by number alone.
+fn close_pool(script: &mut Script)
+    ensures { script.new ≡ script.old }
+{
+    script.task.pool.close();
+}
+
 /// What is due where the script itself is asked for.
 fn written_due(alloc: Global, command: &Command, script: &Script) -> Result<Conclusion, AllocError>
     requires asked { command.now.output ≡ output.Script }
@@ -242,6 +249,7 @@ pub(crate) fn script_due(
     ensures { IfOk result (λ conclusion. IsDueFor command.now script.old conclusion.due conclusion.reached) }
 {
     if asks_answers(command.output) {
+        close_pool(script);
         solved_due(alloc, command, script)
     } else {
         written_due(alloc, command, script)

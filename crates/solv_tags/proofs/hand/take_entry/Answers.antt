@@ -1,3 +1,4 @@
+use Rattle.solv_deps.proofs.Recents.{read_before}
 use Rattle.solv_tags.proofs.HandLines.{other_read, other_ended}
 use Rattle.solv_tags.proofs.hand.take_entry.Goals as goal
 use Rattle.solv_list.proofs.Answers.{if_err, on_ok}
@@ -13,3 +14,9 @@ returns-in_default c =
       grows = e.grows;
       recent = e.recent;
     }
+
+pub returns-in-Vnd-clause-recent : goal.returns-in-Vnd-clause-recent
+returns-in-Vnd-clause-recent c = read_before c.args.pool.now c.take_vendor.new.pool c.args.recent.now c.take_vendor.ensures.grows c.requires.recent
+
+pub returns-in-Fls-clause-recent : goal.returns-in-Fls-clause-recent
+returns-in-Fls-clause-recent c = read_before c.args.pool.now c.take_path.new.pool c.args.recent.now c.take_path.ensures.grows c.requires.recent
