@@ -16,9 +16,10 @@ ghost use Rattle.solv_rules.specs.Books.{Written, read_rules};
 ghost use Rattle.solv_remedy.specs.Remedies.{IsGoodList, droppable_rules, most_runs};
 ghost use Rattle.solv_remedy.specs.Inner.Remedies.{IsMadeFor, IsRemedies, is_spent_remedies};
 ghost use Rattle.solv_remedy.specs.Inner.Trying.{is_off_in, IsLogOf, IsSetUp};
-ghost use Rattle.solv_remedy.specs.Inner.Runs.{HasRuns, is_spent};
-ghost use Rattle.solv_remedy.specs.Inner.Conflicts.{droppable_count, listed_of, AreApart, IsRuleList, AreAll, IsSettled, AreSettled};
-ghost use Rattle.solv_remedy.specs.Inner.WaysOut.{is_of_some, IsConflictAmong, IsWayOut, IsProblemOf};
+ghost use Rattle.solv_remedy.specs.Inner.Open.{IsOpen};
+ghost use Rattle.solv_remedy.specs.Inner.Runs.{is_spent, HasRuns, IsOf, MayRun, HasRun};
+ghost use Rattle.solv_remedy.specs.Inner.Conflicts.{droppable_count, listed_of, AreApart, IsRuleList, AreAll, AreSettled};
+ghost use Rattle.solv_remedy.specs.Inner.WaysOut.{is_of_some, most_out, IsConflictAmong, IsWayOut, IsProblemOf};
 
 use crate::collecting::{Collected, all_conflicts};
 use crate::conflicts::{clauses_of, unlisted_rules};
@@ -26,14 +27,14 @@ use crate::laws::good_logs_refute_their_rules;
 use crate::listing::rules_of_log;
 use crate::parting::Guess;
 use crate::problems::{Problem, Remedies, Solution};
+use crate::setting::Setting;
 use crate::singles::singles;
-use crate::smallest::{Conflict, conflict_of};
-use crate::ways_out::{all_refuted, copy_of, solution_with, way_out};
+use crate::smallest::{Conflict, Way, conflict_of};
+use crate::ways_out::{Unlisted, all_refuted, copy_of, solution_with, way_out};
 use solv_core::{Core, Ledger, Trail};
 use solv_decide::Phases;
 use solv_derive::Log;
 use solv_list::Items;
-use solv_pack::RuleNo;
 use solv_pool::Rule;
 use solv_rules::Book;
 use std::alloc::{AllocError, Global};
@@ -51,37 +52,26 @@ fn fixed_rules(alloc: Global, rules: &[Rule]) -> Result<Vec<bool>, AllocError>
 
 /// The ways out of a conflict, one for each of its rules. Nothing, where the ledger is spent.
 fn ways_out(
-    alloc: Global,
-    phases: &Phases,
+    setting: &Setting<'_>,
     core: &mut Core<'_>,
     ledger: &mut Ledger,
-    book: &Book,
-    fixed: &[bool],
     conflict: &Conflict,
-    rules: &[usize],
-    unlisted: &[usize],
-    clauses: &[RuleNo],
+    unlisted: &Unlisted<'_>,
     guess: &mut Guess,
 ) -> Result<Option<Vec<Solution>>, AllocError>
-    requires set_up { (r : Request) × (IsSetUp r phases.now core.old.made book.now fixed.now × IsSettled r core.old.made conflict.now) }
-    requires rules { rules.now ≡ conflict.now.rules }
-    requires droppable { list_all (is_off_in fixed.now) rules.now ≡ true }
-    requires apart { (k : ℕ) → is_among rules.now k ≡ true → is_among unlisted.now k ≡ false }
-    requires clauses { list_all (is_of_some core.old.made.owners unlisted.now) clauses.now ≡ true }
-    requires budget { ledger.old.budget ≤ 1000000 }
-    requires unspent { length ledger.old.entries ≤ ledger.old.budget }
-    requires held { IsHeldBy core.old ledger.old }
-    ensures core { core.new.made ≡ core.old.made }
-    ensures held { IsHeldBy core.new ledger.new }
-    ensures runs { HasRuns phases.now core.old.made fixed.now (length rules.now * (((length unlisted.now + length unlisted.now) + 1) + length unlisted.now)) ledger.old ledger.new }
+    requires may_run { MayRun setting.now core.old ledger.old }
+    requires open_ { IsOpen setting.now core.old.made conflict.now unlisted.now }
+    ensures has_run { HasRun setting.now (length conflict.now.rules * most_out (length unlisted.now.rules.now)) core.old core.new ledger.old ledger.new }
     ensures spent { IfOk result (λ o. is_none o ≡ is_spent ledger.new) }
-    ensures ways_out { (r : Request) (listed : List ℕ) → IsSetUp r phases.now core.old.made book.now fixed.now → IsConflictAmong r core.old.made conflict.now.rules conflict.now.log listed unlisted.now → IfOk result (λ o. IfSome o (λ s. AllZip (IsWayOut r core.old.made conflict.now.rules listed) rules.now s.items)) }
+    ensures ways_out { (r : Request) (listed : List ℕ) → IsOf r setting.now core.old.made → IsConflictAmong r core.old.made conflict.now.rules conflict.now.log listed unlisted.now.rules.now → IfOk result (λ o. IfSome o (λ s. AllZip (IsWayOut r core.old.made conflict.now.rules listed) conflict.now.rules s.items)) }
 {
-    let mut solutions = Vec::new(alloc);
-    for rule in rules {
-        match way_out(
-            alloc, phases, core, ledger, book, fixed, conflict, *rule, unlisted, clauses, guess,
-        )? {
+    let mut solutions = Vec::new(setting.alloc);
+    for rule in conflict.rules.held() {
+        let way = Way {
+            conflict,
+            off: *rule,
+        };
+        match way_out(setting, core, ledger, &way, unlisted, guess)? {
             Some(solution) => solutions.push(solution)?,
             None => return Ok(None),
         }
@@ -108,73 +98,46 @@ fn lone_way_out(
 
 /// The ways out of a conflict. One of a single rule takes no run.
 fn each_way_out(
-    alloc: Global,
-    phases: &Phases,
+    setting: &Setting<'_>,
     core: &mut Core<'_>,
     ledger: &mut Ledger,
-    book: &Book,
-    fixed: &[bool],
     conflict: &Conflict,
-    unlisted: &[usize],
-    clauses: &[RuleNo],
-    trail: &Trail,
+    unlisted: &Unlisted<'_>,
     guess: &mut Guess,
 ) -> Result<Option<Vec<Solution>>, AllocError>
-    requires set_up { (r : Request) × (IsSetUp r phases.now core.old.made book.now fixed.now × IsSettled r core.old.made conflict.now) }
-    requires droppable { list_all (is_off_in fixed.now) conflict.now.rules ≡ true }
-    requires apart { (k : ℕ) → is_among conflict.now.rules k ≡ true → is_among unlisted.now k ≡ false }
-    requires clauses { list_all (is_of_some core.old.made.owners unlisted.now) clauses.now ≡ true }
-    requires budget { ledger.old.budget ≤ 1000000 }
-    requires unspent { length ledger.old.entries ≤ ledger.old.budget }
-    requires held { IsHeldBy core.old ledger.old }
-    ensures core { core.new.made ≡ core.old.made }
-    ensures held { IsHeldBy core.new ledger.new }
-    ensures runs { HasRuns phases.now core.old.made fixed.now (length conflict.now.rules * (((length unlisted.now + length unlisted.now) + 1) + length unlisted.now)) ledger.old ledger.new }
+    requires may_run { MayRun setting.now core.old ledger.old }
+    requires open_ { IsOpen setting.now core.old.made conflict.now unlisted.now }
+    ensures has_run { HasRun setting.now (length conflict.now.rules * most_out (length unlisted.now.rules.now)) core.old core.new ledger.old ledger.new }
     ensures spent { IfOk result (λ o. is_none o ≡ is_spent ledger.new) }
-    ensures ways_out { (r : Request) (listed : List ℕ) → IsSetUp r phases.now core.old.made book.now fixed.now → IsConflictAmong r core.old.made conflict.now.rules conflict.now.log listed unlisted.now → IsFoundOn r (λ k. not (is_among listed k)) trail.now → IfOk result (λ o. IfSome o (λ s. AllZip (IsWayOut r core.old.made conflict.now.rules listed) conflict.now.rules s.items)) }
+    ensures ways_out { (r : Request) (listed : List ℕ) → IsOf r setting.now core.old.made → IsConflictAmong r core.old.made conflict.now.rules conflict.now.log listed unlisted.now.rules.now → IsFoundOn r (λ k. not (is_among listed k)) unlisted.now.trail.now → IfOk result (λ o. IfSome o (λ s. AllZip (IsWayOut r core.old.made conflict.now.rules listed) conflict.now.rules s.items)) }
 {
     let own = conflict.rules.held();
     if own.len() == 1 {
-        return Ok(Some(lone_way_out(alloc, conflict, own[0], trail)?));
+        let alone = lone_way_out(setting.alloc, conflict, own[0], unlisted.trail)?;
+        return Ok(Some(alone));
     }
-    ways_out(
-        alloc, phases, core, ledger, book, fixed, conflict, own, unlisted, clauses, guess,
-    )
+    ways_out(setting, core, ledger, conflict, unlisted, guess)
 }
 
 /// The problem of a conflict, with its solutions. Nothing, where the ledger is spent.
 fn problem_with(
-    alloc: Global,
-    phases: &Phases,
+    setting: &Setting<'_>,
     core: &mut Core<'_>,
     ledger: &mut Ledger,
-    book: &Book,
-    fixed: &[bool],
     conflict: &Conflict,
-    unlisted: &[usize],
-    clauses: &[RuleNo],
-    trail: &Trail,
+    unlisted: &Unlisted<'_>,
     guess: &mut Guess,
 ) -> Result<Option<Problem>, AllocError>
-    requires set_up { (r : Request) × (IsSetUp r phases.now core.old.made book.now fixed.now × IsSettled r core.old.made conflict.now) }
-    requires droppable { list_all (is_off_in fixed.now) conflict.now.rules ≡ true }
-    requires apart { (k : ℕ) → is_among conflict.now.rules k ≡ true → is_among unlisted.now k ≡ false }
-    requires clauses { list_all (is_of_some core.old.made.owners unlisted.now) clauses.now ≡ true }
-    requires budget { ledger.old.budget ≤ 1000000 }
-    requires unspent { length ledger.old.entries ≤ ledger.old.budget }
-    requires held { IsHeldBy core.old ledger.old }
-    ensures core { core.new.made ≡ core.old.made }
-    ensures held { IsHeldBy core.new ledger.new }
-    ensures runs { HasRuns phases.now core.old.made fixed.now (length conflict.now.rules * (((length unlisted.now + length unlisted.now) + 1) + length unlisted.now)) ledger.old ledger.new }
+    requires may_run { MayRun setting.now core.old ledger.old }
+    requires open_ { IsOpen setting.now core.old.made conflict.now unlisted.now }
+    ensures has_run { HasRun setting.now (length conflict.now.rules * most_out (length unlisted.now.rules.now)) core.old core.new ledger.old ledger.new }
     ensures spent { IfOk result (λ o. is_none o ≡ is_spent ledger.new) }
-    ensures problem { (r : Request) (listed : List ℕ) → IsSetUp r phases.now core.old.made book.now fixed.now → IsConflictAmong r core.old.made conflict.now.rules conflict.now.log listed unlisted.now → IsFoundOn r (λ k. not (is_among listed k)) trail.now → IfOk result (λ o. IfSome o (IsProblemOf r core.old.made listed conflict.now)) }
+    ensures problem { (r : Request) (listed : List ℕ) → IsOf r setting.now core.old.made → IsConflictAmong r core.old.made conflict.now.rules conflict.now.log listed unlisted.now.rules.now → IsFoundOn r (λ k. not (is_among listed k)) unlisted.now.trail.now → IfOk result (λ o. IfSome o (IsProblemOf r core.old.made listed conflict.now)) }
 {
-    match each_way_out(
-        alloc, phases, core, ledger, book, fixed, conflict, unlisted, clauses, trail, guess,
-    )? {
+    match each_way_out(setting, core, ledger, conflict, unlisted, guess)? {
         Some(solutions) => Ok(Some(Problem {
-            rules: Items::wrap(rules_of_log(alloc, book, &conflict.log)?),
-            log: copy_of(alloc, &conflict.log)?,
+            rules: Items::wrap(rules_of_log(setting.alloc, setting.book, &conflict.log)?),
+            log: copy_of(setting.alloc, &conflict.log)?,
             solutions: Items::wrap(solutions),
         })),
         None => Ok(None),
@@ -183,37 +146,25 @@ fn problem_with(
 
 /// The problems of conflicts, with their solutions. What a way out had to drop is a guess at what the next one has to. Nothing, where the ledger is spent.
 fn problems_with(
-    alloc: Global,
-    phases: &Phases,
+    setting: &Setting<'_>,
     core: &mut Core<'_>,
     ledger: &mut Ledger,
-    book: &Book,
-    fixed: &[bool],
     conflicts: &[Conflict],
-    unlisted: &[usize],
-    clauses: &[RuleNo],
-    trail: &Trail,
+    unlisted: &Unlisted<'_>,
 ) -> Result<Option<Vec<Problem>>, AllocError>
-    requires set_up { (r : Request) × (IsSetUp r phases.now core.old.made book.now fixed.now × AreSettled r core.old.made conflicts.now) }
-    requires droppable { list_all (is_off_in fixed.now) (listed_of conflicts.now) ≡ true }
-    requires unlisted { (k : ℕ) → is_among unlisted.now k ≡ (is_off_in fixed.now k && not (is_among (listed_of conflicts.now) k)) }
-    requires clauses { list_all (is_of_some core.old.made.owners unlisted.now) clauses.now ≡ true }
-    requires budget { ledger.old.budget ≤ 1000000 }
-    requires unspent { length ledger.old.entries ≤ ledger.old.budget }
-    requires held { IsHeldBy core.old ledger.old }
-    ensures core { core.new.made ≡ core.old.made }
-    ensures held { IsHeldBy core.new ledger.new }
-    ensures runs { HasRuns phases.now core.old.made fixed.now (length (listed_of conflicts.now) * (((length unlisted.now + length unlisted.now) + 1) + length unlisted.now)) ledger.old ledger.new }
+    requires may_run { MayRun setting.now core.old ledger.old }
+    requires settled { (r : Request) × (IsOf r setting.now core.old.made × AreSettled r core.old.made conflicts.now) }
+    requires droppable { list_all (is_off_in setting.now.fixed.now) (listed_of conflicts.now) ≡ true }
+    requires unlisted { (k : ℕ) → is_among unlisted.now.rules.now k ≡ (is_off_in setting.now.fixed.now k && not (is_among (listed_of conflicts.now) k)) }
+    requires clauses { list_all (is_of_some core.old.made.owners unlisted.now.rules.now) unlisted.now.clauses.now ≡ true }
+    ensures has_run { HasRun setting.now (length (listed_of conflicts.now) * most_out (length unlisted.now.rules.now)) core.old core.new ledger.old ledger.new }
     ensures spent { IfOk result (λ o. is_none o ≡ is_spent ledger.new) }
-    ensures problems { (r : Request) → IsSetUp r phases.now core.old.made book.now fixed.now → AreSettled r core.old.made conflicts.now → IsFoundOn r (λ k. not (is_among (listed_of conflicts.now) k)) trail.now → IfOk result (λ o. IfSome o (λ found. AllZip (IsProblemOf r core.old.made (listed_of conflicts.now)) conflicts.now found.items)) }
+    ensures problems { (r : Request) → IsOf r setting.now core.old.made → AreSettled r core.old.made conflicts.now → IsFoundOn r (λ k. not (is_among (listed_of conflicts.now) k)) unlisted.now.trail.now → IfOk result (λ o. IfSome o (λ found. AllZip (IsProblemOf r core.old.made (listed_of conflicts.now)) conflicts.now found.items)) }
 {
-    let mut problems = Vec::new(alloc);
-    let mut guess = Guess::none_of(alloc, fixed.len())?;
+    let mut problems = Vec::new(setting.alloc);
+    let mut guess = Guess::none_of(setting.alloc, setting.fixed.len())?;
     for conflict in conflicts {
-        match problem_with(
-            alloc, phases, core, ledger, book, fixed, conflict, unlisted, clauses, trail,
-            &mut guess,
-        )? {
+        match problem_with(setting, core, ledger, conflict, unlisted, &mut guess)? {
             Some(problem) => problems.push(problem)?,
             None => return Ok(None),
         }
@@ -223,42 +174,34 @@ fn problems_with(
 
 /// What all conflicts give.
 fn remedies_of(
-    alloc: Global,
-    phases: &Phases,
+    setting: &Setting<'_>,
     core: &mut Core<'_>,
     ledger: &mut Ledger,
-    book: &Book,
-    fixed: &[bool],
     found: &Collected,
 ) -> Result<Remedies, AllocError>
-    requires set_up { (r : Request) × (IsSetUp r phases.now core.old.made book.now fixed.now × AreAll r core.old.made found.now) }
-    requires apart { AreApart fixed.now found.now.conflicts }
+    requires may_run { MayRun setting.now core.old ledger.old }
+    requires all { (r : Request) × (IsOf r setting.now core.old.made × AreAll r core.old.made found.now) }
+    requires apart { AreApart setting.now.fixed.now found.now.conflicts }
     requires some { 0 < length found.now.conflicts }
-    requires budget { ledger.old.budget ≤ 1000000 }
-    requires unspent { length ledger.old.entries ≤ ledger.old.budget }
-    requires held { IsHeldBy core.old ledger.old }
-    ensures core { core.new.made ≡ core.old.made }
-    ensures held { IsHeldBy core.new ledger.new }
-    ensures runs { HasRuns phases.now core.old.made fixed.now (droppable_count fixed.now * (((droppable_count fixed.now + droppable_count fixed.now) + 1) + droppable_count fixed.now)) ledger.old ledger.new }
+    ensures has_run { HasRun setting.now (droppable_count setting.now.fixed.now * most_out (droppable_count setting.now.fixed.now)) core.old core.new ledger.old ledger.new }
     ensures spent { IfOk result (λ m. is_spent_remedies m ≡ is_spent ledger.new) }
-    ensures listed { (r : Request) → IsSetUp r phases.now core.old.made book.now fixed.now → AreAll r core.old.made found.now → IfOk result (IsRemedies r core.old.made) }
+    ensures listed { (r : Request) → IsOf r setting.now core.old.made → AreAll r core.old.made found.now → IfOk result (IsRemedies r core.old.made) }
 {
     good_logs_refute_their_rules();
     let conflicts = found.conflicts.held();
-    let unlisted = unlisted_rules(alloc, fixed, conflicts)?;
-    let clauses = clauses_of(alloc, book.owners(), fixed.len(), &unlisted)?;
-    match problems_with(
-        alloc,
-        phases,
-        core,
-        ledger,
-        book,
-        fixed,
-        conflicts,
-        &unlisted,
-        &clauses,
-        &found.trail,
-    )? {
+    let rules = unlisted_rules(setting.alloc, setting.fixed, conflicts)?;
+    let clauses = clauses_of(
+        setting.alloc,
+        setting.book.owners(),
+        setting.fixed.len(),
+        &rules,
+    )?;
+    let unlisted = Unlisted {
+        rules: &rules,
+        clauses: &clauses,
+        trail: &found.trail,
+    };
+    match problems_with(setting, core, ledger, conflicts, &unlisted)? {
         Some(problems) => Ok(Remedies::Listed(Items::wrap(problems))),
         None => Ok(Remedies::Spent),
     }
@@ -266,28 +209,21 @@ fn remedies_of(
 
 /// What a first conflict gives.
 fn remedies_from(
-    alloc: Global,
-    phases: &Phases,
+    setting: &Setting<'_>,
     core: &mut Core<'_>,
     ledger: &mut Ledger,
-    book: &Book,
-    fixed: &[bool],
     first: Conflict,
 ) -> Result<Remedies, AllocError>
-    requires set_up { (r : Request) × (IsSetUp r phases.now core.old.made book.now fixed.now × IsLogOf r core.old.made first.rules first.log) }
-    requires rules { IsRuleList fixed.now first.rules }
-    requires budget { ledger.old.budget ≤ 1000000 }
-    requires unspent { length ledger.old.entries ≤ ledger.old.budget }
-    requires held { IsHeldBy core.old ledger.old }
-    ensures core { core.new.made ≡ core.old.made }
-    ensures held { IsHeldBy core.new ledger.new }
-    ensures runs { HasRuns phases.now core.old.made fixed.now (most_runs (droppable_count fixed.now)) ledger.old ledger.new }
+    requires may_run { MayRun setting.now core.old ledger.old }
+    requires of_log { (r : Request) × (IsOf r setting.now core.old.made × IsLogOf r core.old.made first.rules first.log) }
+    requires rules { IsRuleList setting.now.fixed.now first.rules }
+    ensures has_run { HasRun setting.now (most_runs (droppable_count setting.now.fixed.now)) core.old core.new ledger.old ledger.new }
     ensures spent { IfOk result (λ m. is_spent_remedies m ≡ is_spent ledger.new) }
-    ensures listed { (r : Request) → IsSetUp r phases.now core.old.made book.now fixed.now → IsLogOf r core.old.made first.rules first.log → IfOk result (IsRemedies r core.old.made) }
+    ensures listed { (r : Request) → IsOf r setting.now core.old.made → IsLogOf r core.old.made first.rules first.log → IfOk result (IsRemedies r core.old.made) }
 {
-    let start = singles(alloc, phases, core, book, fixed)?;
-    match all_conflicts(alloc, phases, core, ledger, book, fixed, start, first)? {
-        Some(found) => remedies_of(alloc, phases, core, ledger, book, fixed, &found),
+    let start = singles(setting, core)?;
+    match all_conflicts(setting, core, ledger, start, first)? {
+        Some(found) => remedies_of(setting, core, ledger, &found),
         None => Ok(Remedies::Spent),
     }
 }
@@ -323,5 +259,11 @@ pub fn problems(
     }
     let fixed = fixed_rules(alloc, book.rules().list.held())?;
     let conflict = conflict_of(alloc, book, &fixed, first)?;
-    remedies_from(alloc, phases, core, ledger, book, &fixed, conflict)
+    let setting = Setting {
+        alloc,
+        phases,
+        book,
+        fixed: &fixed,
+    };
+    remedies_from(&setting, core, ledger, conflict)
 }

@@ -2,20 +2,19 @@
 ghost use Rattle.std.specs.Prelude.{◌≡◌, ◌≤◌, ◌++◌, ℕ, List, true, length, is_none, IfOk};
 ghost use Rattle.std.specs.Option.{IfSome};
 ghost use Rattle.solv_core.specs.Cores.{CoreOf};
-ghost use Rattle.solv_core.specs.Inner.Holding.{IsHeldBy};
 ghost use Rattle.solv_questions.specs.Questions.{Request};
 ghost use Rattle.solv_remedy.specs.Inner.Dropping.{IsFoundOver};
 ghost use Rattle.solv_remedy.specs.Inner.GivingBack.{AreKept, IsGivenBack, IsLookedBack};
-ghost use Rattle.solv_remedy.specs.Inner.Runs.{HasRuns, is_spent};
-ghost use Rattle.solv_remedy.specs.Inner.Trying.{is_off_in, IsSetUp};
+ghost use Rattle.solv_remedy.specs.Inner.Runs.{is_spent, IsOf, MayRun, HasRun};
+ghost use Rattle.solv_remedy.specs.Inner.Trying.{is_off_in};
 
 use crate::dropping::Remaining;
-use crate::giving_back::{GivenBack, give_back};
+use crate::giving_back::{Found, GivenBack, give_back};
 use crate::refutations::{joined, refuted_among, without_refuted};
+use crate::setting::Setting;
+use crate::smallest::Way;
 use solv_core::{Core, Ledger, RefutedRule};
-use solv_decide::Phases;
 use solv_list::Items;
-use solv_rules::Book;
 use std::alloc::{AllocError, Global};
 
 /// Dropped rules that what is left refutes, and the others.
@@ -60,26 +59,17 @@ fn with_refuted(given: GivenBack, refuted: Items<RefutedRule>) -> Result<GivenBa
 
 /// Gives back what was dropped, as far as it can be: a run is made for each rule that the last one did not refute. Nothing, where the ledger is spent.
 pub fn regain(
-    alloc: Global,
-    phases: &Phases,
+    setting: &Setting<'_>,
     core: &mut Core<'_>,
     ledger: &mut Ledger,
-    book: &Book,
-    fixed: &[bool],
-    own: &[usize],
-    off: usize,
+    way: &Way<'_>,
     remaining: Remaining,
 ) -> Result<Option<GivenBack>, AllocError>
-    requires set_up { (r : Request) × IsSetUp r phases.now core.old.made book.now fixed.now }
-    requires droppable { is_off_in fixed.now off ≡ true }
-    requires budget { ledger.old.budget ≤ 1000000 }
-    requires unspent { length ledger.old.entries ≤ ledger.old.budget }
-    requires held { IsHeldBy core.old ledger.old }
-    ensures core { core.new.made ≡ core.old.made }
-    ensures held { IsHeldBy core.new ledger.new }
-    ensures runs { HasRuns phases.now core.old.made fixed.now (length remaining.dropped) ledger.old ledger.new }
+    requires may_run { MayRun setting.now core.old ledger.old }
+    requires droppable { is_off_in setting.now.fixed.now way.now.off ≡ true }
+    ensures has_run { HasRun setting.now (length remaining.dropped) core.old core.new ledger.old ledger.new }
     ensures spent { IfOk result (λ o. is_none o ≡ is_spent ledger.new) }
-    ensures given { (r : Request) → IsSetUp r phases.now core.old.made book.now fixed.now → IsFoundOver r own.now off remaining.left remaining.trail → AreKept r own.now off core.old.made remaining.left remaining.refuted → IfOk result (λ o. IfSome o (IsGivenBack r own.now off core.old.made remaining.left remaining.dropped)) }
+    ensures given { (r : Request) → IsOf r setting.now core.old.made → IsFoundOver r way.now.conflict.now.rules way.now.off remaining.left remaining.trail → AreKept r way.now.conflict.now.rules way.now.off core.old.made remaining.left remaining.refuted → IfOk result (λ o. IfSome o (IsGivenBack r way.now.conflict.now.rules way.now.off core.old.made remaining.left remaining.dropped)) }
 {
     let Remaining {
         left,
@@ -87,21 +77,11 @@ pub fn regain(
         refuted,
         trail,
     } = remaining;
-    let LookedBack { refuted, others } = look_back(alloc, fixed.len(), dropped.held(), refuted)?;
+    let count = setting.fixed.len();
+    let LookedBack { refuted, others } = look_back(setting.alloc, count, dropped.held(), refuted)?;
     let left = left.into_vec();
-    match give_back(
-        alloc,
-        phases,
-        core,
-        ledger,
-        book,
-        fixed,
-        own,
-        off,
-        others.held(),
-        left,
-        trail,
-    )? {
+    let found = Found { left, trail };
+    match give_back(setting, core, ledger, way, others.held(), found)? {
         Some(given) => Ok(Some(with_refuted(given, refuted)?)),
         None => Ok(None),
     }

@@ -1,5 +1,5 @@
 -- Rules that are dropped until a set is found.
-use Rattle.std.specs.Prelude.{◌≡◌, ◌≤◌, ℕ, Bool, true, false, not, List, length, filter}
+use Rattle.std.specs.Prelude.{◌≡◌, ◌≤◌, ℕ, Bool, true, false, not, List, [], ◌∷◌, length, filter}
 use Rattle.solv_pool.specs.Words.{is_among}
 use Rattle.solv_core.specs.Cores.{CoreOf}
 use Rattle.solv_questions.specs.Questions.{Request}
@@ -14,6 +14,11 @@ abbrev pub is_spent_step : Dropping → Bool
 is_spent_step (dropping.Found trail refuted) = false
 is_spent_step (dropping.Dropped k) = false
 is_spent_step dropping.Spent = true
+
+-- how many runs are made at most before a rule of these is dropped: one more where there is such a rule
+abbrev pub drop_runs : List ℕ → ℕ
+drop_runs [] = 1
+drop_runs (k ∷ left) = 2
 
 module _ (r : Request) (own : List ℕ) (off : ℕ) (core : CoreOf) where
   -- a good trail, and rules that what is left refutes; or one of those that are left

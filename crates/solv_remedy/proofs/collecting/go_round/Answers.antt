@@ -2,11 +2,11 @@ use Rattle.std.proofs.Common.{◌≡◌, ◌≤◌, ◌<◌, ◌+◌, ◌-◌, �
 use Rattle.solv_pool.specs.Words.{is_among}
 use Rattle.solv_core.specs.Cores.{CoreOf}
 use Rattle.solv_questions.specs.Questions.{Request}
-use Rattle.solv_remedy.specs.Inner.Runs.{is_spent}
-use Rattle.solv_remedy.specs.Inner.Trying.{IsLogOf, IsSetUp}
+use Rattle.solv_remedy.specs.Inner.Runs.{is_spent, IsOf}
+use Rattle.solv_remedy.specs.Inner.Trying.{IsLogOf}
 use Rattle.solv_remedy.specs.Inner.Conflicts.{droppable_count, listed_of, is_spent_rest, look_runs, AreSettled, IsRest, IsClashIn}
 use Rattle.solv_remedy.specs.declared.collecting.Rest.{Rest}
-use Rattle.solv_remedy.proofs.Ledgers.{runs_then, runs_within, unspent_by}
+use Rattle.solv_remedy.proofs.Ran.{ran_then, ran_within, may_still}
 use Rattle.solv_remedy.proofs.More.{few_looks}
 use Rattle.solv_remedy.proofs.collecting.go_round.Goals as goal
 use Rattle.solv_remedy.proofs.collecting.go_round.Goals.{In-Clash}
@@ -17,35 +17,23 @@ not_spent c = sym c.in_ok-trail.ensures.spent ∙ ap is_spent_rest c.in-Clash.is
 more : (c : In-Clash) → (length c.go_on.new.conflicts.items ≡ length c.args.conflicts.now.items + 1) × (length (listed_of c.args.conflicts.now.items) < length (listed_of c.go_on.new.conflicts.items))
 more c = c.in_ok-trail.ensures.more (not_spent c)
 
-its_rest : (c : In-Clash) (r : Request) → IsSetUp r c.args.phases.now c.args.core.now.made c.args.book.now c.args.fixed.now
+its_rest : (c : In-Clash) (r : Request) → IsOf r c.args.setting.now c.args.core.now.made
     → IsLogOf r c.args.core.now.made c.in-Clash.next.rules c.in-Clash.next.log × ((k : ℕ) → is_among c.in-Clash.next.rules k ≡ true → is_among (listed_of c.go_on.new.conflicts.items) k ≡ false)
 its_rest c r up =
     let Q : Rest → Type 0 = λ v. IsRest r c.args.core.now.made (listed_of c.go_on.new.conflicts.items) v in
     subst Q c.in-Clash.is (c.in_ok-trail.ensures.rest r up)
 
-pub returns-in_err-trail-clause-runs : goal.returns-in_err-trail-clause-runs
-returns-in_err-trail-clause-runs c =
-    let m = droppable_count c.args.fixed.now in
-    let n = look_runs c.args.looked.now in
-    runs_within c.args.phases.now c.args.core.now.made c.args.fixed.now (m + 1) ((m + 1) + (n - n)) c.args.ledger.now c.go_on.new.ledger (omega arith) c.go_on.ensures.runs
+pub returns-in_err-trail-clause-has_run : goal.returns-in_err-trail-clause-has_run
+returns-in_err-trail-clause-has_run c = ran_within (omega arith) c.go_on.ensures.has_run
 
-pub returns-in-Found-clause-runs : goal.returns-in-Found-clause-runs
-returns-in-Found-clause-runs c =
-    let m = droppable_count c.args.fixed.now in
-    let n = look_runs c.args.looked.now in
-    runs_within c.args.phases.now c.args.core.now.made c.args.fixed.now (m + 1) ((m + 1) + (n - n)) c.args.ledger.now c.go_on.new.ledger (omega arith) c.go_on.ensures.runs
+pub returns-in-Found-clause-has_run : goal.returns-in-Found-clause-has_run
+returns-in-Found-clause-has_run c = ran_within (omega arith) c.go_on.ensures.has_run
 
-pub returns-then-not-is_time-clause-runs : goal.returns-then-not-is_time-clause-runs
-returns-then-not-is_time-clause-runs c =
-    let m = droppable_count c.args.fixed.now in
-    let n = look_runs c.args.looked.now in
-    runs_within c.args.phases.now c.args.core.now.made c.args.fixed.now (m + 1) ((m + 1) + (n - n)) c.args.ledger.now c.go_on.new.ledger (omega arith) c.go_on.ensures.runs
+pub returns-then-not-is_time-clause-has_run : goal.returns-then-not-is_time-clause-has_run
+returns-then-not-is_time-clause-has_run c = ran_within (omega arith) c.go_on.ensures.has_run
 
-pub returns-in-Spent-clause-runs : goal.returns-in-Spent-clause-runs
-returns-in-Spent-clause-runs c =
-    let m = droppable_count c.args.fixed.now in
-    let n = look_runs c.args.looked.now in
-    runs_within c.args.phases.now c.args.core.now.made c.args.fixed.now (m + 1) ((m + 1) + (n - n)) c.args.ledger.now c.go_on.new.ledger (omega arith) c.go_on.ensures.runs
+pub returns-in-Spent-clause-has_run : goal.returns-in-Spent-clause-has_run
+returns-in-Spent-clause-has_run c = ran_within (omega arith) c.go_on.ensures.has_run
 
 pub returns-in-Found-clause-more : goal.returns-in-Found-clause-more
 returns-in-Found-clause-more c = λ open_.
@@ -64,13 +52,13 @@ returns-in-Spent-clause-more c = λ open_.
 
 pub look_on-requires-clause-rules : goal.look_on-requires-clause-rules
 look_on-requires-clause-rules c =
-    let R : Rest → Type 0 = λ v. IsClashIn c.args.fixed.now v in
+    let R : Rest → Type 0 = λ v. IsClashIn c.args.setting.now.fixed.now v in
     subst R c.in-Clash.is c.in_ok-trail.ensures.rules
 
-pub look_on-requires-clause-unspent : goal.look_on-requires-clause-unspent
-look_on-requires-clause-unspent c =
-    let d = (goal.at.look_on-requires-clause-unspent c).In-Clash in
-    unspent_by c.go_on.new.ledger (sym (not_spent d)) c.go_on.ensures.runs.few
+pub look_on-requires-clause-may_run : goal.look_on-requires-clause-may_run
+look_on-requires-clause-may_run c =
+    let d = (goal.at.look_on-requires-clause-may_run c).In-Clash in
+    may_still c.requires.may_run c.go_on.ensures.has_run (sym (not_spent d))
 
 pub returns-in-Found-clause-rest : goal.returns-in-Found-clause-rest
 returns-in-Found-clause-rest c = λ r up.
@@ -79,29 +67,27 @@ returns-in-Found-clause-rest c = λ r up.
 
 pub returns-then-not-is_time-clause-rules : goal.returns-then-not-is_time-clause-rules
 returns-then-not-is_time-clause-rules c =
-    let R : Rest → Type 0 = λ v. IsClashIn c.args.fixed.now v in
+    let R : Rest → Type 0 = λ v. IsClashIn c.args.setting.now.fixed.now v in
     subst R c.in-Clash.is c.in_ok-trail.ensures.rules
 
 pub returns-then-not-is_time-clause-rest : goal.returns-then-not-is_time-clause-rest
 returns-then-not-is_time-clause-rest c = λ r up. its_rest ((goal.at.returns-then-not-is_time-clause-rest c).In-Clash) r up
 
 pub returns-in_err-rest-in-Clash-clause-looked : goal.returns-in_err-rest-in-Clash-clause-looked
-returns-in_err-rest-in-Clash-clause-looked c = few_looks c.args.looked.now
+returns-in_err-rest-in-Clash-clause-looked c = few_looks c.args.looks.now.made
 
 pub returns-in_ok-rest-in-Clash-clause-looked : goal.returns-in_ok-rest-in-Clash-clause-looked
-returns-in_ok-rest-in-Clash-clause-looked c = few_looks c.args.looked.now
+returns-in_ok-rest-in-Clash-clause-looked c = few_looks c.args.looks.now.made
 
-pub returns-in_err-rest-in-Clash-clause-runs : goal.returns-in_err-rest-in-Clash-clause-runs
-returns-in_err-rest-in-Clash-clause-runs c =
-    let m = droppable_count c.args.fixed.now in
-    let none : look_runs c.args.looked.now ≡ 0 = ap look_runs (c.is_time.ensures c.if-not-is_time.false) in
-    runs_then c.args.phases.now c.args.fixed.now c.args.core.now.made c.go_on.new.core.made c.go_on.ensures.core (m + 1) 2 ((m + 1) + (2 - look_runs c.args.looked.now)) (omega (arith, none)) c.args.ledger.now c.go_on.new.ledger c.look_on.new.ledger c.go_on.ensures.runs c.look_on.ensures.runs
+pub returns-in_err-rest-in-Clash-clause-has_run : goal.returns-in_err-rest-in-Clash-clause-has_run
+returns-in_err-rest-in-Clash-clause-has_run c =
+    let none : look_runs c.args.looks.now.made ≡ 0 = ap look_runs (c.is_time.ensures c.if-not-is_time.false) in
+    ran_then (omega (arith, none)) c.go_on.ensures.has_run c.look_on.ensures.has_run
 
-pub returns-in_ok-rest-in-Clash-clause-runs : goal.returns-in_ok-rest-in-Clash-clause-runs
-returns-in_ok-rest-in-Clash-clause-runs c =
-    let m = droppable_count c.args.fixed.now in
-    let none : look_runs c.args.looked.now ≡ 0 = ap look_runs (c.is_time.ensures c.if-not-is_time.false) in
-    runs_then c.args.phases.now c.args.fixed.now c.args.core.now.made c.go_on.new.core.made c.go_on.ensures.core (m + 1) 2 ((m + 1) + (2 - look_runs c.args.looked.now)) (omega (arith, none)) c.args.ledger.now c.go_on.new.ledger c.look_on.new.ledger c.go_on.ensures.runs c.look_on.ensures.runs
+pub returns-in_ok-rest-in-Clash-clause-has_run : goal.returns-in_ok-rest-in-Clash-clause-has_run
+returns-in_ok-rest-in-Clash-clause-has_run c =
+    let none : look_runs c.args.looks.now.made ≡ 0 = ap look_runs (c.is_time.ensures c.if-not-is_time.false) in
+    ran_then (omega (arith, none)) c.go_on.ensures.has_run c.look_on.ensures.has_run
 
 pub returns-in_ok-rest-in-Clash-clause-more : goal.returns-in_ok-rest-in-Clash-clause-more
 returns-in_ok-rest-in-Clash-clause-more c = λ open_.
@@ -115,11 +101,11 @@ returns-in_ok-rest-in-Clash-clause-more c = λ open_.
 
 pub returns-in_ok-rest-in-Clash-clause-settled : goal.returns-in_ok-rest-in-Clash-clause-settled
 returns-in_ok-rest-in-Clash-clause-settled c = λ r up log all.
-    let P : CoreOf → Type 0 = λ v. IsSetUp r c.args.phases.now v c.args.book.now c.args.fixed.now → AreSettled r v c.go_on.new.conflicts.items → AreSettled r v c.look_on.new.conflicts.items in
-    subst P c.go_on.ensures.core (c.in_ok-rest-in-Clash.ensures.settled r) up (c.in_ok-trail.ensures.settled r up log all)
+    let P : CoreOf → Type 0 = λ v. IsOf r c.args.setting.now v → AreSettled r v c.go_on.new.conflicts.items → AreSettled r v c.look_on.new.conflicts.items in
+    subst P c.go_on.ensures.has_run.core (c.in_ok-rest-in-Clash.ensures.settled r) up (c.in_ok-trail.ensures.settled r up log all)
 
 pub returns-in_ok-rest-in-Clash-clause-rest : goal.returns-in_ok-rest-in-Clash-clause-rest
 returns-in_ok-rest-in-Clash-clause-rest c = λ r up.
     let d = (goal.at.returns-in_ok-rest-in-Clash-clause-rest c).In-Clash in
-    let P : CoreOf → Type 0 = λ v. IsSetUp r c.args.phases.now v c.args.book.now c.args.fixed.now → IsLogOf r v c.in-Clash.next.rules c.in-Clash.next.log → IsRest r v (listed_of c.look_on.new.conflicts.items) c.in_ok-rest-in-Clash.rest in
-    subst P c.go_on.ensures.core (c.in_ok-rest-in-Clash.ensures.rest r) up (its_rest d r up).0
+    let P : CoreOf → Type 0 = λ v. IsOf r c.args.setting.now v → IsLogOf r v c.in-Clash.next.rules c.in-Clash.next.log → IsRest r v (listed_of c.look_on.new.conflicts.items) c.in_ok-rest-in-Clash.rest in
+    subst P c.go_on.ensures.has_run.core (c.in_ok-rest-in-Clash.ensures.rest r) up (its_rest d r up).0
