@@ -1,7 +1,7 @@
 -- No conflict less.
 use Rattle.std.specs.Prelude.{Result, Ok, Err, OnOk}
-use Rattle.std.proofs.Common.{◌≡◌, ◌+◌, ◌-◌, ◌*◌, ◌<◌, ◌≤◌, ℕ, Bool, true, false, List, length, arith}
-use Rattle.solv_remedy.specs.Inner.Conflicts.{listed_of, look_runs, put_in, AreMore}
+use Rattle.std.proofs.Common.{◌≤◌, Bool, true, false, List, arith}
+use Rattle.solv_remedy.specs.Inner.Conflicts.{look_runs, put_in, AreMore}
 use Rattle.solv_remedy.specs.declared.smallest.Conflict.{Conflict}
 use Rattle.solv_remedy.proofs.Beside.{count_put, long_put}
 

@@ -1,10 +1,10 @@
-use Rattle.std.proofs.Common.{◌≡◌, ◌≤◌, ◌<◌, ◌+◌, ◌-◌, ◌∙◌, ℕ, Bool, true, false, sym, ap, subst, arith, length, rules}
+use Rattle.std.proofs.Common.{◌≡◌, ◌<◌, ◌+◌, ◌∙◌, ℕ, true, false, sym, ap, subst, arith, length}
 use Rattle.solv_pool.specs.Words.{is_among}
 use Rattle.solv_core.specs.Cores.{CoreOf}
 use Rattle.solv_questions.specs.Questions.{Request}
 use Rattle.solv_remedy.specs.Inner.Runs.{is_spent, IsOf}
 use Rattle.solv_remedy.specs.Inner.Trying.{IsLogOf}
-use Rattle.solv_remedy.specs.Inner.Conflicts.{droppable_count, listed_of, is_spent_rest, look_runs, AreSettled, IsRest, IsClashIn}
+use Rattle.solv_remedy.specs.Inner.Conflicts.{listed_of, is_spent_rest, look_runs, AreSettled, IsRest, IsClashIn}
 use Rattle.solv_remedy.specs.declared.collecting.Rest.{Rest}
 use Rattle.solv_remedy.proofs.Ran.{ran_then, ran_within, may_still}
 use Rattle.solv_remedy.proofs.More.{few_looks}

@@ -2,8 +2,8 @@ use Rattle.std.proofs.Common.{◌≡◌, ◌∙◌, true, sym, ap, subst}
 use Rattle.solv_pool.specs.Words.{is_among}
 use Rattle.solv_remedy.specs.Inner.Steps.{is_spent_step, IsStep}
 use Rattle.solv_remedy.specs.declared.dropping.Dropping.{Dropping}
-use Rattle.solv_remedy.proofs.Dropped.{one_run, second_run}
-use Rattle.solv_remedy.proofs.Ran.{ran_then, ran_within, may_still}
+use Rattle.solv_remedy.proofs.Dropped.{one_run}
+use Rattle.solv_remedy.proofs.Ran.{ran_within, may_still}
 use Rattle.solv_remedy.proofs.dropping.drop_next.Goals as goal
 use Rattle.solv_remedy.proofs.dropping.drop_next.Goals.{In-Dropped}
 

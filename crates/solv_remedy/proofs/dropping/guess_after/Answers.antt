@@ -1,4 +1,3 @@
-use Rattle.std.proofs.Common.{sym}
 use Rattle.solv_remedy.proofs.Ledgers.{not_spent}
 use Rattle.solv_remedy.proofs.Ran.{ran_not}
 use Rattle.solv_remedy.proofs.dropping.guess_after.Goals as goal

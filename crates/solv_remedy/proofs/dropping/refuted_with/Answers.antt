@@ -1,4 +1,4 @@
-use Rattle.std.proofs.Common.{[], length, rules}
+use Rattle.std.proofs.Common.{[], rules}
 use Rattle.solv_remedy.proofs.Ran.{ran_not}
 use Rattle.solv_remedy.proofs.Switched.{fixed_left}
 use Rattle.solv_remedy.proofs.dropping.refuted_with.Goals as goal

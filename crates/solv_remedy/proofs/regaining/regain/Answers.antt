@@ -2,10 +2,9 @@ use Rattle.std.proofs.Common.{◌≡◌, ℕ, List, Option, subst, rules}
 use Rattle.std.specs.Option.{IfSome}
 use Rattle.solv_remedy.specs.Inner.Dropping.{IsFoundOver}
 use Rattle.solv_remedy.specs.Inner.GivingBack.{IsGivenBack, IsLookedBack}
-use Rattle.solv_remedy.specs.Inner.Runs.{HasRun, IsOf}
+use Rattle.solv_remedy.specs.Inner.Runs.{IsOf}
 use Rattle.solv_remedy.specs.declared.giving_back.GivenBack.{GivenBack}
 use Rattle.solv_remedy.specs.declared.regaining.LookedBack.{LookedBack}
-use Rattle.solv_remedy.proofs.Ran.{ran_not, ran_within}
 use Rattle.solv_remedy.proofs.Regained.{given_with}
 use Rattle.solv_remedy.proofs.regaining.regain.Goals as goal
 

@@ -1,4 +1,4 @@
-use Rattle.std.proofs.Common.{◌∙◌, true, not, sym, ap, length}
+use Rattle.std.proofs.Common.{◌∙◌, not, sym, ap, length}
 use Rattle.std.specs.Prelude.{nat_lt}
 use Rattle.std.proofs.lemmas.Bool.{and_parts}
 use Rattle.solv_pool.specs.Words.{is_among}
