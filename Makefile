@@ -18,6 +18,7 @@ TESTSOLV = crates/testsolv/out/testsolv
 PROOFCHECK = crates/proofcheck/out/proofcheck
 ARCHIVE = crates/gachuswi/out/libgachuswi.a
 MADE = $(BUILD)/testsolv $(BUILD)/proofcheck $(BUILD)/libgachuswi.a $(BUILD)/libgachuswi.so.1
+HEADERS = include/gachuswi.h include/gachuswi_task.h
 DOCS = README.md VERSION docs/LIBRARY.md docs/FORMATS.md docs/PROMISE.md docs/PROVED.md docs/MEANING.md docs/GLOSSARY.md
 
 all: $(MADE)
@@ -53,15 +54,18 @@ install: all
 	install -D -m 644 $(BUILD)/libgachuswi.a $(DESTDIR)$(LIBDIR)/libgachuswi.a
 	install -D -m 755 $(BUILD)/libgachuswi.so.1 $(DESTDIR)$(LIBDIR)/libgachuswi.so.1
 	ln -sf libgachuswi.so.1 $(DESTDIR)$(LIBDIR)/libgachuswi.so
-	install -D -m 644 include/gachuswi.h $(DESTDIR)$(INCLUDEDIR)/gachuswi.h
+	install -d $(DESTDIR)$(INCLUDEDIR)
+	install -m 644 $(HEADERS) $(DESTDIR)$(INCLUDEDIR)
 	install -d $(DESTDIR)$(LIBDIR)/pkgconfig $(DESTDIR)$(DOCDIR)/examples
 	sed 's|@PREFIX@|$(PREFIX)|; s|@LIBDIR@|$(LIBDIR)|; s|@INCLUDEDIR@|$(INCLUDEDIR)|; s|@VERSION@|$(VERSION)|' packaging/gachuswi.pc.in \
 	    > $(DESTDIR)$(LIBDIR)/pkgconfig/gachuswi.pc
 	chmod 644 $(DESTDIR)$(LIBDIR)/pkgconfig/gachuswi.pc
 	install -D -m 644 docs/man/testsolv.1 $(DESTDIR)$(MANDIR)/man1/$(NAMED)testsolv.1
 	install -D -m 644 docs/man/proofcheck.1 $(DESTDIR)$(MANDIR)/man1/$(NAMED)proofcheck.1
-	install -D -m 644 docs/man/gachuswi.3 $(DESTDIR)$(MANDIR)/man3/gachuswi.3
-	for call in run status out err close evr_compare abi; do ln -sf gachuswi.3 $(DESTDIR)$(MANDIR)/man3/gachuswi_$$call.3; done
+	install -d $(DESTDIR)$(MANDIR)/man3
+	install -m 644 docs/man/gachuswi.3 docs/man/gachuswi_task.3 $(DESTDIR)$(MANDIR)/man3
+	for page in gachuswi gachuswi_task; do for call in $$(sed -n 's/^\.Nm \(gachuswi_[a-z_]*\).*/\1/p' docs/man/$$page.3); do \
+	    test $$call = $$page || ln -sf $$page.3 $(DESTDIR)$(MANDIR)/man3/$$call.3; done; done
 	install -m 644 $(DOCS) $(DESTDIR)$(DOCDIR)
 	install -m 644 examples/*.t examples/*.p $(DESTDIR)$(DOCDIR)/examples
 

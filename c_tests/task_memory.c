@@ -1,60 +1,22 @@
-/* task_memory SCRIPT FILE ..: refuses memory at each allocation of the calls for a task in turn, once that one alone and once all from it on, and
- * tells of each call that does otherwise than it should: answer GACHUSWI_NO_MEMORY, leave what was kept, and hold no more memory than
- * before. It is linked with -Wl,--wrap=malloc,--wrap=realloc,--wrap=free, so that it sees the calls that the library makes. */
+/* task_memory [OPTION ..] SCRIPT ..: refuses memory at each allocation of the calls for a task in turn, once that one alone and once all from
+ * it on, and tells of each call that does otherwise than it should: answer GACHUSWI_NO_MEMORY, leave what was kept, and hold no more memory
+ * than before. It is linked with -Wl,--wrap=malloc,--wrap=realloc,--wrap=free, so that it sees the calls that the library makes. */
 #include "gachuswi_task.h"
-#include <stdio.h>
-#include <stdlib.h>
-
-void *__real_malloc(size_t);
-void *__real_realloc(void *, size_t);
-void __real_free(void *);
-
-/* how many allocations are let through before one is refused, and whether all behind it are refused too */
-static unsigned long granted, failed, calls;
-static bool counts, refuses_all, was_refused;
-static long blocks;
-
-static bool is_refused(void) {
-    if (!counts) return false;
-    if (granted > 0) {
-        granted--;
-        return false;
-    }
-    if (was_refused && !refuses_all) return false;
-    was_refused = true;
-    return true;
-}
-
-void *__wrap_malloc(size_t size) {
-    if (is_refused()) return NULL;
-    void *made = __real_malloc(size);
-    blocks += made != NULL;
-    return made;
-}
-
-void *__wrap_realloc(void *old, size_t size) {
-    if (is_refused()) return NULL;
-    void *made = __real_realloc(old, size);
-    blocks += old == NULL && made != NULL;
-    return made;
-}
-
-void __wrap_free(void *old) {
-    blocks -= old != NULL;
-    __real_free(old);
-}
+#include "lending.h"
+#include "refusing.h"
 
 static const gachuswi_flags flags = GACHUSWI_FLAGS;
-static gachuswi_file files[64];
-static size_t file_count;
+static const char *script;
+static uint32_t budget;
+static unsigned long failed, calls;
 static uint32_t first_pack[1] = {1};
 static gachuswi_job erase = {GACHUSWI_JOB_ERASE, false, false, false, first_pack, 1, NULL, 0};
 
 static int32_t solve(gachuswi_task *task) {
-    return gachuswi_task_solve(task, files, file_count, files[0].name, files[0].name_len, GACHUSWI_BUDGET);
+    return gachuswi_task_solve(task, lent, lent_len, (const uint8_t *)script, strlen(script), budget);
 }
 
-static int32_t again(gachuswi_task *task) { return gachuswi_task_solve_again(task, &flags, &erase, 1, GACHUSWI_BUDGET); }
+static int32_t again(gachuswi_task *task) { return gachuswi_task_solve_again(task, &flags, &erase, 1, budget); }
 
 static uint8_t room[100000];
 
@@ -101,7 +63,7 @@ static void refuse(const char *name, gachuswi_task *task, int32_t (*call)(gachus
             if (!was_refused) break;
             calls++;
             if (code != GACHUSWI_NO_MEMORY || kept(task) != before || blocks != held) {
-                printf("%s, allocation %lu%s: %d, %s, %ld blocks more\n", name, k + 1, all ? " and all behind it" : "", (int)code,
+                printf("%s, %s, allocation %lu%s: %d, %s, %ld blocks more\n", script, name, k + 1, all ? " and all behind it" : "", (int)code,
                        kept(task) == before ? "the same" : "another answer", blocks - held);
                 failed++;
             }
@@ -109,18 +71,13 @@ static void refuse(const char *name, gachuswi_task *task, int32_t (*call)(gachus
     }
 }
 
-int main(int argc, char **argv) {
+/* Tries each call on one script, in the order in which a caller makes them. */
+static void refuse_each(const gachuswi_options *options) {
+    gachuswi_answer answer = GACHUSWI_NONE;
     gachuswi_task task = GACHUSWI_NONE;
-    for (int i = 1; i < argc && i <= 64; i++) {
-        FILE *from = fopen(argv[i], "rb");
-        long len = 0;
-        if (!from || fseek(from, 0, SEEK_END) || (len = ftell(from)) < 0) return 2;
-        char *bytes = malloc((size_t)len + 1);
-        rewind(from);
-        if (!bytes || fread(bytes, 1, (size_t)len, from) != (size_t)len) return 2;
-        fclose(from);
-        files[file_count++] = gachuswi_lend(argv[i], bytes, (size_t)len);
-    }
+    run_lending(&answer, script, options);
+    gachuswi_close(&answer);
+    budget = options->budget;
     long held = blocks;
     refuse("solve", &task, solve);
     refuse("solve with an answer before", &task, solve);
@@ -131,10 +88,21 @@ int main(int argc, char **argv) {
     refuse("a solution's text", &task, solution_text);
     gachuswi_task_close(&task);
     if (blocks != held) {
-        printf("%ld blocks are left\n", blocks - held);
+        printf("%s: %ld blocks are left\n", script, blocks - held);
         failed++;
     }
-    fprintf(stderr, "%lu calls without memory\n", calls);
-    for (size_t i = 0; i < file_count; i++) free((void *)files[i].bytes);
-    return failed != 0;
+    take_back_all();
+}
+
+int main(int argc, char **argv) {
+    const gachuswi_options plain = {GACHUSWI_BUDGET, false, false, false};
+    gachuswi_options options = plain;
+    for (int i = 1; i < argc; i++) {
+        if (take_option(argv[i], &options)) continue;
+        script = argv[i];
+        refuse_each(&options);
+        options = plain;
+    }
+    printf("%lu refusals, %lu otherwise\n", calls, failed);
+    return failed != 0 || blocks != 0;
 }

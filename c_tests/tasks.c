@@ -1,28 +1,20 @@
-/* tasks SCRIPT FILE ..: solves a script twice, by gachuswi_run and by gachuswi_task_solve, and compares what both say: the result lines
- * of changes or problems, put together from numbers and texts, are those of gachuswi_out. Then calls with numbers that name nothing. */
+/* tasks [OPTION ..] SCRIPT ..: solves each script twice, by gachuswi_run and by gachuswi_task_solve, and compares what both say: the result lines of
+ * changes and problems, put together from numbers and texts, are those of gachuswi_out, and so is the line of a refusal. Then come calls with
+ * numbers that name nothing, and the task is answered anew. Tells what is not so, and exits with 1 then. */
 #include "gachuswi_task.h"
-#include <stdio.h>
-#include <stdlib.h>
+#include "lending.h"
 
 static const gachuswi_flags flags = GACHUSWI_FLAGS;
 static const char *kinds[] = {"install", "erase", "upgrade", "downgrade", "change", "reinstall", "obsolete"};
 
+/* the script that is tried */
+static const char *script = "";
+
 static void claim(int holds, const char *what) {
     if (!holds) {
-        fprintf(stderr, "tasks: %s\n", what);
+        printf("tasks: %s: %s\n", script, what);
         exit(1);
     }
-}
-
-static gachuswi_file lend(const char *name) {
-    FILE *from = fopen(name, "rb");
-    long len = 0;
-    claim(from && !fseek(from, 0, SEEK_END) && (len = ftell(from)) >= 0, name);
-    char *bytes = malloc((size_t)len + 1);
-    rewind(from);
-    claim(bytes && fread(bytes, 1, (size_t)len, from) == (size_t)len, name);
-    fclose(from);
-    return gachuswi_lend(name, bytes, (size_t)len);
 }
 
 static char *lines[100000];
@@ -154,38 +146,89 @@ static void anew(gachuswi_task *task) {
     }
 }
 
+/* Whether a script has one round, and asks for no lines but those of changes and problems. */
+static bool is_plain(const gachuswi_file *file) {
+    static const char round[] = "nextjob", result[] = "result ", kinds_asked[] = "result transaction,problems ";
+    for (size_t at = 0; at < file->len;) {
+        const char *line = (const char *)file->bytes + at, *end = memchr(line, '\n', file->len - at);
+        size_t len = end ? (size_t)(end - line) : file->len - at;
+        if (len >= sizeof round - 1 && !memcmp(line, round, sizeof round - 1)) return false;
+        if (len >= sizeof result - 1 && !memcmp(line, result, sizeof result - 1) &&
+            (len < sizeof kinds_asked - 1 || memcmp(line, kinds_asked, sizeof kinds_asked - 1)))
+            return false;
+        at += len + 1;
+    }
+    return true;
+}
+
+/* Compares the lines that were put together with those of an answer. */
+static void same_lines(gachuswi_answer *answer) {
+    size_t len, at = 0;
+    char *text = text_of(answer, gachuswi_out, &len);
+    qsort(lines, line_count, sizeof *lines, by_bytes);
+    for (size_t i = 0; i < line_count; i++) {
+        if (i && !strcmp(lines[i], lines[i - 1])) continue;
+        size_t size = strlen(lines[i]);
+        claim(at + size < len && !memcmp(text + at, lines[i], size) && text[at + size] == '\n', lines[i]);
+        at += size + 1;
+    }
+    claim(at == len, "a line more is printed");
+    free(text);
+}
+
+/* The line of a refusal, which is that of the answer behind the name of the program. */
+static void same_refusal(gachuswi_task *task, gachuswi_answer *answer) {
+    size_t len, size = gachuswi_task_err(task, NULL, 0);
+    char *line = text_of(answer, gachuswi_err, &len), *own = malloc(size + 1);
+    gachuswi_task_err(task, (uint8_t *)own, size);
+    char *a = memchr(line, ':', len), *b = memchr(own, ':', size);
+    claim(a && b && len - (size_t)(a - line) == size - (size_t)(b - own) && !memcmp(a, b, size - (size_t)(b - own)), "another refusal");
+    free(line);
+    free(own);
+}
+
+/* What the task of a script says, beside the answer of gachuswi_run to the same. */
+static void compare(gachuswi_task *task, gachuswi_answer *answer, uint32_t budget) {
+    int32_t status = gachuswi_status(answer), code;
+    size_t len = strlen(script);
+    claim(gachuswi_task_solve(task, lent, lent_len, (const uint8_t *)script, len, 1000001) == GACHUSWI_MISUSE, "too great a budget");
+    claim(gachuswi_task_solve(task, lent, lent_len, (const uint8_t *)"\xff", 1, 0) == GACHUSWI_MISUSE, "no text");
+    code = gachuswi_task_solve(task, lent, lent_len, (const uint8_t *)script, len, budget);
+    claim(code == gachuswi_task_status(task), "the number is not kept");
+    claim(gachuswi_task_solve(task, lent, lent_len, (const uint8_t *)script, len, 1000001) == GACHUSWI_MISUSE, "too great a budget");
+    claim(gachuswi_task_status(task) == code, "misuse has changed what is kept");
+    bool plain = is_plain(&lent[0]), is_answered = code == GACHUSWI_TRANSACTION || code == GACHUSWI_PROBLEMS;
+    if (plain) claim(is_answered ? status == GACHUSWI_DONE || status == GACHUSWI_DIFFERS : status == code, "another status");
+    if (status == GACHUSWI_READ_FAULT || (plain && status == GACHUSWI_REFUSED)) same_refusal(task, answer);
+    if (code == GACHUSWI_TRANSACTION) changes(task);
+    for (size_t p = 0; p < gachuswi_task_problems(task); p++) problem(task, p);
+    if (plain && status == GACHUSWI_DONE) same_lines(answer);
+    drop_lines();
+    nothing(task);
+    if (is_answered || code == GACHUSWI_SPENT) anew(task);
+    else claim(gachuswi_task_solve_again(task, &flags, NULL, 0, 0) == GACHUSWI_MISUSE, "no answer");
+}
+
 int main(int argc, char **argv) {
-    gachuswi_file files[64];
-    size_t count = (size_t)argc - 1;
+    const gachuswi_options shown = {GACHUSWI_BUDGET, true, false, false};
+    gachuswi_options options = shown;
     gachuswi_task task = GACHUSWI_NONE;
-    claim(count >= 1 && count <= 64, "SCRIPT FILE ..");
     nothing(&task);
     claim(gachuswi_task_status(&task) == GACHUSWI_MISUSE && gachuswi_task_changes(&task, NULL, 0) == 0, "nothing is kept");
     gachuswi_task_close(&task);
-    for (size_t i = 0; i < count; i++) files[i] = lend(argv[i + 1]);
-    const uint8_t *name = files[0].name;
-    size_t len = files[0].name_len;
-    claim(gachuswi_task_solve(&task, files, count, name, len, 1000001) == GACHUSWI_MISUSE, "too great a budget");
-    claim(gachuswi_task_solve(&task, files, count, (const uint8_t *)"\xff", 1, 0) == GACHUSWI_MISUSE, "no text");
-    int32_t code = gachuswi_task_solve(&task, files, count, name, len, GACHUSWI_BUDGET);
-    claim(code == gachuswi_task_status(&task), "the number is not kept");
-    claim(gachuswi_task_solve(&task, files, count, name, len, 1000001) == GACHUSWI_MISUSE && gachuswi_task_status(&task) == code, "misuse");
-    nothing(&task);
-    if (code == GACHUSWI_TRANSACTION) changes(&task);
-    for (size_t p = 0; p < gachuswi_task_problems(&task); p++) problem(&task, p);
-    qsort(lines, line_count, sizeof *lines, by_bytes);
-    for (size_t i = 0; i < line_count; i++)
-        if (!i || strcmp(lines[i], lines[i - 1])) puts(lines[i]);
-    drop_lines();
-    size_t err_len = gachuswi_task_err(&task, NULL, 0);
-    uint8_t *err = malloc(err_len + 1);
-    gachuswi_task_err(&task, err, err_len);
-    fwrite(err, 1, err_len, stderr);
-    free(err);
-    if (code == GACHUSWI_TRANSACTION || code == GACHUSWI_PROBLEMS) anew(&task);
-    else claim(gachuswi_task_solve_again(&task, &flags, NULL, 0, 0) == GACHUSWI_MISUSE, "no answer");
+    for (int i = 1; i < argc; i++) {
+        gachuswi_answer answer = GACHUSWI_NONE;
+        if (take_option(argv[i], &options)) continue;
+        options.shows = true, options.proves = options.writes = false;
+        script = argv[i];
+        run_lending(&answer, script, &options);
+        /* a script that is no file is asked for and not lent */
+        if (lent_len) compare(&task, &answer, options.budget);
+        gachuswi_close(&answer);
+        take_back_all();
+        options = shown;
+    }
     gachuswi_task_close(&task);
     gachuswi_task_close(&task);
-    for (size_t i = 0; i < count; i++) free((void *)files[i].bytes);
-    return code;
+    return 0;
 }

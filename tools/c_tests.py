@@ -11,18 +11,22 @@ word; `--quick` leaves out valgrind and tries the refusals of memory on a few sc
 
 Of each archive these are tried:
 
-- the shared library that is made of it shows `gachuswi_*` alone, and wants nothing but calls of the C library for memory;
+- the shared library that is made of it shows the calls that the headers declare and nothing else, and wants nothing but calls of
+  the C library for memory;
 - calls made rightly and wrongly (c_tests/calls.c), linked with the archive and with the shared library, with the address and the
   undefined behaviour sanitizers in the C part, and under valgrind;
 - every script of the folders of test scripts and of examples (c_tests/scripts.c), with the stored output of the programs, in
   the same four ways;
-- memory refused at each allocation of a call, alone and with all that follow (c_tests/memory.c);
+- every such script once more as a task that is read by numbers, whose lines are those of the texts, and which is answered anew
+  (c_tests/tasks.c), in the same four ways;
+- memory refused at each allocation of a call, alone and with all that follow (c_tests/memory.c, and of the calls for a task
+  c_tests/task_memory.c);
 - the test scripts once more in a small stack;
 - calls from several threads at once (c_tests/threads.c), under valgrind's helgrind too;
 - the callers of docs/LIBRARY.md and README.md, compiled as they stand there and run as the pages say;
 - where the files of libsolv are there for whoever builds with it: the same jobs asked of both, from one pool of libsolv's
   (c_tests/beside_libsolv.c);
-- the header, as C11 and as C++17.
+- the headers, as C11 and as C++17.
 
 A line tells of each test, and the last one is 'N passed, M failed'. The status is 1 where one failed, and 2 where nothing could be
 tried. None of this is a proof: that the library does what its contracts say is what the gate proves.
@@ -51,8 +55,8 @@ WRAPPED = ["-Wl,--wrap=malloc,--wrap=realloc,--wrap=free"]
 WANTED = {"malloc", "realloc", "free", "memcpy", "memmove", "memset", "memcmp",
           "__cxa_finalize", "__gmon_start__", "_ITM_registerTMCloneTable", "_ITM_deregisterTMCloneTable"}
 
-# what the library shows
-SHOWN = {"abi", "close", "err", "evr_compare", "out", "run", "status"}
+# the headers, which declare what the library shows
+HEADERS = [TOP / "include/gachuswi.h", TOP / "include/gachuswi_task.h"]
 
 # a small stack, in bytes
 STACK = 256 * 1024
@@ -118,6 +122,12 @@ def built(room, clone):
     return archives
 
 
+def declared():
+    """The calls that the headers declare: those that are not conveniences in C."""
+    calls = [re.findall(r"^(?:int32_t|uint32_t|size_t|void) (gachuswi_\w+)\(", header.read_text(), re.M) for header in HEADERS]
+    return {call for of_header in calls for call in of_header}
+
+
 def has_valgrind(quick):
     return shutil.which("valgrind") and not quick
 
@@ -159,7 +169,7 @@ class Trial:
         shown = set(told(["nm", "-D", "--defined-only", "-j", library])[1].decode().split())
         wanted = {it.partition("@")[0] for it in told(["nm", "-D", "--undefined-only", "-j", library])[1].decode().split()}
         names = {it.partition("@")[0] for it in shown if not it.startswith("GACHUSWI_")}
-        wrong = names ^ {f"gachuswi_{it}" for it in SHOWN}
+        wrong = names ^ declared()
         return " ".join(sorted([*wrong, *(wanted - WANTED)]))
 
     def linked(self, source, way, *more):
@@ -189,8 +199,8 @@ class Trial:
         lines = said.decode(errors="replace").splitlines()
         return f"status {status}; it differs at line {line + 1}: " + "\n".join(lines[line:line + 5])
 
-    def memory(self, words, folder):
-        status, said = told([self.linked(TESTS / "memory.c", "wrapped"), *words], folder)
+    def memory(self, source, words, folder):
+        status, said = told([self.linked(TESTS / source, "wrapped"), *words], folder)
         print(said.decode(errors="replace").splitlines()[-1] if said else "", flush=True)
         return said.decode(errors="replace")[-2000:] if status else ""
 
@@ -222,12 +232,14 @@ class Trial:
             self.check(f"calls, {way}", lambda: self.says(self.linked(TESTS / "calls.c", way), [], None, b"", runner))
             for name, words, folder, wanted in stored():
                 self.check(f"{name}, {way}", lambda: self.says(self.linked(TESTS / "scripts.c", way), words, folder, wanted, runner))
+                self.check(f"tasks of {name}, {way}", lambda: self.says(self.linked(TESTS / "tasks.c", way), words, folder, b"", runner))
         self.check("small stack", self.small_stack)
         self.check("threads", lambda: self.threads([]))
         if has_valgrind(self.quick):
             self.check("threads, helgrind", lambda: self.threads(["valgrind", "-q", "--tool=helgrind", "--error-exitcode=99"]))
         scripts = FEW if self.quick else script_words()
-        self.check("memory refused", lambda: self.memory(scripts, SCRIPTS / "data"))
+        self.check("memory refused", lambda: self.memory("memory.c", scripts, SCRIPTS / "data"))
+        self.check("memory refused for tasks", lambda: self.memory("task_memory.c", scripts, SCRIPTS / "data"))
         if libsolv():
             self.check("beside libsolv", self.beside_libsolv)
         self.check("caller of docs/LIBRARY.md", lambda: self.caller("docs/LIBRARY.md", "caller.c"))
@@ -262,13 +274,13 @@ def stored():
     yield "proofs of an example", ["--proof", "problem.t"], examples, (examples / "problem.p").read_bytes() + b"0 problem.t\n"
 
 
-def header():
-    """What compilers say of the header."""
+def headers():
+    """What compilers say of the headers, each by itself."""
     said = []
     for compiler in ("cc", "c++", "clang", "clang++"):
         if shutil.which(compiler):
             language = ["-std=c++17", "-x", "c++"] if compiler.endswith("++") else ["-std=c11", "-x", "c"]
-            said.append(told([compiler, *language, *STRICT, "-fsyntax-only", "-include", TOP / "include/gachuswi.h", "/dev/null"])[1].decode())
+            said += [told([compiler, *language, *STRICT, "-fsyntax-only", "-include", it, "/dev/null"])[1].decode() for it in HEADERS]
     return "".join(said)
 
 
@@ -294,7 +306,7 @@ def main():
         room = pathlib.Path(folder)
         archives = given_archives or built(room, said.over and pathlib.Path(said.over).resolve())
         trials = [Trial(name, archive, room / name, said.only, said.quick) for name, archive in archives.items()]
-        trials[0].check("header", header)
+        trials[0].check("headers", headers)
         for trial in trials:
             trial.run()
         passed, failed = sum(it.passed for it in trials), sum(it.failed for it in trials)
