@@ -2,8 +2,8 @@
 use Rattle.std.specs.Prelude.{ℕ, ◌≤◌, ℤ, pos, List, Option, Some, None}
 use Rattle.solv_solved.specs.Anew.{IsHeldAgain, IsHeldSame}
 use Rattle.solv_solved.specs.declared.anew.Again.TheVariants.{Answered, Passes, Misused}
-use Rattle.solv_solved.specs.declared.flag_row.FlagRow.{FlagRow}
-use Rattle.solv_solved.specs.declared.job_row.JobRow.{JobRow}
+use Rattle.solv_draft.specs.declared.flag_row.FlagRow.{FlagRow}
+use Rattle.solv_draft.specs.declared.job_row.JobRow.{JobRow}
 use Rattle.solv_solved.specs.declared.outcomes.Held.{Held}
 use Rattle.gachuswi.specs.Calls.{misused, no_memory}
 use Rattle.gachuswi.specs.Tasks.{number_of}

@@ -3,7 +3,8 @@ ghost use Rattle.std.specs.Prelude.{◌≤◌, Some};
 ghost use Rattle.gachuswi.specs.TasksAnew.{IsAgainCall};
 
 use crate::task_handles::TaskHandle;
-use solv_solved::{Again, FlagRow, Held, JobRow};
+use solv_draft::{FlagRow, JobRow};
+use solv_solved::{Again, Held};
 use std::alloc::Global;
 
 /// What a call answers where the clauses pass a limit.

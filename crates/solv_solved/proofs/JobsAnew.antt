@@ -14,12 +14,13 @@ use Rattle.solv_rules.specs.Books.{IsDue, first_fault}
 use Rattle.solv_rules.specs.declared.fault.BookFault.{BookFault}
 use Rattle.solv_script.specs.declared.scripts.Script.{Script}
 use Rattle.solv_answers.specs.Answers.{IsAnswered, IsTransactionUnlessChoicesClash}
+use Rattle.solv_draft.proofs.Drawing.{selection_fits}
 use Rattle.solv_solved.specs.Anew.{IsSame}
-use Rattle.solv_solved.specs.JobRows.{are_rows, is_number_of, flags_of, is_row, job_of, with_rows}
+use Rattle.solv_draft.specs.JobRows.{are_rows, is_number_of, flags_of, is_row, job_of, with_rows}
 use Rattle.solv_solved.specs.Solvings.{IsSolved}
 use Rattle.solv_pool.specs.declared.tasks.Flags.{Flags}
-use Rattle.solv_solved.specs.declared.flag_row.FlagRow.{FlagRow}
-use Rattle.solv_solved.specs.declared.job_row.JobRow.{JobRow}
+use Rattle.solv_draft.specs.declared.flag_row.FlagRow.{FlagRow}
+use Rattle.solv_draft.specs.declared.job_row.JobRow.{JobRow}
 use Rattle.solv_solved.specs.declared.with_answer.Solved.{Solved}
 
 -- a task and a script with these jobs
@@ -29,16 +30,12 @@ task_with task flags jobs = record task { flags = flags; jobs = jobs }
 abbrev pub script_with : Script → Flags → List Job → Script
 script_with script flags jobs = record script { task = task_with script.task flags jobs }
 
-numbers_fit : (nodes count : ℕ) (all : Bool) (packs : List ℕ) → list_all (is_number_of count) packs ≡ true → choice_fits nodes count (if all then All else OneOf packs) ≡ true
-numbers_fit nodes count true packs within = refl
-numbers_fit nodes count false packs within = within
-
 rows_fit : (nodes count : ℕ) (rows : List JobRow) → are_rows count rows ≡ true → list_all (λ (job : Job). choice_fits nodes count job.choice) (map job_of rows) ≡ true
 rows_fit nodes count [] good = refl
 rows_fit nodes count (row ∷ rows) good =
     let parts = and_parts (is_row count row) (are_rows count rows) good in
     let within = (and_parts (nat_lt row.action 12) (list_all (is_number_of count) row.packs.now) parts.0).1 in
-    and_from (choice_fits nodes count (job_of row).choice) (list_all (λ (job : Job). choice_fits nodes count job.choice) (map job_of rows)) (numbers_fit nodes count row.all row.packs.now within) (rows_fit nodes count rows parts.1)
+    and_from (choice_fits nodes count (job_of row).choice) (list_all (λ (job : Job). choice_fits nodes count job.choice) (map job_of rows)) (selection_fits nodes count row.all row.packs.now within) (rows_fit nodes count rows parts.1)
 
 choice_formed : (catalog : Catalog) (all : Bool) (packs : List ℕ) → is_formed_choice catalog (if all then All else OneOf packs) ≡ true
 choice_formed catalog true packs = refl

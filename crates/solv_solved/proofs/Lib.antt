@@ -1,3 +1,4 @@
 mod Fronts
+mod Built
 mod JobsAnew
 mod WhatIsHeld

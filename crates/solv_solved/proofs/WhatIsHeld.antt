@@ -22,7 +22,7 @@ use Rattle.solv_said.specs.declared.dues.Due.{Due}
 use Rattle.solv_solved.specs.Inner.Answering.{IsRefusalOf}
 use Rattle.solv_solved.specs.Solvings.{IsHeldFor, IsHeldOf, IsHeldOfLent, NamesTheMissing, answered, lent_files, passes, program, unread, was_read}
 use Rattle.solv_solved.specs.declared.outcomes.Held.{Held}
-use Rattle.solv_solved.specs.declared.outcomes.Held.TheVariants.{Answered, Refused}
+use Rattle.solv_solved.specs.declared.outcomes.Held.TheVariants.{Answered, Refused, Open}
 
 -- what holds of the tasks of all rounds holds of the first one's
 pub of_first : (P : Task → Type 0) (script : Script) → All P (tasks script) → P script.task
@@ -33,6 +33,7 @@ passes_by budget script fault due passed is = subst (λ (d : Due). IsHeldFor bud
 
 pub unread_by : (name : List ℕ) (files : FilesRun) (budget : ℕ) (fault : ScriptFault) (held : Held) → HasNoScript (Some name) files fault → IsRefusalOf fault held → IsHeldOf name files budget held
 unread_by name files budget fault (Answered solved) none is = absurd is
+unread_by name files budget fault (Open opened) none is = absurd is
 unread_by name files budget fault (Refused due) none is = unread due (none.due program due is)
 
 some_rose : (faults : ℕ) → Rose 0 faults → 0 < faults

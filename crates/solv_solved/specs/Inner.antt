@@ -1,2 +1,4 @@
 -- What holds inside.
 pub mod Answering
+pub mod Limits
+pub mod CallNames

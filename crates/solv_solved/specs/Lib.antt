@@ -1,6 +1,6 @@
 pub mod Anew
+pub mod Building
 pub mod Fillings
-pub mod JobRows
 pub mod Readings
 pub mod Solvings
 pub mod Texts

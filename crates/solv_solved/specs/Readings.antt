@@ -8,7 +8,7 @@ use Rattle.solv_remedy.specs.declared.problems.Solution.{Solution}
 use Rattle.solv_answers.specs.declared.answers.Answer.{Answer}
 use Rattle.solv_answers.specs.declared.answers.Answer.TheVariants.{Transaction, Problems, Spent}
 use Rattle.solv_solved.specs.declared.outcomes.Held.{Held}
-use Rattle.solv_solved.specs.declared.outcomes.Held.TheVariants.{Answered, Refused}
+use Rattle.solv_solved.specs.declared.outcomes.Held.TheVariants.{Answered, Refused, Open}
 
 -- the changes of an answer, their order, and the packages that are there after them, with the system; problems have none
 abbrev pub changes_in : Answer → List Change
@@ -38,31 +38,37 @@ answer_number (Transaction trail set made ordered) = 0
 answer_number (Problems problems) = 9
 answer_number Spent = 5
 
--- the same of what is held; a refusal has none of them, and the number of its status
+-- the same of what is held; a refusal has none of them, and the number of its status; nor has a task without an answer, whose number is 10
 abbrev pub changes_of : Held → List Change
 changes_of (Answered solved) = changes_in solved.answer
 changes_of (Refused due) = []
+changes_of (Open opened) = []
 
 abbrev pub order_of : Held → List ℕ
 order_of (Answered solved) = order_in solved.answer
 order_of (Refused due) = []
+order_of (Open opened) = []
 
 abbrev pub set_of : Held → List ℕ
 set_of (Answered solved) = set_in solved.answer
 set_of (Refused due) = []
+set_of (Open opened) = []
 
 abbrev pub problems_of : Held → List Problem
 problems_of (Answered solved) = problems_in solved.answer
 problems_of (Refused due) = []
+problems_of (Open opened) = []
 
 abbrev pub number_of : Held → ℕ
 number_of (Answered solved) = answer_number solved.answer
 number_of (Refused due) = status_number due.status
+number_of (Open opened) = 10
 
--- the line on what is wrong; an answer has none
+-- the line on what is wrong, of a refusal or of the last call that was to build; an answer has none
 abbrev pub line_of : Held → List ℕ
 line_of (Answered solved) = []
 line_of (Refused due) = due.err
+line_of (Open opened) = opened.said
 
 -- the problem of this number, from 0 on, and its solution of this number
 abbrev pub problem_of : Held → ℕ → Option Problem

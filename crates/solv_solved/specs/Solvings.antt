@@ -15,7 +15,7 @@ use Rattle.solv_lent.specs.Lent.{is_missing, lent_bytes}
 use Rattle.solv_lent.specs.declared.lent_file.LentFile.{LentFile}
 use Rattle.solv_solved.specs.declared.with_answer.Solved.{Solved}
 use Rattle.solv_solved.specs.declared.outcomes.Held.{Held}
-use Rattle.solv_solved.specs.declared.outcomes.Held.TheVariants.{Answered, Refused}
+use Rattle.solv_solved.specs.declared.outcomes.Held.TheVariants.{Answered, Refused, Open}
 
 -- the name that stands before the line on what is wrong
 abbrev pub program : List ℕ
@@ -52,6 +52,7 @@ pub record IsMissingFile (files : List LentFile) (line : List ℕ) : Type 0 wher
 -- where a file cannot be read, so it is
 abbrev pub NamesTheMissing : List LentFile → Held → Type 0
 NamesTheMissing files (Answered solved) = ⊤
+NamesTheMissing files (Open opened) = ⊤
 NamesTheMissing files (Refused due) = due.status ≡ ReadFault → IsMissingFile files due.err
 
 -- What the script of this name comes to, among files that a caller lends. Where a file cannot be read, it is one that is not lent, and its name is told.

@@ -4,16 +4,14 @@ ghost use Rattle.solv_pool.specs.Catalog.{catalog_of};
 ghost use Rattle.solv_pool.specs.HardRules.{hard_rules};
 ghost use Rattle.solv_rules.specs.Books.{IsDue, first_fault};
 ghost use Rattle.solv_solved.specs.Anew.{IsAgain, IsHeldAgain, IsHeldSame, IsSame};
-ghost use Rattle.solv_solved.specs.JobRows.{are_rows, job_of, with_rows};
+ghost use Rattle.solv_draft.specs.JobRows.{are_rows, job_of, with_rows};
 ghost use Rattle.solv_solved.specs.Solvings.{IsSolved};
 
-use crate::flag_row::FlagRow;
-use crate::job_row::JobRow;
-use crate::job_rows::{are_rows, flags_of, jobs_of};
 use crate::outcomes::Held;
 use crate::solving::{WithRules, answer_of};
 use crate::with_answer::Solved;
 use solv_answers::Answered;
+use solv_draft::{FlagRow, JobRow, are_rows, flags_of, jobs_of};
 use solv_list::Items;
 use solv_pool::Job;
 use solv_rules::BookFault;
@@ -109,6 +107,7 @@ impl Held {
         match self {
             Held::Answered(solved) => solved.solve_again(alloc, flags, rows, budget),
             Held::Refused(_) => Ok(Again::Misused),
+            Held::Open(_) => Ok(Again::Misused),
         }
     }
 }

@@ -61,23 +61,26 @@ fn problems_in(answer: &Answer) -> &[Problem]
 }
 
 impl Held {
-    /// What it is: 0 for a transaction, 9 for problems, 5 where the budget is spent, and for a refusal the number of its status.
+    /// What it is: 0 for a transaction, 9 for problems, 5 where the budget is spent, 10 for a task that has no answer yet, and for a refusal the
+    /// number of its status.
     pub fn number(&self) -> u8
         ensures { result ≡ number_of self.now }
     {
         match self {
             Held::Answered(solved) => answer_number(&solved.answer),
             Held::Refused(due) => due.status.number(),
+            Held::Open(_) => 10,
         }
     }
 
-    /// The line on what is wrong. An answer has none.
+    /// The line on what is wrong, of a refusal, or of the last call that was to build. An answer has none.
     pub fn line(&self) -> &[u8]
         ensures { result.now ≡ line_of self.now }
     {
         match self {
             Held::Answered(_) => &[],
             Held::Refused(due) => due.err.held(),
+            Held::Open(opened) => opened.said.held(),
         }
     }
 
@@ -87,7 +90,7 @@ impl Held {
     {
         match self {
             Held::Answered(solved) => changes_in(&solved.answer),
-            Held::Refused(_) => &[],
+            Held::Refused(_) | Held::Open(_) => &[],
         }
     }
 
@@ -97,7 +100,7 @@ impl Held {
     {
         match self {
             Held::Answered(solved) => order_in(&solved.answer),
-            Held::Refused(_) => &[],
+            Held::Refused(_) | Held::Open(_) => &[],
         }
     }
 
@@ -107,7 +110,7 @@ impl Held {
     {
         match self {
             Held::Answered(solved) => set_in(&solved.answer),
-            Held::Refused(_) => &[],
+            Held::Refused(_) | Held::Open(_) => &[],
         }
     }
 
@@ -117,7 +120,7 @@ impl Held {
     {
         match self {
             Held::Answered(solved) => problems_in(&solved.answer),
-            Held::Refused(_) => &[],
+            Held::Refused(_) | Held::Open(_) => &[],
         }
     }
 

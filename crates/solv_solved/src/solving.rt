@@ -10,7 +10,7 @@ ghost use Rattle.solv_answers.specs.Answers.{IsAnswered, IsPrepared, IsTransacti
 ghost use Rattle.solv_said.specs.Inner.Faults.{IsFaultDue};
 ghost use Rattle.solv_said.specs.Runs.{files_run};
 ghost use Rattle.solv_solved.specs.Inner.Answering.{IsRefusalOf};
-ghost use Rattle.solv_solved.specs.Solvings.{IsHeldFor, IsHeldOf};
+ghost use Rattle.solv_solved.specs.Solvings.{IsHeldFor, IsHeldOf, IsSolved};
 
 use crate::outcomes::Held;
 use crate::with_answer::Solved;
@@ -26,7 +26,7 @@ use std::alloc::{AllocError, Global};
 use std::mem::replace;
 
 /// The name that stands before the line on what is wrong.
-const PROGRAM: &str = "gachuswi";
+pub(crate) const PROGRAM: &str = "gachuswi";
 
 /// An answer, and the hard rules of its task.
 #[derive(Drop)]
@@ -102,7 +102,7 @@ pub(crate) fn answer_of(
 }
 
 /// The index of a task, and the answer to it with the hard rules; or the first limit that its clauses pass.
-fn index_and_answer(
+pub(crate) fn index_and_answer(
     alloc: Global,
     task: &Task,
     budget: u32,
@@ -127,7 +127,7 @@ fn index_and_answer(
 }
 
 /// A script with its answer.
-fn solved(script: Script, prov: Providers, given: WithRules, budget: u32) -> Held
+pub(crate) fn solved(script: Script, prov: Providers, given: WithRules, budget: u32) -> Solved
     requires closed { IsClosed script.task }
     requires forms { HasForms script.task }
     requires index { IsIndexOf prov (catalog_of script.task) }
@@ -135,18 +135,18 @@ fn solved(script: Script, prov: Providers, given: WithRules, budget: u32) -> Hel
     requires direct { IsTransactionUnlessChoicesClash script.task given.answered.answer }
     requires rules { read_rules given.rules ≡ hard_rules script.task }
     requires fits { first_fault (catalog_of script.task) 0 (hard_rules script.task) ≡ None }
-    ensures { IsHeldFor budget script result }
+    ensures { IsSolved budget script result }
 {
     let _ = budget;
     let WithRules { answered, rules } = given;
     let Answered { answer, ledger } = answered;
-    Held::Answered(Solved {
+    Solved {
         script,
         prov,
         rules,
         answer,
         ledger,
-    })
+    }
 }
 
 /// What a script comes to that was read.
@@ -157,7 +157,7 @@ fn held_for(alloc: Global, script: Script, budget: u32) -> Result<Held, AllocErr
     ensures { IfOk result (IsHeldFor budget script) }
 {
     match index_and_answer(alloc, &script.task, budget) {
-        Ok((prov, given)) => Ok(solved(script, prov, given, budget)),
+        Ok((prov, given)) => Ok(Held::Answered(solved(script, prov, given, budget))),
         Err(BookFault::Memory) => Err(AllocError),
         Err(fault) => Ok(Held::Refused(limit_due(alloc, PROGRAM, &script.task, fault)?)),
     }

@@ -2,7 +2,7 @@
 ghost use Rattle.std.specs.Prelude.{◌≡◌, ◌++◌, length, map, IfOk, OnOk};
 ghost use Rattle.solv_io.specs.Lines.{ended_lines};
 ghost use Rattle.solv_pool.specs.Belonging.{IsOver};
-ghost use Rattle.solv_solved.specs.Texts.{package_count_of, package_found, package_text_in, package_text_of, rule_text_in, rule_text_of, solution_text_in, solution_text_of};
+ghost use Rattle.solv_solved.specs.Texts.{package_count_of, repo_count_of, package_found, package_text_in, package_text_of, rule_text_in, rule_text_of, solution_text_in, solution_text_of};
 
 use crate::outcomes::Held;
 use crate::with_answer::Solved;
@@ -68,6 +68,18 @@ impl Held {
         match self {
             Held::Answered(solved) => solved.script.task.universe.count(),
             Held::Refused(_) => 0,
+            Held::Open(opened) => opened.draft.task.universe.count(),
+        }
+    }
+
+    /// How many repositories there are. A refusal has none.
+    pub fn repo_count(&self) -> usize
+        ensures { result ≡ repo_count_of self.now }
+    {
+        match self {
+            Held::Answered(solved) => solved.script.task.universe.repos(),
+            Held::Refused(_) => 0,
+            Held::Open(opened) => opened.draft.task.universe.repos(),
         }
     }
 
@@ -81,6 +93,10 @@ impl Held {
                 task.universe.find(&task.pool, text)
             }
             Held::Refused(_) => None,
+            Held::Open(opened) => {
+                let task = &opened.draft.task;
+                task.universe.find(&task.pool, text)
+            }
         }
     }
 
@@ -91,6 +107,7 @@ impl Held {
         match self {
             Held::Answered(solved) => package_text_in(alloc, &solved.script.task, pack),
             Held::Refused(_) => Ok(None),
+            Held::Open(opened) => package_text_in(alloc, &opened.draft.task, pack),
         }
     }
 
@@ -100,7 +117,7 @@ impl Held {
     {
         match self {
             Held::Answered(solved) => solved.rule_text(alloc, rule),
-            Held::Refused(_) => Ok(None),
+            Held::Refused(_) | Held::Open(_) => Ok(None),
         }
     }
 

@@ -9,7 +9,7 @@ ghost use Rattle.solv_rules.specs.Books.{read_rules};
 
 use solv_answers::Answer;
 use solv_core::Ledger;
-use solv_pool::Rules;
+use solv_pool::{Rules, Task};
 use solv_prov::Providers;
 use solv_script::Script;
 
@@ -35,5 +35,30 @@ impl Drop for Solved {
             answer: _,
             ledger: _,
         } = self;
+    }
+}
+
+impl Solved {
+    /// The task. Its answer is let go.
+    pub(crate) fn into_task(self) -> Task
+        ensures task { result ≡ self.script.task }
+        ensures closed { IsClosed result }
+        ensures forms { HasForms result }
+    {
+        let Solved {
+            script,
+            prov: _,
+            rules: _,
+            answer: _,
+            ledger: _,
+        } = self;
+        let Script {
+            task,
+            kinds: _,
+            wanted: _,
+            checks: _,
+            later: _,
+        } = script;
+        task
     }
 }

@@ -2,8 +2,12 @@ use Rattle.std.proofs.Common.{◌≡◌, Some, rules}
 use Rattle.solv_pool.specs.Catalog.{catalog_of}
 use Rattle.solv_pool.specs.HardRules.{hard_rules}
 use Rattle.solv_rules.specs.Books.{first_fault}
+use Rattle.solv_solved.specs.Solvings.{answered}
 use Rattle.solv_solved.proofs.WhatIsHeld.{passes_by}
 use Rattle.solv_solved.proofs.solving.held_for.Goals as goal
+
+pub returns-in-Ok : goal.returns-in-Ok
+returns-in-Ok c = answered c.solved.result c.solved.ensures
 
 pub returns : goal.returns
 returns c =

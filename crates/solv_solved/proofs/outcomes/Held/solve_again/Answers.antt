@@ -1,7 +1,7 @@
 use Rattle.std.proofs.Common.{subst, sym}
 use Rattle.std.specs.Prelude.{IfOk}
 use Rattle.solv_list.proofs.Answers.{ok_map}
-use Rattle.solv_solved.specs.Anew.{IsHeldAgain, of_answer, of_refusal}
+use Rattle.solv_solved.specs.Anew.{IsHeldAgain, of_answer, of_open, of_refusal}
 use Rattle.solv_solved.specs.declared.anew.Again.TheVariants.{Misused}
 use Rattle.solv_solved.specs.declared.outcomes.Held.{Held}
 use Rattle.solv_solved.specs.declared.outcomes.Held.TheVariants.{Answered}
@@ -15,3 +15,6 @@ returns-in-Answered-clause-ended c =
 
 pub returns-in-Refused-clause-ended : goal.returns-in-Refused-clause-ended
 returns-in-Refused-clause-ended c = subst (λ (held : Held). IsHeldAgain c.args.budget c.args.flags.now c.args.rows.now held held Misused) (sym c.in-Refused.is) (of_refusal c.in-Refused.field-0)
+
+pub returns-in-Open-clause-ended : goal.returns-in-Open-clause-ended
+returns-in-Open-clause-ended c = subst (λ (held : Held). IsHeldAgain c.args.budget c.args.flags.now c.args.rows.now held held Misused) (sym c.in-Open.is) (of_open c.in-Open.field-0)

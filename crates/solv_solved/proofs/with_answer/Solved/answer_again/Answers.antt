@@ -3,7 +3,7 @@ use Rattle.solv_pool.specs.HardRules.{hard_rules}
 use Rattle.solv_pool.specs.TaskBelonging.{IsClosed}
 use Rattle.solv_pool.specs.TaskForms.{HasForms}
 use Rattle.solv_rules.specs.Books.{read_rules}
-use Rattle.solv_solved.specs.JobRows.{flags_of, job_of}
+use Rattle.solv_draft.specs.JobRows.{flags_of, job_of}
 use Rattle.solv_solved.proofs.JobsAnew.{closed_anew, due_anew, forms_anew, put_back, solved_anew}
 use Rattle.solv_solved.proofs.with_answer.Solved.answer_again.Goals as goal
 

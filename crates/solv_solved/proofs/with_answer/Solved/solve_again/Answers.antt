@@ -4,7 +4,7 @@ use Rattle.solv_pool.specs.HardRules.{hard_rules}
 use Rattle.solv_pool.specs.declared.tasks.Task.{Task}
 use Rattle.solv_rules.specs.Books.{first_fault}
 use Rattle.solv_solved.specs.Anew.{again_answered, again_misused, again_passes}
-use Rattle.solv_solved.specs.JobRows.{are_rows, with_rows}
+use Rattle.solv_draft.specs.JobRows.{are_rows, with_rows}
 use Rattle.solv_solved.proofs.JobsAnew.{same_self}
 use Rattle.solv_solved.proofs.with_answer.Solved.solve_again.Goals as goal
 

@@ -8,8 +8,8 @@ use Rattle.solv_pool.specs.declared.jobs.Choice.TheVariants.{All, OneOf}
 use Rattle.solv_pool.specs.declared.jobs.Job.{Job}
 use Rattle.solv_script.specs.declared.scripts.Script.{Script}
 use Rattle.solv_pool.specs.declared.tasks.Flags.{Flags}
-use Rattle.solv_solved.specs.declared.flag_row.FlagRow.{FlagRow}
-use Rattle.solv_solved.specs.declared.job_row.JobRow.{JobRow}
+use Rattle.solv_draft.specs.declared.flag_row.FlagRow.{FlagRow}
+use Rattle.solv_draft.specs.declared.job_row.JobRow.{JobRow}
 
 -- the action of a number: 0 to 11, in the order of the actions
 abbrev pub action_of : ℕ → Action

@@ -1,7 +1,7 @@
 //! Flags and jobs that a caller gives.
 ghost use Rattle.std.specs.Prelude.{◌≡◌, ◌++◌, map, IfOk, OnOk};
 ghost use Rattle.std.specs.List.{list_all};
-ghost use Rattle.solv_solved.specs.JobRows.{action_of, are_rows, choice_of, flags_of, is_number_of, is_row, job_of};
+ghost use Rattle.solv_draft.specs.JobRows.{action_of, are_rows, choice_of, flags_of, is_number_of, is_row, job_of};
 
 use crate::flag_row::FlagRow;
 use crate::job_row::JobRow;
@@ -10,7 +10,7 @@ use solv_pool::{Action, Choice, Flags, Job, PackNo};
 use std::alloc::{AllocError, Global};
 
 /// The action of this number. What has no number below is nothing to do.
-fn action_of(number: u32) -> Action
+pub(crate) fn action_of(number: u32) -> Action
     ensures { result ≡ action_of number }
 {
     match number {
@@ -30,7 +30,7 @@ fn action_of(number: u32) -> Action
 }
 
 /// Whether a package has this number.
-fn is_number_of(count: u32, pack: u32) -> bool
+pub(crate) fn is_number_of(count: u32, pack: u32) -> bool
     ensures { result ≡ is_number_of count pack }
 {
     0 < pack && pack <= count
@@ -44,14 +44,14 @@ fn are_numbers(count: u32, packs: &[u32]) -> bool
 }
 
 /// Whether a job is one that there is.
-fn is_row(count: u32, row: &JobRow<'_>) -> bool
+pub(crate) fn is_row(count: u32, row: &JobRow<'_>) -> bool
     ensures { result ≡ is_row count row.now }
 {
     row.action < 12 && are_numbers(count, row.packs)
 }
 
 /// Whether all are.
-pub(crate) fn are_rows(count: u32, rows: &[JobRow<'_>]) -> bool
+pub fn are_rows(count: u32, rows: &[JobRow<'_>]) -> bool
     ensures { result ≡ are_rows count rows.now }
 {
     rows.iter().all(|row| is_row(count, row))
@@ -69,7 +69,7 @@ fn packs_of(alloc: Global, packs: &[u32]) -> Result<Items<PackNo>, AllocError>
 }
 
 /// Flags.
-pub(crate) fn flags_of(row: &FlagRow) -> Flags
+pub fn flags_of(row: &FlagRow) -> Flags
     ensures { result ≡ flags_of row.now }
 {
     Flags {
@@ -95,7 +95,7 @@ fn choice_of(alloc: Global, row: &JobRow<'_>) -> Result<Choice, AllocError>
 }
 
 /// A job.
-fn job_of(alloc: Global, row: &JobRow<'_>) -> Result<Job, AllocError>
+pub(crate) fn job_of(alloc: Global, row: &JobRow<'_>) -> Result<Job, AllocError>
     ensures { IfOk result (λ job. job ≡ job_of row.now) }
 {
     let choice = choice_of(alloc, row)?;
@@ -110,7 +110,7 @@ fn job_of(alloc: Global, row: &JobRow<'_>) -> Result<Job, AllocError>
 }
 
 /// Jobs.
-pub(crate) fn jobs_of(alloc: Global, rows: &[JobRow<'_>]) -> Result<Items<Job>, AllocError>
+pub fn jobs_of(alloc: Global, rows: &[JobRow<'_>]) -> Result<Items<Job>, AllocError>
     ensures { IfOk result (λ jobs. jobs ≡ map job_of rows.now) }
 {
     let mut jobs = Vec::new(alloc);

@@ -1,0 +1,2 @@
+mod FormsAsWritten
+pub mod Drawing

@@ -1,0 +1,4 @@
+-- What holds inside.
+pub mod Drafts
+pub mod Faults
+pub mod Calls

@@ -1,0 +1,40 @@
+//! A task so far.
+ghost use Rattle.std.specs.Prelude.{◌≡◌};
+ghost use Rattle.solv_pool.specs.TaskBelonging.{IsClosed};
+ghost use Rattle.solv_pool.specs.TaskForms.{HasForms};
+ghost use Rattle.solv_draft.specs.Inner.Drafts.{IsDraft};
+
+use solv_pool::Task;
+
+/// A task so far. All that it names is there, and its dependencies have forms that may stand at their places.
+pub struct Draft {
+    pub task: Task,
+    pub ghost is: { IsDraft task },
+}
+
+impl Drop for Draft {
+    fn drop(self) {
+        let Draft { task: _ } = self;
+    }
+}
+
+impl Draft {
+    /// A task that was made otherwise, to go on with.
+    pub fn of(task: Task) -> Draft
+        requires closed { IsClosed task }
+        requires forms { HasForms task }
+        ensures { result.task ≡ task }
+    {
+        Draft { task }
+    }
+
+    /// The task.
+    pub fn into_task(self) -> Task
+        ensures task { result ≡ self.task }
+        ensures closed { IsClosed result }
+        ensures forms { HasForms result }
+    {
+        let Draft { task } = self;
+        task
+    }
+}

@@ -1,0 +1,79 @@
+-- What calls build, and the answer to it.
+use Rattle.std.specs.Prelude.{ℕ, ◌≡◌, List, [], Option, Some, None, Result, Ok, Err}
+use Rattle.solv_pool.specs.Catalog.{catalog_of}
+use Rattle.solv_pool.specs.HardRules.{hard_rules}
+use Rattle.solv_pool.specs.declared.tasks.Task.{Task}
+use Rattle.solv_rules.specs.Books.{first_fault}
+use Rattle.solv_rules.specs.declared.fault.BookFault.{BookFault}
+use Rattle.solv_commands.specs.Causes.{cause_name}
+use Rattle.solv_commands.specs.declared.causes.Cause.{Cause}
+use Rattle.solv_script.specs.Reads.{default_kinds}
+use Rattle.solv_script.specs.States.{State, no_line}
+use Rattle.solv_script.specs.declared.scripts.Script.{Script}
+use Rattle.solv_said.specs.Dues.{limit_line, line_at}
+use Rattle.solv_said.specs.declared.dues.Due.{Due}
+use Rattle.solv_draft.specs.Drafts.{IsAsBefore, drawn}
+use Rattle.solv_draft.specs.declared.draft_fault.DraftFault.{DraftFault}
+use Rattle.solv_draft.specs.declared.draft_fault.DraftFault.TheVariants as fault
+use Rattle.solv_solved.specs.Solvings.{IsSolved, program}
+use Rattle.solv_solved.specs.declared.anew.Again.{Again}
+use Rattle.solv_solved.specs.declared.anew.Again.TheVariants as ended
+use Rattle.solv_solved.specs.declared.building.Given.{Given}
+use Rattle.solv_solved.specs.declared.building.Given.TheVariants.{Done, Refuses, Misused}
+use Rattle.solv_solved.specs.declared.opened.Opened.{Opened}
+use Rattle.solv_solved.specs.declared.outcomes.Held.{Held}
+use Rattle.solv_solved.specs.declared.outcomes.Held.TheVariants.{Answered, Refused, Open}
+use Rattle.solv_solved.specs.declared.with_answer.Solved.{Solved}
+
+-- the task that is held, with its answer or without; a refusal has none
+abbrev pub task_of : Held → Option Task
+task_of (Answered solved) = Some solved.script.task
+task_of (Refused due) = None
+task_of (Open opened) = Some opened.draft.task
+
+-- a task before the first call
+pub record IsEmpty (opened : Opened) : Type 0 where
+  pub task : drawn opened.draft.task ≡ no_line
+  pub said : opened.said ≡ []
+
+abbrev pub IsEmptyHeld : Held → Type 0
+IsEmptyHeld (Answered solved) = ⊥
+IsEmptyHeld (Refused due) = ⊥
+IsEmptyHeld (Open opened) = IsEmpty opened
+
+-- the script whose only round is this task
+abbrev pub script_of : Task → Script
+script_of task = record { task = task; kinds = default_kinds; wanted = None; checks = []; later = [] }
+
+-- A task is given what a call gives. Or the first bad line of the call's text is refused, which is told under the call's name; or a number names nothing. Then the
+-- task is as it was.
+pub data IsGiven (name : List ℕ) (call : State → Result State DraftFault) (task : Task) (new : Opened) : Given → Type 0 where
+  done : call (drawn task) ≡ Ok (drawn new.draft.task) → new.said ≡ [] → IsGiven name call task new Done
+  refused : (line : ℕ) (cause : Cause) → call (drawn task) ≡ Err (fault.Refused line cause) → IsAsBefore task new.draft.task → new.said ≡ line_at program name line (cause_name cause) → IsGiven name call task new Refuses
+  misused : call (drawn task) ≡ Err fault.Misused → IsAsBefore task new.draft.task → new.said ≡ [] → IsGiven name call task new Misused
+
+-- so it is with what is held: a task without an answer is held then. A refusal has no task, and stays
+pub data IsBuilt (name : List ℕ) (call : State → Result State DraftFault) : Held → Held → Given → Type 0 where
+  of_task : (old : Held) (task : Task) (new : Opened) (how : Given) → task_of old ≡ Some task → IsGiven name call task new how → IsBuilt name call old (Open new) how
+  of_refusal : (due : Due) → IsBuilt name call (Refused due) (Refused due) Misused
+
+-- the task is held without an answer, as it was
+abbrev pub IsStillOf : Task → Held → Type 0
+IsStillOf task (Answered solved) = ⊥
+IsStillOf task (Refused due) = ⊥
+IsStillOf task (Open new) = IsAsBefore task new.draft.task
+
+-- so it is with what is held; a refusal stays
+pub data IsStill : Held → Held → Type 0 where
+  still : (old new : Held) (task : Task) → task_of old ≡ Some task → IsStillOf task new → IsStill old new
+  still_refused : (due : Due) → IsStill (Refused due) (Refused due)
+
+-- A task is answered within the budget, and held with its answer; or its clauses pass a limit, which is told, and it is held without one.
+pub data IsSolveOf (budget : ℕ) (task : Task) : Held → Again → Type 0 where
+  answered : (new : Solved) → IsSolved budget (script_of task) new → IsSolveOf budget task (Answered new) ended.Answered
+  passes : (new : Opened) (limit : BookFault) → first_fault (catalog_of task) 0 (hard_rules task) ≡ Some limit → new.draft.task ≡ task → new.said ≡ limit_line program task limit → IsSolveOf budget task (Open new) ended.Passes
+
+-- so it is with what is held; a refusal has no task, and stays
+pub data IsTaskSolved (budget : ℕ) : Held → Held → Again → Type 0 where
+  of_held : (old new : Held) (task : Task) (how : Again) → task_of old ≡ Some task → IsSolveOf budget task new how → IsTaskSolved budget old new how
+  no_task : (due : Due) → IsTaskSolved budget (Refused due) (Refused due) ended.Misused
