@@ -49,8 +49,48 @@ static unsigned long kept(gachuswi_task *task) {
     for (size_t i = 0; i < count && i < 1000; i++) sum = sum * 31 + changes[i].kind * 7 + changes[i].pack * 3 + changes[i].by;
     for (size_t p = 0; p < gachuswi_task_problems(task); p++)
         if (!gachuswi_problem_rules(task, p, NULL, 0, &rules)) sum = sum * 31 + rules;
+    sum = sum * 31 + gachuswi_task_packages(task) + 7 * gachuswi_task_repos(task);
     return sum * 31 + gachuswi_task_set(task, NULL, 0) + gachuswi_task_err(task, NULL, 0);
 }
+
+/* ---- calls that build; the memory of what a refused one read may stay with the task */
+
+static int32_t add_repo(gachuswi_task *task) {
+    static unsigned char count;
+    uint8_t name[3] = {'r', (uint8_t)('a' + count / 26), (uint8_t)('a' + count % 26)};
+    size_t repo = 4711;
+    int32_t code = gachuswi_repo_add(task, name, 3, 0, &repo);
+    if (code == GACHUSWI_NO_MEMORY && repo != 4711) failed++;
+    count += code == GACHUSWI_DONE;
+    return code;
+}
+
+static int32_t add_packages(gachuswi_task *task) {
+    static const char text[] = "=Pkg: fresh 1 1 noarch\n=Req: more & other\n=Prv: fresh = 1\n=Fls: /a/b\n=Pkg: more 2 3 noarch\n=Con: other < 7\n";
+    uint32_t above = 4711, last = 4711;
+    int32_t code = gachuswi_packages_add(task, 0, (const uint8_t *)text, sizeof text - 1, &above, &last);
+    if (code == GACHUSWI_NO_MEMORY && (above != 4711 || last != 4711)) failed++;
+    return code;
+}
+
+static int32_t add_refused(gachuswi_task *task) {
+    static const char text[] = "=Pkg: fresh 1 1 noarch\n=Req: more &\n";
+    uint32_t above = 4711, last = 4711;
+    return gachuswi_packages_add(task, 0, (const uint8_t *)text, sizeof text - 1, &above, &last);
+}
+
+static int32_t add_namespace(gachuswi_task *task) { return gachuswi_namespace_add(task, (const uint8_t *)"namespace:a(b)", 14, first_pack, 1); }
+
+static int32_t add_job(gachuswi_task *task) { return gachuswi_job_add(task, &erase); }
+
+static int32_t add_job_by(gachuswi_task *task) { return gachuswi_job_add_by(task, &erase, true, (const uint8_t *)"fresh >= 1", 10); }
+
+static int32_t answer_it(gachuswi_task *task) { return gachuswi_task_answer(task, budget); }
+
+static int32_t open_one(gachuswi_task *task) { return gachuswi_task_open(task); }
+
+/* whether the memory that a refused call holds is looked at */
+static bool keeps_memory;
 
 static void refuse(const char *name, gachuswi_task *task, int32_t (*call)(gachuswi_task *)) {
     for (int all = 0; all < 2; all++) {
@@ -62,7 +102,7 @@ static void refuse(const char *name, gachuswi_task *task, int32_t (*call)(gachus
             counts = false;
             if (!was_refused) break;
             calls++;
-            if (code != GACHUSWI_NO_MEMORY || kept(task) != before || blocks != held) {
+            if (code != GACHUSWI_NO_MEMORY || kept(task) != before || (blocks != held && !keeps_memory)) {
                 printf("%s, %s, allocation %lu%s: %d, %s, %ld blocks more\n", script, name, k + 1, all ? " and all behind it" : "", (int)code,
                        kept(task) == before ? "the same" : "another answer", blocks - held);
                 failed++;
@@ -86,6 +126,19 @@ static void refuse_each(const gachuswi_options *options) {
     refuse("a solution's text", &task, solution_text);
     refuse("solve again", &task, again);
     refuse("a solution's text", &task, solution_text);
+    keeps_memory = true;
+    if (gachuswi_task_packages(&task) > 0 && gachuswi_jobs_clear(&task) == GACHUSWI_DONE) {
+        refuse("packages", &task, add_packages);
+        refuse("a repository", &task, add_repo);
+        refuse("packages that are refused", &task, add_refused);
+        refuse("a namespace", &task, add_namespace);
+        refuse("a job", &task, add_job);
+        refuse("a job by a dependency", &task, add_job_by);
+        refuse("packages", &task, add_packages);
+        refuse("an answer", &task, answer_it);
+    }
+    keeps_memory = false;
+    refuse("open", &task, open_one);
     gachuswi_task_close(&task);
     if (blocks != held) {
         printf("%s: %ld blocks are left\n", script, blocks - held);

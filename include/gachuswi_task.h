@@ -1,14 +1,15 @@
-/* gachuswi_task.h - an answer that is read by numbers.
+/* gachuswi_task.h - tasks and answers by numbers.
  *
- * gachuswi_task_solve reads a script as gachuswi_run does, answers its first round, and keeps the answer as a task. The calls
- * below read it: packages, rules, problems and solutions are numbers, and lists are copied into memory of the caller.
+ * gachuswi_task_solve reads a script as gachuswi_run does, answers its first round, and keeps the answer as a task. Or a task is opened, and built by
+ * calls, and gachuswi_task_answer answers it. The other calls read the answer: packages, rules, problems and solutions are numbers, and
+ * lists are copied into memory of the caller.
  *
  * What gachuswi.h says of threads, memory, stack and of what a caller owes holds here too, with a gachuswi_task in the place of a
  * gachuswi_answer. Memory that a call writes (`into`, `count`, the task) is no part of what it reads, nor of each other.
  *
  * Packages are numbered from 1 in the order in which the repositories list them; 0 is the system. Rules are numbered from 0, and
- * so are problems, and the solutions of each problem. Numbers are those of one answer: another call of gachuswi_task_solve gives
- * others.
+ * so are problems, and the solutions of each problem. Numbers of rules, problems and solutions are those of one answer: another answer has
+ * others. Repositories are numbered from 0.
  */
 #ifndef GACHUSWI_TASK_H
 #define GACHUSWI_TASK_H
@@ -19,14 +20,14 @@
 extern "C" {
 #endif
 
-/* What gachuswi_task_solve answers besides GACHUSWI_REFUSED, GACHUSWI_READ_FAULT, GACHUSWI_SPENT, GACHUSWI_NO_MEMORY and
- * GACHUSWI_MISUSE. */
+/* What calls answer besides GACHUSWI_REFUSED, GACHUSWI_READ_FAULT, GACHUSWI_SPENT, GACHUSWI_NO_MEMORY and GACHUSWI_MISUSE. */
 enum {
     GACHUSWI_TRANSACTION = 0, /* a set of packages meets all rules: see changes, order and set */
-    GACHUSWI_PROBLEMS = 9     /* no set does: see problems and solutions */
+    GACHUSWI_PROBLEMS = 9,    /* no set does: see problems and solutions */
+    GACHUSWI_OPEN = 10        /* a task that has no answer yet; gachuswi_task_status alone says so */
 };
 
-/* A task with its answer, or none. It owns memory, which gachuswi_task_close gives back. GACHUSWI_NONE at first. */
+/* A task, with its answer or without, or none. It owns memory, which gachuswi_task_close gives back. GACHUSWI_NONE at first. */
 typedef struct gachuswi_task {
     void *held;
 } gachuswi_task;
@@ -103,7 +104,60 @@ typedef struct gachuswi_flags {
 int32_t gachuswi_task_solve_again(gachuswi_task *task, const gachuswi_flags *flags, const gachuswi_job *jobs, size_t jobs_len,
                                   uint32_t budget);
 
-/* What is kept: GACHUSWI_TRANSACTION, GACHUSWI_PROBLEMS or GACHUSWI_SPENT, or a refusal: GACHUSWI_REFUSED or GACHUSWI_READ_FAULT.
+/* ---- A task built by calls. They are made in any order, but what a call names by a number is there before it. Each answers GACHUSWI_DONE, and
+ * the task has what was given; or GACHUSWI_REFUSED, where a text is refused: gachuswi_task_err tells the call, the number of the text's first bad line,
+ * and the cause, as `gachuswi: packages:12: BadPackageLine`; GACHUSWI_MISUSE, where a number names nothing, or no task is kept; or GACHUSWI_NO_MEMORY. In
+ * the last three cases the task is as it was. In any case it has no answer any more, which gachuswi_task_answer gives. A refused script is
+ * no task. A task that was read from a script is one, with the flags and jobs of its first round, or those of gachuswi_task_solve_again. */
+
+/* Opens a task without packages, with the flags of GACHUSWI_FLAGS, in place of what was kept. Answers GACHUSWI_DONE, or GACHUSWI_NO_MEMORY, and then what was
+ * kept is as it was. */
+int32_t gachuswi_task_open(gachuswi_task *task);
+
+/* Adds a repository, whose number is written to `repo` where the call is done. Of two packages that are alike that of the greater priority is the
+ * candidate. A name that is there already is refused. */
+int32_t gachuswi_repo_add(gachuswi_task *task, const uint8_t *name, size_t name_len, int32_t priority, size_t *repo);
+
+/* Adds the packages of a repository, which stand in testtags: those with numbers above `above`, which is how many there were, and at
+ * most `last`. Both are written where the call is done. */
+int32_t gachuswi_packages_add(gachuswi_task *task, size_t repo, const uint8_t *testtags, size_t testtags_len, uint32_t *above,
+                              uint32_t *last);
+
+/* Architectures of a system. */
+enum { GACHUSWI_X86_64 = 0, GACHUSWI_I686 = 1, GACHUSWI_AARCH64 = 2 };
+
+/* Sets the architecture of the system, and which repository is the installed one, where `has_installed` is true. A task in which neither is
+ * set takes packages of every architecture, and nothing is installed. */
+int32_t gachuswi_system_set(gachuswi_task *task, uint32_t arch, bool has_installed, size_t installed);
+
+/* Keeps a package from being installed anew. */
+int32_t gachuswi_package_disable(gachuswi_task *task, uint32_t pack);
+
+/* Says that these packages, of which one may be the system, have a namespace, which is named as in a script: `namespace:NAME(ARG)`. Packages
+ * that have it already keep it. */
+int32_t gachuswi_namespace_add(gachuswi_task *task, const uint8_t *name, size_t name_len, const uint32_t *packs, size_t packs_len);
+
+/* Sets the flags, in place of those that are there. */
+int32_t gachuswi_flags_set(gachuswi_task *task, const gachuswi_flags *flags);
+
+/* Adds a job behind the others. */
+int32_t gachuswi_job_add(gachuswi_task *task, const gachuswi_job *job);
+
+/* The same of a job that selects what has the name of this dependency, a name with or without a comparison and a version; or what provides
+ * it. What the job itself selects is not looked at. */
+int32_t gachuswi_job_add_by(gachuswi_task *task, const gachuswi_job *job, bool provides, const uint8_t *dep, size_t dep_len);
+
+/* Lets all jobs go. */
+int32_t gachuswi_jobs_clear(gachuswi_task *task);
+
+/* Answers the task that is kept, with an index that is made for it. Answers GACHUSWI_TRANSACTION, GACHUSWI_PROBLEMS or GACHUSWI_SPENT, and the answer
+ * is kept; or GACHUSWI_REFUSED, where its clauses pass a limit, which gachuswi_task_err tells; GACHUSWI_NO_MEMORY; or GACHUSWI_MISUSE, where the budget is
+ * above 1,000,000, or no task is kept. */
+int32_t gachuswi_task_answer(gachuswi_task *task, uint32_t budget);
+
+/* ---- Reading. */
+
+/* What is kept: GACHUSWI_TRANSACTION, GACHUSWI_PROBLEMS or GACHUSWI_SPENT; GACHUSWI_OPEN; or a refusal: GACHUSWI_REFUSED or GACHUSWI_READ_FAULT.
  * GACHUSWI_MISUSE where nothing is. */
 int32_t gachuswi_task_status(gachuswi_task *task);
 
@@ -112,7 +166,7 @@ void gachuswi_task_close(gachuswi_task *task);
 
 /* ---- Each copies the first items, as many as there is room for, and answers how many there are: none where there is no such list. */
 
-/* The line on what is wrong, of a refusal. */
+/* The line on what is wrong: of a refusal, or of the last call that was to build or to answer, where it was refused. */
 size_t gachuswi_task_err(gachuswi_task *task, uint8_t *into, size_t into_len);
 
 /* What a transaction changes. */
@@ -123,6 +177,9 @@ size_t gachuswi_task_order(gachuswi_task *task, uint32_t *into, size_t into_len)
 
 /* The packages that are there after it, with the system, ascending. */
 size_t gachuswi_task_set(gachuswi_task *task, uint32_t *into, size_t into_len);
+
+/* How many repositories there are. */
+size_t gachuswi_task_repos(gachuswi_task *task);
 
 /* How many packages there are, besides the system. */
 uint32_t gachuswi_task_packages(gachuswi_task *task);
@@ -151,7 +208,7 @@ int32_t gachuswi_solution_set(gachuswi_task *task, size_t problem, size_t soluti
 int32_t gachuswi_package_find(gachuswi_task *task, const uint8_t *text, size_t text_len, uint32_t *pack);
 
 /* ---- Texts: the same, or GACHUSWI_NO_MEMORY, and then nothing is written. No 0 byte is put behind. Each call makes the text anew.
- * Of a refusal nothing has a text. */
+ * Of a refusal nothing has a text, and of a task without an answer packages alone. */
 
 /* A package, as `name-evr.arch@repository`; `@SYSTEM` of 0. */
 int32_t gachuswi_package_text(gachuswi_task *task, uint32_t pack, uint8_t *into, size_t into_len, size_t *count);

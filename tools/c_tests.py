@@ -19,11 +19,13 @@ Of each archive these are tried:
   the same four ways;
 - every such script once more as a task that is read by numbers, whose lines are those of the texts, and which is answered anew
   (c_tests/tasks.c), in the same four ways;
+- the task of every such script built by calls, with the same answer, and calls that build and are made wrongly (c_tests/drafts.c), in the
+  same four ways;
 - memory refused at each allocation of a call, alone and with all that follow (c_tests/memory.c, and of the calls for a task
   c_tests/task_memory.c);
 - the test scripts once more in a small stack;
 - calls from several threads at once (c_tests/threads.c), under valgrind's helgrind too;
-- the callers of docs/LIBRARY.md and README.md, compiled as they stand there and run as the pages say;
+- the callers of docs/LIBRARY.md, which are two, and README.md, compiled as they stand there and run as the pages say;
 - where the files of libsolv are there for whoever builds with it: the same jobs asked of both, from one pool of libsolv's
   (c_tests/beside_libsolv.c);
 - the headers, as C11 and as C++17.
@@ -215,9 +217,9 @@ class Trial:
         program = self.linked(TESTS / "beside_libsolv.c", "static", *libsolv())
         return self.says(program, [], None, b"")
 
-    def caller(self, page, program):
-        """Says what is wrong with the caller of a page: the block that is named so, run as the blocks behind it say."""
-        text = (TOP / page).read_text()
+    def caller(self, page, program, behind=""):
+        """Says what is wrong with a caller of a page: the first block in C behind these words, run as the blocks behind it say."""
+        text = (TOP / page).read_text().partition(behind)[2] if behind else (TOP / page).read_text()
         found = re.search(r"```c\n(.*?)```\n.*?```\n(.*?)```\n.*?```\n(.*?)```\n", text, re.S)
         if not found:
             return f"{page} has no caller"
@@ -232,7 +234,8 @@ class Trial:
             self.check(f"calls, {way}", lambda: self.says(self.linked(TESTS / "calls.c", way), [], None, b"", runner))
             for name, words, folder, wanted in stored():
                 self.check(f"{name}, {way}", lambda: self.says(self.linked(TESTS / "scripts.c", way), words, folder, wanted, runner))
-                self.check(f"tasks of {name}, {way}", lambda: self.says(self.linked(TESTS / "tasks.c", way), words, folder, b"", runner))
+                for program in ("tasks", "drafts"):
+                    self.check(f"{program} of {name}, {way}", lambda: self.says(self.linked(TESTS / f"{program}.c", way), words, folder, b"", runner))
         self.check("small stack", self.small_stack)
         self.check("threads", lambda: self.threads([]))
         if has_valgrind(self.quick):
@@ -243,6 +246,7 @@ class Trial:
         if libsolv():
             self.check("beside libsolv", self.beside_libsolv)
         self.check("caller of docs/LIBRARY.md", lambda: self.caller("docs/LIBRARY.md", "caller.c"))
+        self.check("caller by numbers of docs/LIBRARY.md", lambda: self.caller("docs/LIBRARY.md", "builder.c", "## A task built by calls"))
         self.check("caller of README.md", lambda: self.caller("README.md", "short_caller.c"))
 
 

@@ -36,6 +36,7 @@ CALLS = {
         ("gachuswi", "tasks", tuple(f"gachuswi_{it}" for it in ("task_solve", "task_status", "task_err", "task_changes", "task_order", "task_set", "task_problems", "problem_rules", "problem_solutions", "solution_rules", "solution_set", "task_close"))),
         ("gachuswi", "task_texts", tuple(f"gachuswi_{it}" for it in ("package_text", "rule_text", "solution_text", "task_packages", "package_find"))),
         ("gachuswi", "tasks_anew", ("gachuswi_task_solve_again",)),
+        ("gachuswi", "tasks_built", tuple(f"gachuswi_{it}" for it in ("task_open", "task_repos", "repo_add", "packages_add", "system_set", "package_disable", "namespace_add", "flags_set", "job_add", "job_add_by", "jobs_clear", "task_answer"))),
     ),
 }
 # modules that stand apart and are read with a promise: the number of each status

@@ -4,4 +4,5 @@ pub mod Orders
 pub mod Tasks
 pub mod TaskTexts
 pub mod TasksAnew
+pub mod TasksBuilt
 pub mod Inner

@@ -7,6 +7,8 @@
 //!   `_changes`, `_order`, `_set`, `_problems`, `gachuswi_problem_rules`, `_solutions`, `gachuswi_solution_rules` and `_set` read it;
 //!   `gachuswi_task_packages`, `gachuswi_package_find`, `gachuswi_package_text`, `gachuswi_rule_text` and `gachuswi_solution_text` give texts; `gachuswi_task_close` lets it go.
 //! - `gachuswi_task_solve_again`: answers a task that is kept with other jobs, given by numbers.
+//! - `gachuswi_task_open`: opens a task that calls build: `gachuswi_repo_add`, `gachuswi_packages_add`, `gachuswi_system_set`, `gachuswi_package_disable`,
+//!   `gachuswi_namespace_add`, `gachuswi_flags_set`, `gachuswi_job_add` and `_by`, `gachuswi_jobs_clear`. `gachuswi_task_answer` answers it; `gachuswi_task_repos` counts its repositories.
 //! - `gachuswi_evr_compare`: how two versions compare.
 //! - `gachuswi_abi`: the number of this interface.
 //!
@@ -22,6 +24,7 @@ mod task_handles;
 mod task_texts;
 mod tasks;
 mod tasks_anew;
+mod tasks_built;
 mod versions;
 
 pub use asking::Options;
@@ -41,4 +44,9 @@ pub use tasks::{
     gachuswi_task_status,
 };
 pub use tasks_anew::gachuswi_task_solve_again;
+pub use tasks_built::{
+    gachuswi_flags_set, gachuswi_job_add, gachuswi_job_add_by, gachuswi_jobs_clear,
+    gachuswi_namespace_add, gachuswi_package_disable, gachuswi_packages_add, gachuswi_repo_add,
+    gachuswi_system_set, gachuswi_task_answer, gachuswi_task_open, gachuswi_task_repos,
+};
 pub use versions::gachuswi_evr_compare;
