@@ -109,6 +109,14 @@ static void set_flags(gachuswi_flags *flags) {
                 if (!strcmp(word + (word[0] == '!'), names[i])) *at[i] = word[0] != '!';
 }
 
+/* The names of the repositories so far, by their numbers. */
+static char *repo_names[1000];
+static size_t repo_name_count;
+
+static void forget_repos(void) {
+    while (repo_name_count) free(repo_names[--repo_name_count]);
+}
+
 /* A `repo` line, and the lines behind it. */
 static bool add_repo(gachuswi_task *task, const char **at) {
     size_t repo = 4711, repos = gachuswi_task_repos(task), len = 0;
@@ -116,6 +124,8 @@ static bool add_repo(gachuswi_task *task, const char **at) {
     char *own = NULL;
     const gachuswi_file *file = NULL;
     claim(gachuswi_repo_add(task, bytes(words[1]), strlen(words[1]), (int32_t)strtol(words[2], NULL, 10), &repo) == GACHUSWI_DONE && repo == repos, "a repository");
+    claim(repo_name_count < 1000, "too many repositories");
+    repo_names[repo_name_count++] = strcpy(malloc(strlen(words[1]) + 1), words[1]);
     if (!is(3, "testtags")) return true;
     if (is(4, "<inline>")) own = inline_lines(at, &len);
     else if (!(file = file_named(words[4]))) return false;
@@ -125,15 +135,16 @@ static bool add_repo(gachuswi_task *task, const char **at) {
     return true;
 }
 
-/* Builds the task of the first round of a script; false where a file is not lent. */
+/* Builds the task of the first round of a script; false where a file is not lent, or a line is very long. */
 static bool build(gachuswi_task *task, const char *text) {
     gachuswi_flags flags = GACHUSWI_FLAGS;
+    forget_repos();
     claim(gachuswi_task_open(task) == GACHUSWI_DONE && gachuswi_task_status(task) == GACHUSWI_OPEN && gachuswi_task_packages(task) == 0, "open");
     for (const char *at = text; *at;) {
         static char line[100000];
         const char *end = strchr(at, '\n');
         size_t len = end ? (size_t)(end - at) : strlen(at);
-        claim(len < sizeof line, "a long line");
+        if (len >= sizeof line) return false;
         memcpy(line, at, len);
         line[len] = 0;
         at += end ? len + 1 : len;
@@ -157,12 +168,7 @@ static bool build(gachuswi_task *task, const char *text) {
         if (is(0, "system")) {
             uint32_t arch = is(1, "x86_64") ? GACHUSWI_X86_64 : is(1, "i686") ? GACHUSWI_I686 : GACHUSWI_AARCH64;
             size_t repo = 0;
-            /* the number of a repository is that of its line */
-            for (const char *from = text; word_count > 3 && from < at; from = strchr(from, '\n') + 1) {
-                if (strncmp(from, "repo ", 5)) continue;
-                if (!strncmp(from + 5, words[3], strlen(words[3])) && from[5 + strlen(words[3])] == ' ') break;
-                repo++;
-            }
+            while (word_count > 3 && repo < repo_name_count && !is(3, repo_names[repo])) repo++;
             claim(gachuswi_system_set(task, arch, word_count > 3, repo) == GACHUSWI_DONE, "the system");
         }
     }
@@ -317,5 +323,6 @@ int main(int argc, char **argv) {
     }
     gachuswi_task_close(&read);
     gachuswi_task_close(&built);
+    forget_repos();
     return 0;
 }

@@ -102,7 +102,8 @@ static void refuse(const char *name, gachuswi_task *task, int32_t (*call)(gachus
             counts = false;
             if (!was_refused) break;
             calls++;
-            if (code != GACHUSWI_NO_MEMORY || kept(task) != before || (blocks != held && !keeps_memory)) {
+            /* a call may do without the one allocation that is refused */
+            if (code == GACHUSWI_NO_MEMORY ? kept(task) != before || (blocks != held && !keeps_memory) : all) {
                 printf("%s, %s, allocation %lu%s: %d, %s, %ld blocks more\n", script, name, k + 1, all ? " and all behind it" : "", (int)code,
                        kept(task) == before ? "the same" : "another answer", blocks - held);
                 failed++;

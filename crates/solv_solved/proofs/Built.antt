@@ -1,5 +1,5 @@
 -- What is held behind calls that build.
-use Rattle.std.proofs.Common.{◌≡◌, ℕ, List, Option, Some, None, Result, Ok, Err, inl, inr, refl, sym, subst}
+use Rattle.std.proofs.Common.{◌≡◌, ℕ, List, None, Result, Ok, Err, inl, inr, refl, sym, subst}
 use Rattle.std.specs.Result.{OnErr}
 use Rattle.solv_base.proofs.Growth.{Grows-itself}
 use Rattle.solv_pool.specs.Catalog.{catalog_of}
@@ -7,15 +7,13 @@ use Rattle.solv_pool.specs.HardRules.{hard_rules}
 use Rattle.solv_pool.specs.declared.tasks.Task.{Task}
 use Rattle.solv_rules.specs.Books.{IsDue, first_fault}
 use Rattle.solv_rules.specs.declared.fault.BookFault.{BookFault}
-use Rattle.solv_rules.specs.declared.fault.BookFault.TheVariants.{TooRich, TooManyWords, Memory}
+use Rattle.solv_rules.specs.declared.fault.BookFault.TheVariants.{Memory}
 use Rattle.solv_script.specs.States.{State}
 use Rattle.solv_draft.specs.Drafts.{IsAsBefore}
 use Rattle.solv_draft.specs.declared.draft_fault.DraftFault.{DraftFault}
-use Rattle.solv_solved.specs.Building.{IsBuilt, IsGiven, IsSolveOf, IsStill, IsStillOf, IsTaskSolved, no_task, of_held, of_refusal, of_task, passes, still, still_refused, task_of}
+use Rattle.solv_solved.specs.Building.{IsBuilt, IsSolveOf, IsTaskSolved, no_task, of_refusal, passes, task_of}
 use Rattle.solv_solved.specs.Inner.Limits.{IsLimitSaid}
-use Rattle.solv_solved.specs.declared.anew.Again.{Again}
 use Rattle.solv_solved.specs.declared.anew.Again.TheVariants as ended
-use Rattle.solv_solved.specs.declared.building.Given.{Given}
 use Rattle.solv_solved.specs.declared.building.Given.TheVariants as given
 use Rattle.solv_solved.specs.declared.opened.Opened.{Opened}
 use Rattle.solv_solved.specs.declared.outcomes.Held.{Held}
