@@ -152,7 +152,7 @@ int32_t gachuswi_jobs_clear(gachuswi_task *task);
 
 /* Answers the task that is kept, with an index that is made for it. Answers GACHUSWI_TRANSACTION, GACHUSWI_PROBLEMS or GACHUSWI_SPENT, and the answer
  * is kept; or GACHUSWI_REFUSED, where its clauses pass a limit, which gachuswi_task_err tells; GACHUSWI_NO_MEMORY; or GACHUSWI_MISUSE, where the budget is
- * above 1,000,000, or no task is kept. */
+ * above 1,000,000, or no task is kept. An answer that was kept before is let go, but for GACHUSWI_MISUSE. */
 int32_t gachuswi_task_answer(gachuswi_task *task, uint32_t budget);
 
 /* ---- Reading. */
