@@ -1,11 +1,10 @@
 -- What the rounds of a script share.
-use Rattle.std.proofs.Common.{◌≡◌, ◌≤◌, ◌+◌, ℕ, zero, suc, ℤ, Bool, true, false, ◌&&◌, List, [], ◌∷◌, ◌++◌, length, map, take, drop, Option, None, refl, sym, ap, subst, ◌∙◌, append_assoc, arith}
-use Rattle.std.specs.Prelude.{Result, Ok, Err, IfOk, IfSome, ◌==◌, flat_map, replicate}
+use Rattle.std.proofs.Common.{◌≡◌, ◌≤◌, ◌+◌, ℕ, Bool, true, false, ◌&&◌, List, [], ◌∷◌, ◌++◌, length, map, take, drop, Option, None, refl, sym, ap, subst, ◌∙◌, append_assoc, arith}
+use Rattle.std.specs.Prelude.{Result, Ok, Err, IfOk, IfSome, ◌==◌, replicate}
 use Rattle.std.proofs.Math.Bool.{beq}
 use Rattle.solv_list.proofs.Booleans.{first_of_both, second_of_both}
-use Rattle.std.proofs.lemmas.List.{length-map, length-take, length-take-le, take-map}
+use Rattle.std.proofs.lemmas.List.{length-take, length-take-le, take-map}
 use Rattle.solv_pool.specs.Catalog.{Catalog, catalog_of}
-use Rattle.solv_pool.specs.Clauses.{rule_clauses}
 use Rattle.solv_pool.specs.HardRules.{hard_rules, package_rules, infarch_rules, update_rules, feature_rules, job_rules, best_job_rules, best_update_rules, hard_rules_by}
 use Rattle.solv_pool.specs.RuleMeaning.{HardRule, rule_with}
 use Rattle.solv_pool.specs.declared.hard_rules.Rule.{Rule}
@@ -18,19 +17,17 @@ use Rattle.std.specs.List.{list_all}
 use Rattle.solv_pool.specs.JobMarks.{marks_of}
 use Rattle.solv_prov.specs.Index.{Index, IsIndexOf}
 use Rattle.solv_jobs.specs.Marking.{HasMarks}
-use Rattle.solv_core.specs.Cores.{CoreOf}
 use Rattle.solv_core.specs.Inner.Holding.{IsHeldBy}
 use Rattle.solv_core.specs.Inner.Running.{is_spent_verdict}
 use Rattle.solv_core.specs.Ledgers.{IsGoodLedger}
 use Rattle.solv_questions.specs.Questions.{asks, request_of}
-use Rattle.solv_plan.specs.Inner.Behind.{rest_by}
 use Rattle.solv_decide.specs.Inner.Deciding.{IsAskedFor, IsDecided}
 use Rattle.solv_decide.specs.declared.deciding.Decided.{Decided}
 use Rattle.solv_decide.specs.declared.deciding.Left.{Left}
-use Rattle.solv_rules.specs.Books.{IsBook, Written, first_fault, is_bookable, read_rules, spans_from}
-use Rattle.solv_rules.specs.Inner.Drafting.{IsBegun, IsFront, clauses_before}
+use Rattle.solv_rules.specs.Books.{IsBook, first_fault, is_bookable, read_rules}
+use Rattle.solv_rules.specs.Inner.Drafting.{IsBegun, IsFront}
 use Rattle.solv_rules.specs.declared.drafts.Draft.{Draft}
-use Rattle.solv_rules.proofs.Fronts.{both_parts, clauses_join, stand_before, take_front}
+use Rattle.solv_rules.proofs.Fronts.{both_parts}
 use Rattle.solv_answers.specs.Answers.{IsPrepared}
 use Rattle.solv_answers.specs.Inner.Decisions.{HasDecided, core_made}
 use Rattle.solv_answers.specs.Inner.Fronts.{HasFront, IsLeftFor, MayGoOn, Reads, front_rules}
@@ -105,11 +102,12 @@ module _ (catalog : Catalog) (flags : Flags) (jobs : List Job) (marks : Marks) w
       behind_first (front_rules catalog flags marks) (update_rules catalog flags marks jobs) (feature_rules catalog flags marks) (job_rules catalog jobs) (best_job_rules catalog jobs) (best_update_rules catalog flags marks jobs)
 
 -- where flags and marks count alike, the first rules are the same
-pub front_alike : (catalog : Catalog) (f g : Flags) (m n : Marks) → f.no_infarch_check ≡ g.no_infarch_check → m.verify ≡ n.verify → m.multiversion ≡ n.multiversion → front_rules catalog f m ≡ front_rules catalog g n
-front_alike catalog f g m n checks verify multiversion =
+pub front_alike : (catalog : Catalog) (f g : Flags) (m n : Marks) → f.no_infarch_check ≡ g.no_infarch_check → m.verify ≡ n.verify → m.multiversion ≡ n.multiversion → m.left_out ≡ n.left_out → front_rules catalog f m ≡ front_rules catalog g n
+front_alike catalog f g m n checks verify multiversion left_out =
     ap (λ b. package_rules catalog m ++ infarch_rules catalog (record f { no_infarch_check = b })) checks
     ∙ ap (λ v. package_rules catalog (record m { verify = v }) ++ infarch_rules catalog g) verify
     ∙ ap (λ v. package_rules catalog (record m { verify = n.verify; multiversion = v }) ++ infarch_rules catalog g) multiversion
+    ∙ ap (λ v. package_rules catalog (record m { verify = n.verify; multiversion = n.multiversion; left_out = v }) ++ infarch_rules catalog g) left_out
 
 -- clauses of the first rules
 -- a book may begin with the clauses of another's first rules

@@ -1,5 +1,5 @@
 -- A text or a relation that is entered, whether it is new or not.
-use Rattle.std.proofs.Common.{◌≡◌, ◌<◌, ◌∙◌, ◌||◌, ◌+◌, ℕ, suc, Bool, true, false, not, cond, List, ◌∷◌, [], ◌++◌, Some, Contains, slice_get, length, inl, inr, refl, sym, ap, subst, arith}
+use Rattle.std.proofs.Common.{◌≡◌, ◌<◌, ◌∙◌, ◌||◌, ◌+◌, ℕ, suc, Bool, true, false, not, cond, List, ◌∷◌, [], ◌++◌, Some, Contains, slice_get, length, inl, inr, refl, ap, arith}
 use Rattle.std.specs.Prelude.{if◌then◌else◌}
 use Rattle.std.proofs.lemmas.Bool.{cases_Bool}
 use Rattle.std.proofs.lemmas.Option.{slice_get-get_or}

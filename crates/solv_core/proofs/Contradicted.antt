@@ -1,7 +1,7 @@
 -- The derivation by a clause that is falsified without a choice.
 use Rattle.std.proofs.Common.{◌≡◌, ℕ, inl, inr, arith, eq-eqb, ◌<◌, ◌==◌, Bool, true, false, ◌||◌, List, [], ◌∷◌, ◌++◌, length, Option, Some, None, refl, sym, ap, ◌∙◌, subst}
 use Rattle.std.specs.Prelude.{ℤ, nat_lt, ◌&&◌, slice_get, unwrap_or}
-use Rattle.std.specs.List.{list_all, list_any}
+use Rattle.std.specs.List.{list_any}
 use Rattle.std.proofs.lemmas.Bool.{and_parts, and_from, or_left, or_right, or_cases, false≢true}
 use Rattle.std.proofs.lemmas.Option.{slice_get_within}
 use Rattle.solv_derive.specs.Leaves.{leaves, named_rules}

@@ -16,7 +16,7 @@ use Rattle.solv_deps.specs.Words.{words}
 use Rattle.solv_deps.specs.declared.sign.Conditional.{Conditional}
 use Rattle.solv_deps.specs.Grammar.{opens, closes, operator, operator_spelled, sign, comparison, is_plain, is_namespace}
 use Rattle.solv_deps.specs.Inner.Drafts.{said, Extends, Enters}
-use Rattle.solv_deps.specs.Reading.{Hand, Point, at_operand, at_evr, at_other, at_operator, operand_due, operator_due, evr_due, in_chain, in_difference, in_condition, in_else, in_inner_else, whole, closed, go_on, comparison_due, reading, reading_from, end_due}
+use Rattle.solv_deps.specs.Reading.{Hand, Point, at_operand, at_evr, at_other, at_operator, operator_due, in_chain, in_difference, in_condition, whole, closed, go_on, comparison_due, reading, reading_from, end_due}
 use Rattle.solv_deps.specs.Inner.Points.{rule_hand, hands, due_seen, seen, rule_in, rules_in, pending, option_pending, rules_pending, due_pending, due_entered, Belongs, Stands, GoesOn, Leads, Ends}
 use Rattle.solv_deps.proofs.Complete.{choose_second, not_full}
 use Rattle.solv_list.proofs.Booleans.{first_of_both, second_of_both}

@@ -12,7 +12,7 @@ use Rattle.solv_deps.specs.declared.sign.Operator.{Operator}
 use Rattle.solv_deps.specs.declared.sign.Operator.TheVariants.{Link, Minus, Condition, Else}
 use Rattle.solv_io.specs.Words.{is_blank}
 use Rattle.solv_deps.specs.Words.{is_open, is_close, ends_word, unpaired_after, unpaired_in, word_rest, words_behind, words}
-use Rattle.solv_deps.specs.Grammar.{comparison, no_comparison, is_plain, is_namespace, joined, under_else, by_sign, sign, Operand, Chain, Expr, name, compared, inside, two, more, alone, chain, less, provided, provided_else, provided_inside, operand_words, chain_words, expr_words, operand_sense, chain_sense, expr_sense, operand_right, chain_right, expr_right, operand_depth, chain_depth, expr_depth, operand_operators, chain_operators, expr_operators}
+use Rattle.solv_deps.specs.Grammar.{comparison, no_comparison, is_plain, is_namespace, joined, by_sign, sign, Operand, Chain, Expr, name, compared, inside, two, more, alone, chain, less, provided, provided_else, provided_inside, operand_words, chain_words, expr_words, operand_sense, chain_sense, expr_sense, operand_right, chain_right, expr_right, operand_depth, chain_depth, expr_depth, operand_operators, chain_operators, expr_operators}
 use Rattle.solv_deps.specs.Reading.{same_joint, reading}
 use Rattle.solv_deps.specs.Canonical.{comparison_text, is_rich, is_chain, ends_unpaired, space_before_close, parenthesised, operand_text, spaced, chain_text, text}
 use Rattle.solv_deps.proofs.Complete.{written_is_read}

@@ -2,8 +2,7 @@
 use Rattle.std.proofs.Common.{◌≡◌, ℕ, Bool, true, false, List, ◌++◌, map, refl, sym, ap, ◌∙◌}
 use Rattle.std.specs.List.{list_all}
 use Rattle.std.proofs.lemmas.List.{map-append}
-use Rattle.solv_base.specs.Dependency.{Dep, and, or, with, without, if_then, if_else, unless, unless_else, package_wise, operators, tree, map_dep}
-use Rattle.solv_base.specs.Places.{fits_place, unconditional}
+use Rattle.solv_base.specs.Dependency.{Dep, tree}
 use Rattle.solv_base.specs.Pool.{text_at, text_tree}
 use Rattle.solv_deps.specs.Table.{is_capability}
 use Rattle.solv_pool.specs.Catalog.{Catalog, catalog_of}
@@ -17,44 +16,7 @@ use Rattle.solv_pool.specs.declared.packages.Package.{Package}
 use Rattle.solv_pool.specs.declared.tasks.Task.{Task}
 use Rattle.solv_script.specs.Inner.WrittenForms.{HasWrittenForms, is_written_choice}
 use Rattle.solv_tags.specs.EntryForms.{has_written_form, is_written_formed}
-use Rattle.solv_tags.proofs.FormsById.{same_all, written_plain}
-
--- a dependency keeps its form where its names are replaced
-module _ (f : ℕ → List ℕ) where
-  wise_mapped : (d : Dep ℕ) → package_wise (map_dep f d) ≡ package_wise d
-  wise_mapped (or a b) = rw (wise_mapped a, wise_mapped b) refl
-  wise_mapped (with a b) = rw (wise_mapped a, wise_mapped b) refl
-  wise_mapped (without a b) = rw (wise_mapped a, wise_mapped b) refl
-  wise_mapped _ = refl
-
-  unconditional_mapped : (d : Dep ℕ) → unconditional (map_dep f d) ≡ unconditional d
-  unconditional_mapped (and a b) = rw (unconditional_mapped a, unconditional_mapped b) refl
-  unconditional_mapped (or a b) = rw (unconditional_mapped a, unconditional_mapped b) refl
-  unconditional_mapped (with a b) = rw (wise_mapped a, wise_mapped b) refl
-  unconditional_mapped (without a b) = rw (wise_mapped a, wise_mapped b) refl
-  unconditional_mapped _ = refl
-
-  fits_mapped : (at : Bool) (d : Dep ℕ) → fits_place at (map_dep f d) ≡ fits_place at d
-  fits_mapped at (and a b) = rw (fits_mapped at a, fits_mapped at b) refl
-  fits_mapped at (or a b) = rw (fits_mapped at a, fits_mapped at b) refl
-  fits_mapped at (with a b) = rw (wise_mapped a, wise_mapped b) refl
-  fits_mapped at (without a b) = rw (wise_mapped a, wise_mapped b) refl
-  fits_mapped at (if_then a b) = rw (fits_mapped at a, unconditional_mapped b) refl
-  fits_mapped at (if_else a b c) = rw (fits_mapped at a, unconditional_mapped b, fits_mapped at c) refl
-  fits_mapped at (unless a b) = rw (fits_mapped at a, unconditional_mapped b) refl
-  fits_mapped at (unless_else a b c) = rw (fits_mapped at a, unconditional_mapped b, fits_mapped at c) refl
-  fits_mapped at _ = refl
-
-  operators_mapped : (d : Dep ℕ) → operators (map_dep f d) ≡ operators d
-  operators_mapped (and a b) = rw (operators_mapped a, operators_mapped b) refl
-  operators_mapped (or a b) = rw (operators_mapped a, operators_mapped b) refl
-  operators_mapped (with a b) = rw (operators_mapped a, operators_mapped b) refl
-  operators_mapped (without a b) = rw (operators_mapped a, operators_mapped b) refl
-  operators_mapped (if_then a b) = rw (operators_mapped a, operators_mapped b) refl
-  operators_mapped (if_else a b c) = rw (operators_mapped a, operators_mapped b, operators_mapped c) refl
-  operators_mapped (unless a b) = rw (operators_mapped a, operators_mapped b) refl
-  operators_mapped (unless_else a b c) = rw (operators_mapped a, operators_mapped b, operators_mapped c) refl
-  operators_mapped _ = refl
+use Rattle.solv_tags.proofs.FormsById.{fits_mapped, operators_mapped, same_all, written_plain}
 
 module _ (catalog : Catalog) where
   form_written : (at : Bool) (d : ℕ) → has_written_form at (text_tree catalog.pool d) ≡ has_form catalog at d

@@ -185,6 +185,7 @@ pub fn read_marks(alloc: Global, task: &Task, prov: &Providers) -> Result<Marks,
         allow_uninstall: marked_by(alloc, task, prov, Mark::AllowUninstall)?,
         erased: marked_by(alloc, task, prov, Mark::Erased)?,
         favour: favours(alloc, task, prov)?,
+        left_out: Items::wrap(Vec::new(alloc)),
     })
 }
 

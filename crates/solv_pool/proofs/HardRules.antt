@@ -1,5 +1,5 @@
 -- The rules of a task name its packages; so the system alone meets the fixed ones, and no rule speaks of anything else.
-use Rattle.std.proofs.Common.{◌≡◌, ℕ, zero, suc, Bool, true, false, not, ◌&&◌, ◌||◌, List, [], ◌∷◌, ◌++◌, length, map, Some, refl, ap, subst, ◌∙◌, arith}
+use Rattle.std.proofs.Common.{◌≡◌, ℕ, zero, suc, Bool, true, false, not, ◌&&◌, ◌||◌, List, length, Some, refl, ap, subst, arith}
 use Rattle.std.specs.Prelude.{filter, ◌==◌, Contains}
 use Rattle.std.specs.List.{list_all}
 use Rattle.std.specs.Bool.{beq}
@@ -8,8 +8,8 @@ use Rattle.solv_pool.specs.declared.jobs.Job.{Job}
 use Rattle.solv_pool.specs.declared.job_marks.Marks.{Marks}
 use Rattle.solv_pool.specs.declared.tasks.Flags.{Flags}
 use Rattle.solv_pool.specs.declared.tasks.Task.{Task}
-use Rattle.solv_pool.specs.Words.{is_among, when}
-use Rattle.solv_pool.specs.Catalog.{Catalog, catalog_of, packages, members, package_at, dependency, is_installed}
+use Rattle.solv_pool.specs.Words.{is_among}
+use Rattle.solv_pool.specs.Catalog.{Catalog, catalog_of, packages, members, dependency, is_installed}
 use Rattle.solv_pool.specs.Holding.{package_meets, member_meets, holds, leaving_out}
 use Rattle.solv_pool.specs.JobMarks.{marks_of}
 use Rattle.solv_pool.specs.RuleMeaning.{HardRule, not_installable, req, con, rich_con, obs, same, infarch, update, dup, feature, install, erase, lock, best_job, best_update, Shape, out, requirement, conflict, not_both, some_of, none_of, as_installed, shape_of, meets_shape, is_fixed, meets_rule}

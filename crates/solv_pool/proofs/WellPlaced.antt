@@ -1,8 +1,8 @@
 -- The hard rules of a task whose dependencies have forms for their places are well placed.
-use Rattle.std.proofs.Common.{◌≡◌, ℕ, zero, suc, Bool, true, false, not, ◌&&◌, List, [], ◌∷◌, ◌++◌, map, Some, refl, subst}
-use Rattle.std.specs.Prelude.{filter, Contains, nat_le}
+use Rattle.std.proofs.Common.{◌≡◌, ℕ, zero, suc, Bool, true, false, not, ◌&&◌, List, Some, refl, subst}
+use Rattle.std.specs.Prelude.{Contains}
 use Rattle.std.specs.List.{list_all}
-use Rattle.solv_base.specs.Dependency.{operators, package_wise}
+use Rattle.solv_base.specs.Dependency.{package_wise}
 use Rattle.solv_base.specs.Places.{fits_place}
 use Rattle.solv_pool.specs.declared.packages.Package.{Package}
 use Rattle.solv_pool.specs.declared.jobs.Job.{Job}

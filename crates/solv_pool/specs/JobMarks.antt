@@ -1,5 +1,5 @@
--- How jobs mark packages.
-use Rattle.std.specs.Prelude.{ℕ, ℤ, pos, negsuc, Bool, false, ◌||◌, List, ◌∷◌, map, fold, unwrap_or, slice_get, if◌then◌else◌}
+-- How jobs mark packages. They leave none out.
+use Rattle.std.specs.Prelude.{ℕ, ℤ, pos, negsuc, Bool, false, ◌||◌, List, [], ◌∷◌, map, fold, unwrap_or, slice_get, if◌then◌else◌}
 use Rattle.solv_pool.specs.Catalog.{Catalog, catalog_of, packages}
 use Rattle.solv_pool.specs.Selections.{selects}
 use Rattle.solv_pool.specs.JobKinds.{is_update, is_distupgrade, is_verify, is_multiversion, is_allow_uninstall, is_erase, job_selects, job_selects_installed}
@@ -43,6 +43,7 @@ module _ (catalog : Catalog) (jobs : List Job) where
     allow_uninstall = mark_each (job_selects_installed catalog jobs is_allow_uninstall);
     erased = mark_each (job_selects catalog jobs is_erase);
     favour = pos 0 ∷ map favour_of (packages catalog);
+    left_out = [];
   }
 
   -- the same, and what is cleaned is marked as what erase jobs select

@@ -17,6 +17,8 @@ pub struct Marks {
     pub erased: Items<bool>,
     /// 1 for a favoured package, -1 for a disfavoured one, 0 for all others.
     pub favour: Items<i8>,
+    /// No rules are made of what it requires, since nothing can ask for it. Jobs mark none so: where the list ends, no package is.
+    pub left_out: Items<bool>,
 }
 
 impl Drop for Marks {
@@ -29,6 +31,7 @@ impl Drop for Marks {
             allow_uninstall: _,
             erased: _,
             favour: _,
+            left_out: _,
         } = self;
     }
 }

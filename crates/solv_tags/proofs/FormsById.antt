@@ -51,7 +51,7 @@ module _ (f : ℕ → List ℕ) where
   unconditional_mapped (unless_else a b c) = refl
   unconditional_mapped missing = refl
 
-  fits_mapped : (at : Bool) (d : Dep ℕ) → fits_place at (map_dep f d) ≡ fits_place at d
+  pub fits_mapped : (at : Bool) (d : Dep ℕ) → fits_place at (map_dep f d) ≡ fits_place at d
   fits_mapped at (one c) = refl
   fits_mapped at (namespace n) = refl
   fits_mapped at (and a b) = rw (fits_mapped at a, fits_mapped at b) refl
@@ -64,7 +64,7 @@ module _ (f : ℕ → List ℕ) where
   fits_mapped at (unless_else a b c) = rw (fits_mapped at a, unconditional_mapped b, fits_mapped at c) refl
   fits_mapped at missing = refl
 
-  operators_mapped : (d : Dep ℕ) → operators (map_dep f d) ≡ operators d
+  pub operators_mapped : (d : Dep ℕ) → operators (map_dep f d) ≡ operators d
   operators_mapped (one c) = refl
   operators_mapped (namespace n) = refl
   operators_mapped (and a b) = rw (operators_mapped a, operators_mapped b) refl

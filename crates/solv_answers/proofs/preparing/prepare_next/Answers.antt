@@ -1,7 +1,5 @@
-use Rattle.std.proofs.Common.{◌∙◌, List, ap, length, subst, sym}
-use Rattle.std.specs.Prelude.{flat_map}
+use Rattle.std.proofs.Common.{◌∙◌, List, ap, subst, sym}
 use Rattle.solv_pool.specs.Catalog.{catalog_of}
-use Rattle.solv_pool.specs.Clauses.{rule_clauses}
 use Rattle.solv_pool.specs.RuleMeaning.{HardRule}
 use Rattle.solv_rules.specs.Books.{IsBook, Written, first_fault, read_rules}
 use Rattle.solv_answers.specs.Inner.Fronts.{HasFront, front_rules}
@@ -17,7 +15,7 @@ go_on-requires-clause-fits c = ap (λ (b : Written). first_fault (catalog_of c.a
 pub go_on-requires-clause-front : goal.go_on-requires-clause-front
 go_on-requires-clause-front c =
     let three = c.has_front.ensures c.if-has_front.true in
-    let same = front_alike (catalog_of c.args.task.now) c.args.before.flags c.args.task.now.flags c.args.before.marks c.in-Ok.marks three.0 three.1 three.2 in
+    let same = front_alike (catalog_of c.args.task.now) c.args.before.flags c.args.task.now.flags c.args.before.marks c.in-Ok.marks three.0 three.1 three.2 three.3 in
     subst (λ (b : Written). HasFront (front_rules (catalog_of c.args.task.now) c.args.task.now.flags c.in-Ok.marks) b.rules c.args.before.front) (sym c.into_parts-book.ensures.book)
     (subst (λ (l : List HardRule). HasFront l c.args.before.book.rules c.args.before.front) same c.requires.before.front)
 

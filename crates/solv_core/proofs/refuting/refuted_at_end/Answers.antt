@@ -1,4 +1,4 @@
-use Rattle.std.proofs.Common.{◌≡◌, ◌∙◌, ℕ, ap, subst}
+use Rattle.std.proofs.Common.{◌∙◌, ℕ, ap, subst}
 use Rattle.std.specs.Prelude.{IfOk}
 use Rattle.solv_derive.specs.Range.{are_over}
 use Rattle.solv_core.specs.Inner.Contradictions.{AreRefuted}

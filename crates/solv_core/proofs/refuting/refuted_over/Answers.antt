@@ -1,5 +1,4 @@
-use Rattle.std.proofs.Common.{◌<◌, ◌^◌, ℕ, List, ap, arith, Bool, false, length, subst, sym, refl, Some}
-use Rattle.std.specs.Prelude.{ℤ}
+use Rattle.std.proofs.Common.{ℕ, ap, arith, Bool, false, subst, refl, Some}
 use Rattle.std.proofs.lemmas.Bool.{or_left}
 use Rattle.solv_trail.specs.Propagated.{in_use}
 use Rattle.solv_pack.specs.Inner.Packing.{Memory}

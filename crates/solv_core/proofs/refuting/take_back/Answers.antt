@@ -1,5 +1,4 @@
-use Rattle.std.proofs.Common.{◌≡◌, ◌∙◌, ℕ, Bool, List, sym, subst}
-use Rattle.std.specs.Prelude.{ℤ}
+use Rattle.std.proofs.Common.{◌∙◌, sym, subst}
 use Rattle.solv_trail.specs.Inner.Held.{Held}
 use Rattle.solv_trail.specs.Inner.Propagated.{IsReasoned}
 use Rattle.solv_core.proofs.Bottom.{none_of_none, reasoned_front}

@@ -1,7 +1,7 @@
-use Rattle.std.proofs.Common.{◌∙◌, ℕ, List, sym, ap, subst, arith}
+use Rattle.std.proofs.Common.{◌∙◌, ℕ, List, ap, subst, arith}
 use Rattle.std.specs.List.{list_all}
 use Rattle.std.specs.Option.{IfSome}
-use Rattle.std.specs.Prelude.{Option, IfOk, is_none}
+use Rattle.std.specs.Prelude.{Option, IfOk}
 use Rattle.solv_core.specs.Cores.{CoreOf}
 use Rattle.solv_core.specs.Inner.Contradictions.{AreRefuted}
 use Rattle.solv_remedy.specs.Inner.Trying.{is_off_in, IsLogOf}
@@ -9,7 +9,7 @@ use Rattle.solv_remedy.specs.Inner.Runs.{IsOf}
 use Rattle.solv_remedy.specs.Inner.Conflicts.{listed_of, AreApart, AreMore, AreSettled, IsRest}
 use Rattle.solv_remedy.specs.declared.smallest.Conflict.{Conflict}
 use Rattle.solv_remedy.proofs.Ledgers.{on_ok}
-use Rattle.solv_remedy.proofs.Ran.{ran_then, ran_within, may_still}
+use Rattle.solv_remedy.proofs.Ran.{ran_then, ran_within}
 use Rattle.solv_remedy.proofs.More.{more_none}
 use Rattle.solv_remedy.proofs.collecting.look_on.Goals as goal
 use Rattle.solv_remedy.proofs.collecting.look_on.Goals.{In-Some}
@@ -25,9 +25,6 @@ returns-in-None-clause-has_run c = ran_within (omega arith) c.refuted_alone.ensu
 
 pub returns-in-None-clause-more : goal.returns-in-None-clause-more
 returns-in-None-clause-more c = more_none c.args.conflicts.now.items
-
-pub begin-requires-clause-may_run : goal.begin-requires-clause-may_run
-begin-requires-clause-may_run c = may_still c.requires.may_run c.refuted_alone.ensures.has_run (sym (ap is_none c.in-Some.is) ∙ c.in_ok-found.ensures.spent)
 
 pub begin-requires-clause-droppable : goal.begin-requires-clause-droppable
 begin-requires-clause-droppable c =

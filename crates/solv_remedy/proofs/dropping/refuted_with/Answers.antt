@@ -3,9 +3,6 @@ use Rattle.solv_remedy.proofs.Ran.{ran_not}
 use Rattle.solv_remedy.proofs.Switched.{fixed_left}
 use Rattle.solv_remedy.proofs.dropping.refuted_with.Goals as goal
 
-pub run_and_look-requires-clause-size : goal.run_and_look-requires-clause-size
-run_and_look-requires-clause-size c = search rules
-
 pub run_and_look-requires-clause-fixed : goal.run_and_look-requires-clause-fixed
 run_and_look-requires-clause-fixed c =
     let way = c.args.way.now in

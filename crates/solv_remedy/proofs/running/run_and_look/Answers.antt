@@ -31,6 +31,3 @@ returns-clause-has_run c =
       runs = runs_one s.phases.now c.args.core.now.made s.fixed.now run old new c.requires.fixed e.ledger.budget e.ledger.few e.ledger.earlier_runs e.ledger.earlier_entries e.good
           (noted c.args.enabled.now old new c.args.core.now c.solve_looking.new.core c.solve_looking.result e.run e.refused);
     }
-
-pub returns-clause-decided : goal.returns-clause-decided
-returns-clause-decided c = λ r up. c.solve_looking.ensures.decided r up.asked

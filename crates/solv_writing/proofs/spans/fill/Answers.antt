@@ -1,4 +1,4 @@
-use Rattle.std.proofs.Common.{◌≡◌, ◌+◌, ◌-◌, ◌∙◌, slice_get, length, refl, ap, subst, arith, sym}
+use Rattle.std.proofs.Common.{◌≡◌, ◌+◌, ◌-◌, ◌∙◌, slice_get, length, ap, subst, arith, sym}
 use Rattle.solv_writing.specs.Inner.Spans.{AreSpans}
 use Rattle.solv_writing.proofs.spans.fill.Goals as goal
 

@@ -6,7 +6,7 @@ use Rattle.solv_base.proofs.Names.{id_of_new}
 use Rattle.solv_base.proofs.Growth.{Grows-name}
 use Rattle.solv_base.proofs.Pools.{name_at, IsPool-name}
 use Rattle.solv_base.proofs.interning.Pool.intern_any.Goals as goal
-use Rattle.solv_base.proofs.interning.Pool.intern_any.Goals.{In-Some, Else-is_err}
+use Rattle.solv_base.proofs.interning.Pool.intern_any.Goals.{Else-is_err}
 use Rattle.solv_list.proofs.Lists.{at_end}
 
 pub returns-in-Some-clause-text : goal.returns-in-Some-clause-text

@@ -1,4 +1,4 @@
-use Rattle.std.proofs.Common.{◌≡◌, ◌∙◌, ◌∷◌, [], ◌++◌, List, ℕ, true, false, inl, inr, sym, ap, subst, length, slice_get, Some, ◌<◌}
+use Rattle.std.proofs.Common.{◌≡◌, ◌∙◌, List, true, sym, ap, subst, length, slice_get, Some, ◌<◌}
 use Rattle.solv_base.specs.Dependency.{tree, tree_of_node}
 use Rattle.solv_base.specs.Pool.{Held, IsPool, most, text_at, text_tree}
 use Rattle.solv_base.specs.Inner.Pool.{uses_below, text_tree_of_node}

@@ -1,4 +1,4 @@
-use Rattle.std.proofs.Common.{◌≡◌, ◌<◌, true, inl, inr, arith, ap, ◌∙◌}
+use Rattle.std.proofs.Common.{inl, inr, arith, ap, ◌∙◌}
 use Rattle.std.proofs.lemmas.Bool.{cases_lt}
 use Rattle.solv_plan.specs.Inner.Entries.{is_settled}
 use Rattle.solv_plan.proofs.settled.Settled.first_unsettled.Goals as goal
