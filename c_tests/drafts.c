@@ -205,6 +205,39 @@ static void same_text(size_t a_len, const uint8_t *a, size_t b_len, const uint8_
 
 static uint8_t text_a[200000], text_b[200000];
 
+/* A rule says the same; what number its dependency has is its task's. */
+static void same_rule(gachuswi_task *a, gachuswi_task *b, size_t rule) {
+    static uint32_t packs_a[20000], packs_b[20000];
+    gachuswi_rule of_a, of_b;
+    size_t a_len = 0, b_len = 0;
+    claim(gachuswi_rule_get(a, rule, &of_a) == 0 && gachuswi_rule_get(b, rule, &of_b) == 0, "a rule");
+    if (of_a.kind >= GACHUSWI_RULE_REQUIRES && of_a.kind <= GACHUSWI_RULE_OBSOLETES) {
+        claim(gachuswi_dep_text(a, of_a.dep, text_a, sizeof text_a, &a_len) == 0 && gachuswi_dep_text(b, of_b.dep, text_b, sizeof text_b, &b_len) == 0, "a dependency");
+        same_text(a_len, text_a, b_len, text_b, "texts of a dependency");
+    }
+    of_a.dep = of_b.dep;
+    claim(!memcmp(&of_a, &of_b, sizeof of_a), "rules");
+    claim(gachuswi_rule_packages(a, rule, packs_a, 20000, &a_len) == 0 && gachuswi_rule_packages(b, rule, packs_b, 20000, &b_len) == 0, "packages of a rule");
+    claim(a_len == b_len && a_len <= 20000 && !memcmp(packs_a, packs_b, a_len * sizeof *packs_a), "other packages of a rule");
+}
+
+static void same_proof(gachuswi_task *a, gachuswi_task *b, size_t p) {
+    size_t a_len = 0, b_len = 0;
+    claim(gachuswi_problem_proof(a, p, text_a, sizeof text_a, &a_len) == 0 && gachuswi_problem_proof(b, p, text_b, sizeof text_b, &b_len) == 0, "a proof");
+    claim(a_len <= sizeof text_a, "a long proof");
+    same_text(a_len, text_a, b_len, text_b, "proofs");
+}
+
+static void same_cycles(gachuswi_task *a, gachuswi_task *b, bool pre) {
+    static uint32_t packs_a[20000], packs_b[20000];
+    claim(gachuswi_task_cycles(a, pre) == gachuswi_task_cycles(b, pre), "how many cycles");
+    for (size_t i = 0; i < gachuswi_task_cycles(a, pre); i++) {
+        size_t a_len = 0, b_len = 0;
+        claim(gachuswi_cycle_packages(a, pre, i, packs_a, 20000, &a_len) == 0 && gachuswi_cycle_packages(b, pre, i, packs_b, 20000, &b_len) == 0, "a cycle");
+        claim(a_len == b_len && a_len <= 20000 && !memcmp(packs_a, packs_b, a_len * sizeof *packs_a), "cycles");
+    }
+}
+
 static void same_problem(gachuswi_task *a, gachuswi_task *b, size_t p) {
     static size_t rules_a[20000], rules_b[20000];
     size_t a_len = 0, b_len = 0, a_count = 0, b_count = 0;
@@ -214,7 +247,9 @@ static void same_problem(gachuswi_task *a, gachuswi_task *b, size_t p) {
         size_t a_size = 0, b_size = 0;
         claim(gachuswi_rule_text(a, rules_a[i], text_a, sizeof text_a, &a_size) == 0 && gachuswi_rule_text(b, rules_b[i], text_b, sizeof text_b, &b_size) == 0, "a rule's text");
         same_text(a_size, text_a, b_size, text_b, "texts of a rule");
+        same_rule(a, b, rules_a[i]);
     }
+    same_proof(a, b, p);
     claim(gachuswi_problem_solutions(a, p, &a_count) == 0 && gachuswi_problem_solutions(b, p, &b_count) == 0 && a_count == b_count, "solutions");
     for (size_t s = 0; s < a_count; s++) {
         size_t a_size = 0, b_size = 0;
@@ -229,6 +264,9 @@ static void same(gachuswi_task *read, gachuswi_task *built) {
     same_changes(read, built);
     same_numbers(gachuswi_task_order, read, built, "the order");
     same_numbers(gachuswi_task_set, read, built, "the set");
+    same_cycles(read, built, false);
+    same_cycles(read, built, true);
+    claim(gachuswi_task_rules(read) == gachuswi_task_rules(built), "how many rules");
     claim(gachuswi_task_problems(read) == gachuswi_task_problems(built), "how many problems");
     for (size_t p = 0; p < gachuswi_task_problems(read); p++) same_problem(read, built, p);
 }

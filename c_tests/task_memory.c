@@ -34,6 +34,20 @@ static int32_t solution_text(gachuswi_task *task) {
     return code;
 }
 
+static int32_t dep_text(gachuswi_task *task) {
+    size_t count = 4711;
+    int32_t code = gachuswi_dep_text(task, 0, room, sizeof room, &count);
+    if (code == GACHUSWI_NO_MEMORY && count != 4711) failed++;
+    return code;
+}
+
+static int32_t proof(gachuswi_task *task) {
+    size_t count = 4711;
+    int32_t code = gachuswi_problem_proof(task, 0, room, sizeof room, &count);
+    if (code == GACHUSWI_NO_MEMORY && count != 4711) failed++;
+    return code;
+}
+
 static int32_t rule_text(gachuswi_task *task) {
     size_t count = 4711;
     int32_t code = gachuswi_rule_text(task, 0, room, sizeof room, &count);
@@ -49,7 +63,7 @@ static unsigned long kept(gachuswi_task *task) {
     for (size_t i = 0; i < count && i < 1000; i++) sum = sum * 31 + changes[i].kind * 7 + changes[i].pack * 3 + changes[i].by;
     for (size_t p = 0; p < gachuswi_task_problems(task); p++)
         if (!gachuswi_problem_rules(task, p, NULL, 0, &rules)) sum = sum * 31 + rules;
-    sum = sum * 31 + gachuswi_task_packages(task) + 7 * gachuswi_task_repos(task);
+    sum = sum * 31 + gachuswi_task_packages(task) + 7 * gachuswi_task_repos(task) + 3 * gachuswi_task_rules(task) + gachuswi_task_cycles(task, false);
     return sum * 31 + gachuswi_task_set(task, NULL, 0) + gachuswi_task_err(task, NULL, 0);
 }
 
@@ -123,10 +137,13 @@ static void refuse_each(const gachuswi_options *options) {
     refuse("solve", &task, solve);
     refuse("solve with an answer before", &task, solve);
     refuse("a package's text", &task, package_text);
+    refuse("a dependency's text", &task, dep_text);
     refuse("a rule's text", &task, rule_text);
+    refuse("a proof", &task, proof);
     refuse("a solution's text", &task, solution_text);
     refuse("solve again", &task, again);
     refuse("a solution's text", &task, solution_text);
+    refuse("an answer with an answer before", &task, answer_it);
     keeps_memory = true;
     if (gachuswi_task_packages(&task) > 0 && gachuswi_jobs_clear(&task) == GACHUSWI_DONE) {
         refuse("packages", &task, add_packages);
@@ -137,6 +154,7 @@ static void refuse_each(const gachuswi_options *options) {
         refuse("a job by a dependency", &task, add_job_by);
         refuse("packages", &task, add_packages);
         refuse("an answer", &task, answer_it);
+        refuse("an answer with an answer before", &task, answer_it);
     }
     keeps_memory = false;
     refuse("open", &task, open_one);

@@ -60,6 +60,47 @@ static void changes(gachuswi_task *task) {
     size_t order = gachuswi_task_order(task, &first, 0);
     claim(order <= 2 * count && first == 0, "the order");
     free(all);
+    for (int pre = 0; pre < 2; pre++) {
+        size_t cycles = gachuswi_task_cycles(task, pre), last = 4711;
+        for (size_t i = 0; i < cycles; i++)
+            claim(gachuswi_cycle_packages(task, pre, i, &first, 1, &last) == 0 && last >= 2 && last <= order && first > 0, "a cycle");
+        last = 4711;
+        claim(gachuswi_cycle_packages(task, pre, cycles, &first, 1, &last) == GACHUSWI_MISUSE && last == 4711, "no such cycle");
+    }
+}
+
+/* What a rule of a problem names is there. */
+static void rule_is_whole(gachuswi_task *task, size_t number) {
+    gachuswi_rule rule;
+    uint32_t count = gachuswi_task_packages(task), packs[100];
+    size_t carried = 4711, len = 0;
+    claim(number < gachuswi_task_rules(task) && gachuswi_rule_get(task, number, &rule) == 0, "a rule");
+    claim(rule.kind <= GACHUSWI_RULE_BEST_UPDATE && rule.pack <= count && rule.other <= count, "what a rule names");
+    claim(gachuswi_rule_packages(task, number, packs, 100, &carried) == 0, "packages of a rule");
+    claim(carried == 0 || rule.kind >= GACHUSWI_RULE_UPDATE, "a rule that carries packages");
+    for (size_t i = 0; i < carried && i < 100; i++) claim(packs[i] > (i ? packs[i - 1] : 0) && packs[i] <= count, "ascending packages of a rule");
+    bool has_dep = rule.kind >= GACHUSWI_RULE_REQUIRES && rule.kind <= GACHUSWI_RULE_OBSOLETES;
+    if (has_dep) claim(gachuswi_dep_text(task, rule.dep, NULL, 0, &len) == 0 && len > 0, "the text of a dependency");
+}
+
+/* The proofs of all problems, one behind the other, as gachuswi_run gives them. */
+static char *proofs(gachuswi_task *task, size_t *len) {
+    static const char head[] = "proof 1\n";
+    char *all = malloc(1);
+    *len = 0;
+    for (size_t p = 0; p < gachuswi_task_problems(task); p++) {
+        size_t size = 0, again = 0;
+        claim(gachuswi_problem_proof(task, p, NULL, 0, &size) == 0 && size > sizeof head, "a proof");
+        char *one = malloc(size);
+        claim(gachuswi_problem_proof(task, p, (uint8_t *)one, size, &again) == 0 && again == size, "another proof");
+        claim(!memcmp(one, head, sizeof head - 1), "the first line of a proof");
+        size_t from = p ? sizeof head - 1 : 0;
+        all = realloc(all, *len + size);
+        memcpy(all + *len, one + from, size - from);
+        *len += size - from;
+        free(one);
+    }
+    return all;
 }
 
 static void problem(gachuswi_task *task, size_t p) {
@@ -73,6 +114,7 @@ static void problem(gachuswi_task *task, size_t p) {
         text[len] = 0;
         snprintf(line, sizeof line, "problem %zu info %s", p + 1, text);
         add(line);
+        rule_is_whole(task, rules[i]);
     }
     claim(gachuswi_problem_solutions(task, p, &solutions) == 0, "solutions");
     for (size_t s = 0; s < solutions; s++) {
@@ -102,6 +144,10 @@ static void nothing(gachuswi_task *task) {
     claim(gachuswi_problem_solutions(task, gachuswi_task_problems(task), &kept) == GACHUSWI_MISUSE, "no such problem");
     claim(gachuswi_package_text(task, 4294967295u, NULL, 0, &kept) == GACHUSWI_MISUSE, "no such package");
     claim(gachuswi_rule_text(task, (size_t)-1, NULL, 0, &kept) == GACHUSWI_MISUSE, "no such rule");
+    claim(gachuswi_rule_packages(task, gachuswi_task_rules(task), NULL, 0, &kept) == GACHUSWI_MISUSE, "no such rule");
+    claim(gachuswi_problem_proof(task, gachuswi_task_problems(task), NULL, 0, &kept) == GACHUSWI_MISUSE, "no such problem");
+    claim(gachuswi_dep_text(task, 4294967295u, NULL, 0, &kept) == GACHUSWI_MISUSE, "no such dependency");
+    claim(gachuswi_cycle_packages(task, true, (size_t)-1, NULL, 0, &kept) == GACHUSWI_MISUSE, "no such cycle");
     claim(kept == 4711, "a count was written");
 }
 
@@ -176,6 +222,19 @@ static void same_lines(gachuswi_answer *answer) {
     free(text);
 }
 
+/* The proofs of a script of one round, which are those of gachuswi_run. */
+static void same_proofs(gachuswi_task *task, uint32_t budget) {
+    const gachuswi_options proved = {budget, false, true, false};
+    gachuswi_answer answer = GACHUSWI_NONE;
+    size_t len, size;
+    claim(gachuswi_run(&answer, lent, lent_len, lent[0].name, lent[0].name_len, &proved) == GACHUSWI_DONE, "proofs of a run");
+    char *text = text_of(&answer, gachuswi_out, &len), *own = proofs(task, &size);
+    claim(len == size && !memcmp(text, own, len), "other proofs");
+    free(text);
+    free(own);
+    gachuswi_close(&answer);
+}
+
 /* The line of a refusal, which is that of the answer behind the name of the program. */
 static void same_refusal(gachuswi_task *task, gachuswi_answer *answer) {
     size_t len, size = gachuswi_task_err(task, NULL, 0);
@@ -203,6 +262,7 @@ static void compare(gachuswi_task *task, gachuswi_answer *answer, uint32_t budge
     if (code == GACHUSWI_TRANSACTION) changes(task);
     for (size_t p = 0; p < gachuswi_task_problems(task); p++) problem(task, p);
     if (plain && status == GACHUSWI_DONE) same_lines(answer);
+    if (plain && code == GACHUSWI_PROBLEMS) same_proofs(task, budget);
     drop_lines();
     nothing(task);
     if (is_answered || code == GACHUSWI_SPENT) anew(task);

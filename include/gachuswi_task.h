@@ -151,8 +151,9 @@ int32_t gachuswi_job_add_by(gachuswi_task *task, const gachuswi_job *job, bool p
 int32_t gachuswi_jobs_clear(gachuswi_task *task);
 
 /* Answers the task that is kept, with an index that is made for it. Answers GACHUSWI_TRANSACTION, GACHUSWI_PROBLEMS or GACHUSWI_SPENT, and the answer
- * is kept; or GACHUSWI_REFUSED, where its clauses pass a limit, which gachuswi_task_err tells; GACHUSWI_NO_MEMORY; or GACHUSWI_MISUSE, where the budget is
- * above 1,000,000, or no task is kept. An answer that was kept before is let go, but for GACHUSWI_MISUSE. */
+ * is kept, in place of any before it; or GACHUSWI_REFUSED, where its clauses pass a limit, which gachuswi_task_err tells; GACHUSWI_NO_MEMORY; or
+ * GACHUSWI_MISUSE, where the budget is above 1,000,000, or no task is kept. With the last two what was kept is as it was, and an answer before is
+ * still kept; a task that has one is never refused. */
 int32_t gachuswi_task_answer(gachuswi_task *task, uint32_t budget);
 
 /* ---- Reading. */
@@ -175,6 +176,11 @@ size_t gachuswi_task_changes(gachuswi_task *task, gachuswi_change *into, size_t 
 /* The packages that come and those that go, in the order in which the transaction is made. */
 size_t gachuswi_task_order(gachuswi_task *task, uint32_t *into, size_t into_len);
 
+/* How many cycles there are in what these packages require of each other, conditions aside: of pre-requirements, where `pre` is true, or of all
+ * requirements. The order keeps every pre-requirement but those within one cycle of pre-requirements, and every other requirement but those within
+ * one cycle. */
+size_t gachuswi_task_cycles(gachuswi_task *task, bool pre);
+
 /* The packages that are there after it, with the system, ascending. */
 size_t gachuswi_task_set(gachuswi_task *task, uint32_t *into, size_t into_len);
 
@@ -187,8 +193,48 @@ uint32_t gachuswi_task_packages(gachuswi_task *task);
 /* How many problems there are. */
 size_t gachuswi_task_problems(gachuswi_task *task);
 
+/* How many rules the task has that is answered. */
+size_t gachuswi_task_rules(gachuswi_task *task);
+
+/* The kinds of rules, and what each says of a set of packages. */
+enum {
+    GACHUSWI_RULE_NOT_INSTALLABLE = 0, /* pack is not in it */
+    GACHUSWI_RULE_REQUIRES = 1,        /* with pack its requirement dep holds */
+    GACHUSWI_RULE_CONFLICTS = 2,       /* not both pack and other, which meets the conflict dep of pack */
+    GACHUSWI_RULE_RICH_CONFLICT = 3,   /* with pack its conflict dep, a rich dependency, does not hold among the other packages */
+    GACHUSWI_RULE_OBSOLETES = 4,       /* not both pack and other, which pack obsoletes by dep */
+    GACHUSWI_RULE_SAME_NAME = 5,       /* not both pack and other, which have one name */
+    GACHUSWI_RULE_INFARCH = 6,         /* pack is not in it: another package of its name has a better architecture */
+    GACHUSWI_RULE_UPDATE = 7,          /* the installed package pack, or what may take its place: one of the rule's packages */
+    GACHUSWI_RULE_DISTUPGRADE = 8,     /* one of its packages, which a distribution upgrade puts in the place of pack */
+    GACHUSWI_RULE_FEATURE = 9,         /* one of its packages: as UPDATE, were every change allowed */
+    GACHUSWI_RULE_JOB_INSTALL = 10,    /* one of its packages, which job selects */
+    GACHUSWI_RULE_JOB_ERASE = 11,      /* none of its packages, which job selects */
+    GACHUSWI_RULE_JOB_LOCK = 12,       /* of its packages, which job selects, those that are installed */
+    GACHUSWI_RULE_BEST_JOB = 13,       /* one of its packages, the best that job selects */
+    GACHUSWI_RULE_BEST_UPDATE = 14     /* one of its packages, the best in the place of pack, as job asks */
+};
+
+/* A rule. What its kind does not name is 0. */
+typedef struct gachuswi_rule {
+    uint32_t kind;
+    uint32_t pack;
+    uint32_t dep;
+    uint32_t other; /* a package, or the system */
+    uint32_t job;   /* the place of a job among those of the task, from 0 */
+} gachuswi_rule;
+
 /* ---- Each answers 0, and tells in `count` how many there are; or GACHUSWI_MISUSE where the numbers name nothing, or nothing is
  * kept, and then nothing is written. */
+
+/* The packages of a cycle, ascending. Cycles are numbered from 0, by their lowest packages. */
+int32_t gachuswi_cycle_packages(gachuswi_task *task, bool pre, size_t cycle, uint32_t *into, size_t into_len, size_t *count);
+
+/* A rule; there is no count. */
+int32_t gachuswi_rule_get(gachuswi_task *task, size_t rule, gachuswi_rule *into);
+
+/* The packages of a rule, ascending; the kinds up to INFARCH have none. */
+int32_t gachuswi_rule_packages(gachuswi_task *task, size_t rule, uint32_t *into, size_t into_len, size_t *count);
 
 /* The rules of a problem, ascending. */
 int32_t gachuswi_problem_rules(gachuswi_task *task, size_t problem, size_t *into, size_t into_len, size_t *count);
@@ -208,10 +254,13 @@ int32_t gachuswi_solution_set(gachuswi_task *task, size_t problem, size_t soluti
 int32_t gachuswi_package_find(gachuswi_task *task, const uint8_t *text, size_t text_len, uint32_t *pack);
 
 /* ---- Texts: the same, or GACHUSWI_NO_MEMORY, and then nothing is written. No 0 byte is put behind. Each call makes the text anew.
- * Of a refusal nothing has a text, and of a task without an answer packages alone. */
+ * Of a refusal nothing has a text, and of a task without an answer packages and dependencies alone. */
 
 /* A package, as `name-evr.arch@repository`; `@SYSTEM` of 0. */
 int32_t gachuswi_package_text(gachuswi_task *task, uint32_t pack, uint8_t *into, size_t into_len, size_t *count);
+
+/* A dependency, by the number that a rule has of it, as docs/FORMATS.md says: `glibc >= 2.38`, `(a if b) | c`. */
+int32_t gachuswi_dep_text(gachuswi_task *task, uint32_t dep, uint8_t *into, size_t into_len, size_t *count);
 
 /* What is said of a rule, as behind ` info ` in the lines of gachuswi_out. */
 int32_t gachuswi_rule_text(gachuswi_task *task, size_t rule, uint8_t *into, size_t into_len, size_t *count);
@@ -219,6 +268,10 @@ int32_t gachuswi_rule_text(gachuswi_task *task, size_t rule, uint8_t *into, size
 /* What is said of a solution: a line for each thing that it does, each ended by a line feed. */
 int32_t gachuswi_solution_text(gachuswi_task *task, size_t problem, size_t solution, uint8_t *into, size_t into_len,
                                size_t *count);
+
+/* The proof of a problem: that no set of packages meets its rules, step by step, as docs/FORMATS.md says, under "Proofs of problems". Of a task that was read from a
+ * script whose flags and jobs it still has, the program proofcheck says yes of it, to whom the problem is one of round 1 and has the next number. */
+int32_t gachuswi_problem_proof(gachuswi_task *task, size_t problem, uint8_t *into, size_t into_len, size_t *count);
 
 #ifdef __cplusplus
 }

@@ -19,6 +19,7 @@ Of each archive these are tried:
   the same four ways;
 - every such script once more as a task that is read by numbers, whose lines are those of the texts, and which is answered anew
   (c_tests/tasks.c), in the same four ways;
+- tasks built by calls, whose answers, rules and proofs are those that were worked out by hand (c_tests/worked.c), in the same four ways;
 - the task of every such script built by calls, with the same answer, and calls that build and are made wrongly (c_tests/drafts.c), in the
   same four ways;
 - memory refused at each allocation of a call, alone and with all that follow (c_tests/memory.c, and of the calls for a task
@@ -231,7 +232,8 @@ class Trial:
     def run(self):
         self.check("shared library", self.shared)
         for way, runner in self.ways():
-            self.check(f"calls, {way}", lambda: self.says(self.linked(TESTS / "calls.c", way), [], None, b"", runner))
+            for program in ("calls", "worked"):
+                self.check(f"{program}, {way}", lambda: self.says(self.linked(TESTS / f"{program}.c", way), [], None, b"", runner))
             for name, words, folder, wanted in stored():
                 self.check(f"{name}, {way}", lambda: self.says(self.linked(TESTS / "scripts.c", way), words, folder, wanted, runner))
                 for program in ("tasks", "drafts"):

@@ -33,8 +33,9 @@ CALLS = {
     "c": (
         ("gachuswi", "calls", tuple(f"gachuswi_{it}" for it in ("abi", "run", "status", "out", "err", "close"))),
         ("gachuswi", "versions", ("gachuswi_evr_compare",)),
-        ("gachuswi", "tasks", tuple(f"gachuswi_{it}" for it in ("task_solve", "task_status", "task_err", "task_changes", "task_order", "task_set", "task_problems", "problem_rules", "problem_solutions", "solution_rules", "solution_set", "task_close"))),
-        ("gachuswi", "task_texts", tuple(f"gachuswi_{it}" for it in ("package_text", "rule_text", "solution_text", "task_packages", "package_find"))),
+        ("gachuswi", "tasks", tuple(f"gachuswi_{it}" for it in ("task_solve", "task_status", "task_err", "task_changes", "task_order", "task_set", "task_cycles", "cycle_packages", "task_problems", "problem_rules", "problem_solutions", "solution_rules", "solution_set", "task_close"))),
+        ("gachuswi", "task_rules", tuple(f"gachuswi_{it}" for it in ("task_rules", "rule_get", "rule_packages"))),
+        ("gachuswi", "task_texts", tuple(f"gachuswi_{it}" for it in ("package_text", "dep_text", "rule_text", "solution_text", "problem_proof", "task_packages", "package_find"))),
         ("gachuswi", "tasks_anew", ("gachuswi_task_solve_again",)),
         ("gachuswi", "tasks_built", tuple(f"gachuswi_{it}" for it in ("task_open", "task_repos", "repo_add", "packages_add", "system_set", "package_disable", "namespace_add", "flags_set", "job_add", "job_add_by", "jobs_clear", "task_answer"))),
     ),

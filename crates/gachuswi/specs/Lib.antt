@@ -2,6 +2,7 @@ pub mod Asked
 pub mod Calls
 pub mod Orders
 pub mod Tasks
+pub mod TaskRules
 pub mod TaskTexts
 pub mod TasksAnew
 pub mod TasksBuilt

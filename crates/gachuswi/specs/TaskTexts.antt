@@ -5,10 +5,14 @@ use Rattle.solv_solved.specs.Texts as held
 use Rattle.solv_solved.specs.declared.outcomes.Held.{Held}
 use Rattle.gachuswi.specs.Calls.{misused, no_memory}
 
--- the text of a package, of a hard rule, and of a solution of a problem; where nothing is held, there is none
+-- the text of a package, of a dependency, of a hard rule, of a solution of a problem, and of the proof of a problem; where nothing is held, there is none
 abbrev pub package_text : Option Held → ℕ → Option (List ℕ)
 package_text None pack = None
 package_text (Some kept) pack = held.package_text_of kept pack
+
+abbrev pub dep_text : Option Held → ℕ → Option (List ℕ)
+dep_text None dep = None
+dep_text (Some kept) dep = held.dep_text_of kept dep
 
 abbrev pub rule_text : Option Held → ℕ → Option (List ℕ)
 rule_text None rule = None
@@ -17,6 +21,15 @@ rule_text (Some kept) rule = held.rule_text_of kept rule
 abbrev pub solution_text : Option Held → ℕ → ℕ → Option (List ℕ)
 solution_text None problem solution = None
 solution_text (Some kept) problem solution = held.solution_text_of kept problem solution
+
+abbrev pub proof_text : Option Held → ℕ → Option (List ℕ)
+proof_text None problem = None
+proof_text (Some kept) problem = held.proof_text_of kept problem
+
+-- a text is read as a proof, of which yes is said over the hard rules of the task: no set that holds the system meets those that it lists
+abbrev pub IsGoodProofOf : Option Held → List ℕ → Type 0
+IsGoodProofOf None text = ⊥
+IsGoodProofOf (Some kept) text = held.IsGoodProofOf kept text
 
 -- how many packages there are besides the system, and the number of the one with a text
 abbrev pub package_count : Option Held → ℕ

@@ -35,6 +35,15 @@ abbrev pub problems_of : Option Held → List Problem
 problems_of None = []
 problems_of (Some kept) = held.problems_of kept
 
+-- the cycles of the order, of pre-requirements or of all requirements, and the one of a number
+abbrev pub cycles_of : Bool → Option Held → List (List ℕ)
+cycles_of pre None = []
+cycles_of pre (Some kept) = held.cycles_of pre kept
+
+abbrev pub cycle_of : Bool → Option Held → ℕ → Option (List ℕ)
+cycle_of pre None cycle = None
+cycle_of pre (Some kept) cycle = held.cycle_of pre kept cycle
+
 -- what is asked for by numbers: of a problem, or of a solution of a problem
 abbrev pub of_problem : {A : Type 0} → (Held → ℕ → Option A) → Option Held → ℕ → Option A
 of_problem ask None problem = None

@@ -34,12 +34,12 @@ pub data IsBuildCall (name : List ℕ) (call : State → Result State DraftFault
   ran_out : (old new : Held) → IsStill old new → IsBuildCall name call (Some old) (Some new) no_memory
   nothing : IsBuildCall name call None None misused
 
--- A call of `gachuswi_task_answer`: the task has an answer, whose number is told; or its clauses pass a limit, which is told; or there is no task; or memory ran out; or
--- the budget is too great, or nothing was kept.
+-- A call of `gachuswi_task_answer`: the task has an answer, whose number is told; or its clauses pass a limit, which is told, and it had no answer before; or there is no task; or
+-- memory ran out, and what was kept stays, with its answer; or the budget is too great, or nothing was kept.
 pub data IsAnswerCall (budget : ℕ) : Option Held → Option Held → ℤ → Type 0 where
   answered : (old new : Held) → budget ≤ 1000000 → IsTaskSolved budget old new ended.Answered → IsAnswerCall budget (Some old) (Some new) (number_of (Some new))
   passes : (old new : Held) → budget ≤ 1000000 → IsTaskSolved budget old new ended.Passes → IsAnswerCall budget (Some old) (Some new) refused
   no_task : (old new : Held) → budget ≤ 1000000 → IsTaskSolved budget old new ended.Misused → IsAnswerCall budget (Some old) (Some new) misused
-  ran_out : (old new : Held) → budget ≤ 1000000 → IsStill old new → IsAnswerCall budget (Some old) (Some new) no_memory
+  ran_out : (old : Held) → budget ≤ 1000000 → IsAnswerCall budget (Some old) (Some old) no_memory
   too_great : (old : Option Held) → (budget ≤ 1000000 → ⊥) → IsAnswerCall budget old old misused
   nothing : IsAnswerCall budget None None misused

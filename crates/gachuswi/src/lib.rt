@@ -4,8 +4,9 @@
 //! - `gachuswi_status`, `gachuswi_out`, `gachuswi_err`: the status of an answer, and copies of its two texts.
 //! - `gachuswi_close`: lets an answer go.
 //! - `gachuswi_task_solve`: solves such a script, and keeps its answer as a task that is read by numbers. `gachuswi_task_status`, `_err`,
-//!   `_changes`, `_order`, `_set`, `_problems`, `gachuswi_problem_rules`, `_solutions`, `gachuswi_solution_rules` and `_set` read it;
-//!   `gachuswi_task_packages`, `gachuswi_package_find`, `gachuswi_package_text`, `gachuswi_rule_text` and `gachuswi_solution_text` give texts; `gachuswi_task_close` lets it go.
+//!   `_changes`, `_order`, `_set`, `_cycles`, `_problems`, `gachuswi_cycle_packages`, `gachuswi_problem_rules`, `_solutions`, `gachuswi_solution_rules` and `_set` read it,
+//!   and `gachuswi_task_rules`, `gachuswi_rule_get` and `_packages` its rules; `gachuswi_task_packages`, `gachuswi_package_find`, `gachuswi_package_text`, `gachuswi_dep_text`,
+//!   `gachuswi_rule_text`, `gachuswi_solution_text` and `gachuswi_problem_proof` give texts; `gachuswi_task_close` lets it go.
 //! - `gachuswi_task_solve_again`: answers a task that is kept with other jobs, given by numbers.
 //! - `gachuswi_task_open`: opens a task that calls build: `gachuswi_repo_add`, `gachuswi_packages_add`, `gachuswi_system_set`, `gachuswi_package_disable`,
 //!   `gachuswi_namespace_add`, `gachuswi_flags_set`, `gachuswi_job_add` and `_by`, `gachuswi_jobs_clear`. `gachuswi_task_answer` answers it; `gachuswi_task_repos` counts its repositories.
@@ -21,6 +22,7 @@ mod calls;
 mod handles;
 mod loose;
 mod task_handles;
+mod task_rules;
 mod task_texts;
 mod tasks;
 mod tasks_anew;
@@ -33,15 +35,16 @@ pub use calls::{
 };
 pub use handles::{Handle, Opaque};
 pub use task_handles::TaskHandle;
+pub use task_rules::{gachuswi_rule_get, gachuswi_rule_packages, gachuswi_task_rules};
 pub use task_texts::{
-    gachuswi_package_find, gachuswi_package_text, gachuswi_rule_text, gachuswi_solution_text,
-    gachuswi_task_packages,
+    gachuswi_dep_text, gachuswi_package_find, gachuswi_package_text, gachuswi_problem_proof,
+    gachuswi_rule_text, gachuswi_solution_text, gachuswi_task_packages,
 };
 pub use tasks::{
-    gachuswi_problem_rules, gachuswi_problem_solutions, gachuswi_solution_rules,
-    gachuswi_solution_set, gachuswi_task_changes, gachuswi_task_close, gachuswi_task_err,
-    gachuswi_task_order, gachuswi_task_problems, gachuswi_task_set, gachuswi_task_solve,
-    gachuswi_task_status,
+    gachuswi_cycle_packages, gachuswi_problem_rules, gachuswi_problem_solutions,
+    gachuswi_solution_rules, gachuswi_solution_set, gachuswi_task_changes, gachuswi_task_close,
+    gachuswi_task_cycles, gachuswi_task_err, gachuswi_task_order, gachuswi_task_problems,
+    gachuswi_task_set, gachuswi_task_solve, gachuswi_task_status,
 };
 pub use tasks_anew::gachuswi_task_solve_again;
 pub use tasks_built::{

@@ -1,6 +1,6 @@
 //! The calls that give texts of a task, and find a package by its text.
-ghost use Rattle.std.specs.Prelude.{◌≡◌, ℕ, List, Option, IfOk};
-ghost use Rattle.gachuswi.specs.TaskTexts.{IsTextCall, package_count, package_found, package_text, rule_text, solution_text};
+ghost use Rattle.std.specs.Prelude.{◌≡◌, ℕ, List, Option, IfOk, IsOk, IsSomeAnd, pos};
+ghost use Rattle.gachuswi.specs.TaskTexts.{IsGoodProofOf, IsTextCall, dep_text, package_count, package_found, package_text, proof_text, rule_text, solution_text};
 ghost use Rattle.gachuswi.specs.Tasks.{code_of};
 ghost use Rattle.solv_solved.specs.Fillings.{number_where};
 
@@ -20,7 +20,8 @@ const MISUSED: i32 = 8;
 
 /// Copies the first bytes of a text, as many as there is room for, and tells its length, where there is one.
 fn hand_out(made: Result<Option<Bytes>, AllocError>, into: &mut [u8], count: &mut usize) -> i32
-    ensures { (named : Option (List ℕ)) → IfOk made (λ text. text ≡ named) → IsTextCall named into.old into.new count.old count.new result }
+    ensures text { (named : Option (List ℕ)) → IfOk made (λ text. text ≡ named) → IsTextCall named into.old into.new count.old count.new result }
+    ensures made { result ≡ pos 0 → IsOk made }
 {
     match made {
         Ok(Some(text)) => {
@@ -50,6 +51,26 @@ pub extern "C" fn gachuswi_package_text(
         return MISUSED;
     };
     let made = kept.as_ref().package_text(alloc, pack);
+    task.put(kept);
+    hand_out(made, into, count)
+}
+
+/// The same of a dependency.
+#[unsafe(no_mangle)]
+pub extern "C" fn gachuswi_dep_text(
+    alloc: Global,
+    task: &mut TaskHandle,
+    dep: u32,
+    into: &mut [u8],
+    count: &mut usize,
+) -> i32
+    ensures text { IsTextCall (dep_text task.old.value dep) into.old into.new count.old count.new result }
+    ensures same { task.new.value ≡ task.old.value }
+{
+    let Some(kept) = task.take(alloc) else {
+        return MISUSED;
+    };
+    let made = kept.as_ref().dep_text(alloc, dep);
     task.put(kept);
     hand_out(made, into, count)
 }
@@ -91,6 +112,27 @@ pub extern "C" fn gachuswi_solution_text(
         return MISUSED;
     };
     let made = kept.as_ref().solution_text(alloc, problem, solution);
+    task.put(kept);
+    hand_out(made, into, count)
+}
+
+/// The same of the proof of a problem, which is one of round 1 there and has the next number. It is read as a proof, and yes is said of it.
+#[unsafe(no_mangle)]
+pub extern "C" fn gachuswi_problem_proof(
+    alloc: Global,
+    task: &mut TaskHandle,
+    problem: usize,
+    into: &mut [u8],
+    count: &mut usize,
+) -> i32
+    ensures text { IsTextCall (proof_text task.old.value problem) into.old into.new count.old count.new result }
+    ensures good { result ≡ pos 0 → IsSomeAnd (proof_text task.old.value problem) (IsGoodProofOf task.old.value) }
+    ensures same { task.new.value ≡ task.old.value }
+{
+    let Some(kept) = task.take(alloc) else {
+        return MISUSED;
+    };
+    let made = kept.as_ref().proof_text(alloc, problem);
     task.put(kept);
     hand_out(made, into, count)
 }

@@ -2,7 +2,7 @@
 ghost use Rattle.std.specs.Prelude.{◌≡◌, ◌≤◌, length, map, None, IfOk};
 ghost use Rattle.solv_solved.specs.Fillings.{change_row, filled, filled_where, length_where, number_where};
 ghost use Rattle.solv_solved.specs.Readings.{problem_rules, solution_count, solution_rules, solution_set};
-ghost use Rattle.gachuswi.specs.Tasks.{IsKeptTask, IsTaskCall, number_of, line_of, changes_of, order_of, set_of, problems_of, of_problem, of_solution, code_of, code_where};
+ghost use Rattle.gachuswi.specs.Tasks.{IsKeptTask, IsTaskCall, number_of, line_of, changes_of, order_of, set_of, cycles_of, cycle_of, problems_of, of_problem, of_solution, code_of, code_where};
 
 use crate::task_handles::TaskHandle;
 use solv_lent::LentFile;
@@ -156,6 +156,20 @@ pub extern "C" fn gachuswi_task_set(alloc: Global, task: &mut TaskHandle, into: 
     size
 }
 
+/// How many cycles there are in what the parts of a transaction require of each other: of pre-requirements, or of all requirements.
+#[unsafe(no_mangle)]
+pub extern "C" fn gachuswi_task_cycles(alloc: Global, task: &mut TaskHandle, pre: bool) -> usize
+    ensures size { result ≡ length (cycles_of pre task.old.value) }
+    ensures same { task.new.value ≡ task.old.value }
+{
+    let Some(kept) = task.take(alloc) else {
+        return 0;
+    };
+    let size = kept.as_ref().cycles(pre).len();
+    task.put(kept);
+    size
+}
+
 /// How many problems there are.
 #[unsafe(no_mangle)]
 pub extern "C" fn gachuswi_task_problems(alloc: Global, task: &mut TaskHandle) -> usize
@@ -171,10 +185,34 @@ pub extern "C" fn gachuswi_task_problems(alloc: Global, task: &mut TaskHandle) -
 }
 
 /// Whether something is named, as an answer to the caller.
-fn code(named: bool) -> i32
+pub(crate) fn code(named: bool) -> i32
     ensures { result ≡ code_where named }
 {
     if named { DONE } else { MISUSED }
+}
+
+/// Copies the first packages of the cycle of this number, as many as there is room for, and tells how many it has. Where the number names
+/// none, nothing is written, and the call was made wrongly.
+#[unsafe(no_mangle)]
+pub extern "C" fn gachuswi_cycle_packages(
+    alloc: Global,
+    task: &mut TaskHandle,
+    pre: bool,
+    cycle: usize,
+    into: &mut [u32],
+    count: &mut usize,
+) -> i32
+    ensures code { result ≡ code_of (cycle_of pre task.old.value cycle) }
+    ensures copied { into.new ≡ filled_where (cycle_of pre task.old.value cycle) into.old }
+    ensures told { count.new ≡ length_where (cycle_of pre task.old.value cycle) count.old }
+    ensures same { task.new.value ≡ task.old.value }
+{
+    let Some(kept) = task.take(alloc) else {
+        return MISUSED;
+    };
+    let named = kept.as_ref().read_cycle(pre, cycle, into, count);
+    task.put(kept);
+    code(named)
 }
 
 /// Copies the first rules of the problem of this number, as many as there is room for, and tells how many it has. Where the number names

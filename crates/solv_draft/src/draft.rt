@@ -28,6 +28,15 @@ impl Draft {
         Draft { task }
     }
 
+    /// The task, to be read.
+    pub fn lent(&self) -> &Task
+        ensures task { result.now ≡ self.now.task }
+        ensures closed { IsClosed result.now }
+        ensures forms { HasForms result.now }
+    {
+        &self.task
+    }
+
     /// The task.
     pub fn into_task(self) -> Task
         ensures task { result ≡ self.task }

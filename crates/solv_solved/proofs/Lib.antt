@@ -1,4 +1,5 @@
 mod Fronts
 mod Built
 mod JobsAnew
+mod ProvedProblems
 mod WhatIsHeld

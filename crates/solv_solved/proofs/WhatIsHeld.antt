@@ -40,7 +40,7 @@ some_rose : (faults : ℕ) → Rose 0 faults → 0 < faults
 some_rose faults (inl less) = less
 some_rose faults (inr at_last) = absurd (omega (arith, at_last.0))
 
-some_is : {A : Type 0} → (x y : A) → Some x ≡ Some y → x ≡ y
+pub some_is : {A : Type 0} → (x y : A) → Some x ≡ Some y → x ≡ y
 some_is x y is = ap (λ o. elim o [ Some z ↦ z | None ↦ x ]) is
 
 module _ (files : List LentFile) (names : List (List ℕ)) (faults : ℕ) (missing : 0 < faults → last_is_missing files names ≡ true) where

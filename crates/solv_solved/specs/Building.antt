@@ -68,12 +68,10 @@ pub data IsStill : Held → Held → Type 0 where
   still : (old new : Held) (task : Task) → task_of old ≡ Some task → IsStillOf task new → IsStill old new
   still_refused : (due : Due) → IsStill (Refused due) (Refused due)
 
--- A task is answered within the budget, and held with its answer; or its clauses pass a limit, which is told, and it is held without one.
-pub data IsSolveOf (budget : ℕ) (task : Task) : Held → Again → Type 0 where
-  answered : (new : Solved) → IsSolved budget (script_of task) new → IsSolveOf budget task (Answered new) ended.Answered
-  passes : (new : Opened) (limit : BookFault) → first_fault (catalog_of task) 0 (hard_rules task) ≡ Some limit → new.draft.task ≡ task → new.said ≡ limit_line program task limit → IsSolveOf budget task (Open new) ended.Passes
-
--- so it is with what is held; a refusal has no task, and stays
+-- What is held is answered within the budget: a task has an answer then, in place of any before it. Or the clauses of a task without an answer pass a limit, which is told;
+-- one with an answer passes none. A refusal has no task, and stays.
 pub data IsTaskSolved (budget : ℕ) : Held → Held → Again → Type 0 where
-  of_held : (old new : Held) (task : Task) (how : Again) → task_of old ≡ Some task → IsSolveOf budget task new how → IsTaskSolved budget old new how
+  answered : (old : Held) (task : Task) (new : Solved) → task_of old ≡ Some task → IsSolved budget (script_of task) new → IsTaskSolved budget old (Answered new) ended.Answered
+  passes : (old new : Opened) (limit : BookFault) → first_fault (catalog_of old.draft.task) 0 (hard_rules old.draft.task) ≡ Some limit → new.draft.task ≡ old.draft.task → new.said ≡ limit_line program old.draft.task limit
+      → IsTaskSolved budget (Open old) (Open new) ended.Passes
   no_task : (due : Due) → IsTaskSolved budget (Refused due) (Refused due) ended.Misused

@@ -1,7 +1,9 @@
 pub mod Anew
 pub mod Building
 pub mod Fillings
+pub mod Proofs
 pub mod Readings
+pub mod RuleRows
 pub mod Solvings
 pub mod Texts
 pub mod Inner

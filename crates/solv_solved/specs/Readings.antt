@@ -1,5 +1,5 @@
 -- What is read of an answer.
-use Rattle.std.specs.Prelude.{ℕ, List, [], Option, Some, None, length, slice_get}
+use Rattle.std.specs.Prelude.{ℕ, Bool, if◌then◌else◌, List, [], Option, Some, None, length, slice_get}
 use Rattle.std.specs.Option.{option_map}
 use Rattle.solv_io.specs.Inner.Statuses.{status_number}
 use Rattle.solv_trans.specs.declared.kinds.Change.{Change}
@@ -7,6 +7,7 @@ use Rattle.solv_remedy.specs.declared.problems.Problem.{Problem}
 use Rattle.solv_remedy.specs.declared.problems.Solution.{Solution}
 use Rattle.solv_answers.specs.declared.answers.Answer.{Answer}
 use Rattle.solv_answers.specs.declared.answers.Answer.TheVariants.{Transaction, Problems, Spent}
+use Rattle.solv_solved.specs.Proofs.{problems_in}
 use Rattle.solv_solved.specs.declared.outcomes.Held.{Held}
 use Rattle.solv_solved.specs.declared.outcomes.Held.TheVariants.{Answered, Refused, Open}
 
@@ -26,11 +27,11 @@ set_in (Transaction trail set made ordered) = set
 set_in (Problems problems) = []
 set_in Spent = []
 
--- its problems; a transaction has none
-abbrev pub problems_in : Answer → List Problem
-problems_in (Transaction trail set made ordered) = []
-problems_in (Problems problems) = problems
-problems_in Spent = []
+-- the cycles in what its parts require of each other: of pre-requirements, or of all requirements; each ascending, by their lowest members
+abbrev pub cycles_in : Bool → Answer → List (List ℕ)
+cycles_in pre (Transaction trail set made ordered) = if pre then ordered.pre_cycles else ordered.cycles
+cycles_in pre (Problems problems) = []
+cycles_in pre Spent = []
 
 -- the number of an answer: a transaction, problems, or that the budget is spent
 abbrev pub answer_number : Answer → ℕ
@@ -54,6 +55,11 @@ set_of (Answered solved) = set_in solved.answer
 set_of (Refused due) = []
 set_of (Open opened) = []
 
+abbrev pub cycles_of : Bool → Held → List (List ℕ)
+cycles_of pre (Answered solved) = cycles_in pre solved.answer
+cycles_of pre (Refused due) = []
+cycles_of pre (Open opened) = []
+
 abbrev pub problems_of : Held → List Problem
 problems_of (Answered solved) = problems_in solved.answer
 problems_of (Refused due) = []
@@ -69,6 +75,10 @@ abbrev pub line_of : Held → List ℕ
 line_of (Answered solved) = []
 line_of (Refused due) = due.err
 line_of (Open opened) = opened.said
+
+-- the cycle of this number, from 0 on
+abbrev pub cycle_of : Bool → Held → ℕ → Option (List ℕ)
+cycle_of pre held cycle = slice_get (cycles_of pre held) cycle
 
 -- the problem of this number, from 0 on, and its solution of this number
 abbrev pub problem_of : Held → ℕ → Option Problem

@@ -1,24 +1,23 @@
 //! What calls build, and the answer to it.
-ghost use Rattle.std.specs.Prelude.{ℕ, ◌≡◌, ◌≤◌, None, IfOk, OnErr};
+ghost use Rattle.std.specs.Prelude.{◌≡◌, ◌≤◌, None, Some, IfOk, OnErr};
 ghost use Rattle.std.specs.Option.{option_map};
-ghost use Rattle.solv_pool.specs.Catalog.{catalog_of};
-ghost use Rattle.solv_pool.specs.HardRules.{hard_rules};
 ghost use Rattle.solv_pool.specs.TaskBelonging.{IsClosed};
 ghost use Rattle.solv_pool.specs.TaskForms.{HasForms};
-ghost use Rattle.solv_rules.specs.Books.{IsDue, first_fault};
 ghost use Rattle.solv_draft.specs.Drafts.{IsAsBefore};
 ghost use Rattle.solv_draft.specs.Inner.Calls.{given};
-ghost use Rattle.solv_solved.specs.Building.{IsBuilt, IsEmpty, IsEmptyHeld, IsGiven, IsSolveOf, IsStill, IsStillOf, IsTaskSolved, script_of, task_of};
+ghost use Rattle.solv_solved.specs.Building.{IsBuilt, IsEmpty, IsEmptyHeld, IsGiven, IsStill, IsTaskSolved, script_of, task_of};
 ghost use Rattle.solv_solved.specs.Inner.CallNames.{call_name};
+ghost use Rattle.solv_solved.specs.Inner.Finding.{IsFound, IsFoundIn, IsSolveOf};
 ghost use Rattle.solv_solved.specs.Inner.Limits.{IsLimitSaid};
 
 use crate::anew::Again;
 use crate::opened::Opened;
 use crate::outcomes::Held;
-use crate::solving::{PROGRAM, index_and_answer, solved};
+use crate::solving::{PROGRAM, WithRules, index_and_answer, solved};
 use solv_draft::{Call, Draft, DraftFault};
 use solv_list::{Bytes, Items};
 use solv_pool::Task;
+use solv_prov::Providers;
 use solv_rules::BookFault;
 use solv_said::{bad_line_text, limit_due};
 use solv_script::{Kinds, Script};
@@ -124,20 +123,6 @@ fn script_of(alloc: Global, task: Task) -> Script
     }
 }
 
-/// The task of a script.
-fn task_in(script: Script) -> Task
-    ensures { result ≡ script.task }
-{
-    let Script {
-        task,
-        kinds: _,
-        wanted: _,
-        checks: _,
-        later: _,
-    } = script;
-    task
-}
-
 /// The line on a limit.
 fn limit_said(alloc: Global, task: &Task, limit: BookFault) -> Result<Bytes, AllocError>
     requires { IsClosed task.now }
@@ -152,38 +137,47 @@ fn limit_said(alloc: Global, task: &Task, limit: BookFault) -> Result<Bytes, All
     }
 }
 
-/// What is held of a task that has no answer.
-fn not_solved(alloc: Global, script: Script, limit: BookFault) -> (Held, Result<Again, AllocError>)
-    requires closed { IsClosed script.task }
-    requires forms { HasForms script.task }
-    requires due { IsDue (first_fault (catalog_of script.task) 0 (hard_rules script.task)) limit }
-    ensures passes { (budget : ℕ) → IfOk result.1 (IsSolveOf budget script.task result.0) }
-    ensures same { OnErr result.1 (IsStillOf script.task result.0) }
+/// What is found of a task before what is held is changed.
+#[derive(Drop)]
+enum Found {
+    /// An answer, with the index of the task.
+    Answer(Providers, WithRules),
+    /// The line on a limit that its clauses pass.
+    Limit(Bytes),
+}
+
+/// What is found of a task.
+fn found_of(alloc: Global, task: &Task, budget: u32) -> Result<Found, AllocError>
+    requires closed { IsClosed task.now }
+    requires forms { HasForms task.now }
+    requires budget { budget ≤ 1000000 }
+    ensures { IfOk result (IsFound budget task.now) }
 {
-    match limit_said(alloc, &script.task, limit) {
-        Ok(said) => (Held::Open(opened(task_in(script), said)), Ok(Again::Passes)),
-        Err(_) => (
-            Held::Open(opened(task_in(script), Bytes::wrap(Vec::new(alloc)))),
-            Err(AllocError),
-        ),
+    match index_and_answer(alloc, task, budget) {
+        Ok((prov, given)) => Ok(Found::Answer(prov, given)),
+        Err(limit) => {
+            let said = limit_said(alloc, task, limit)?;
+            Ok(Found::Limit(said))
+        }
     }
 }
 
-/// What is held of a task that is to be answered.
-fn solve_task(alloc: Global, task: Task, budget: u32) -> (Held, Result<Again, AllocError>)
+/// What is held of a task of which this is found.
+fn held_of(alloc: Global, task: Task, found: Found, budget: u32) -> (Held, Again)
     requires closed { IsClosed task }
     requires forms { HasForms task }
-    requires budget { budget ≤ 1000000 }
-    ensures solved { IfOk result.1 (IsSolveOf budget task result.0) }
-    ensures same { OnErr result.1 (IsStillOf task result.0) }
+    requires found { IsFound budget task found }
+    ensures { IsSolveOf budget task result.0 result.1 }
 {
-    let script = script_of(alloc, task);
-    match index_and_answer(alloc, &script.task, budget) {
-        Ok((prov, given)) => (
-            Held::Answered(solved(script, prov, given, budget)),
-            Ok(Again::Answered),
-        ),
-        Err(limit) => not_solved(alloc, script, limit),
+    match found {
+        Found::Answer(prov, given) => {
+            let script = script_of(alloc, task);
+            (
+                Held::Answered(solved(script, prov, given, budget)),
+                Again::Answered,
+            )
+        }
+        Found::Limit(said) => (Held::Open(opened(task, said)), Again::Passes),
     }
 }
 
@@ -228,20 +222,50 @@ impl Held {
         }
     }
 
-    /// Answers the task that is held, over an index that is made for it.
-    pub fn solve(&mut self, alloc: Global, budget: u32) -> Result<Again, AllocError>
+    /// What is found of the task that is held, where there is one. Nothing is changed.
+    fn found(&self, alloc: Global, budget: u32) -> Result<Option<Found>, AllocError>
         requires { budget ≤ 1000000 }
-        ensures solved { IfOk result (IsTaskSolved budget self.old self.new) }
-        ensures same { OnErr result (IsStill self.old self.new) }
+        ensures { IfOk result (IsFoundIn budget self.now) }
+    {
+        match self {
+            Held::Answered(solved) => {
+                let found = found_of(alloc, &solved.script.task, budget)?;
+                Ok(Some(found))
+            }
+            Held::Refused(_) => Ok(None),
+            Held::Open(opened) => {
+                let found = found_of(alloc, opened.draft.lent(), budget)?;
+                Ok(Some(found))
+            }
+        }
+    }
+
+    /// Holds what was found of the task that is held.
+    fn come_to(&mut self, alloc: Global, found: Found, budget: u32) -> Again
+        requires { IsFoundIn budget self.old (Some found) }
+        ensures { IsTaskSolved budget self.old self.new result }
     {
         match self.take_task(alloc) {
-            None => Ok(Again::Misused),
+            None => Again::Misused,
             Some(opened) => {
                 let Opened { draft, said: _ } = opened;
-                let (held, ended) = solve_task(alloc, draft.into_task(), budget);
+                let (held, ended) = held_of(alloc, draft.into_task(), found, budget);
                 *self = held;
                 ended
             }
+        }
+    }
+
+    /// Answers the task that is held, over an index that is made for it. What was held stays until the answer is there.
+    pub fn solve(&mut self, alloc: Global, budget: u32) -> Result<Again, AllocError>
+        requires { budget ≤ 1000000 }
+        ensures solved { IfOk result (IsTaskSolved budget self.old self.new) }
+        ensures same { OnErr result (self.new ≡ self.old) }
+    {
+        match self.found(alloc, budget) {
+            Ok(None) => Ok(Again::Misused),
+            Ok(Some(found)) => Ok(self.come_to(alloc, found, budget)),
+            Err(_) => Err(AllocError),
         }
     }
 }

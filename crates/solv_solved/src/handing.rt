@@ -1,12 +1,29 @@
 //! What numbers name, copied into a caller's room.
 ghost use Rattle.std.specs.Prelude.{◌≡◌, is_some};
 ghost use Rattle.solv_solved.specs.Fillings.{filled_where, length_where, number_where};
-ghost use Rattle.solv_solved.specs.Readings.{problem_rules, solution_count, solution_rules, solution_set};
+ghost use Rattle.solv_solved.specs.Readings.{cycle_of, problem_rules, solution_count, solution_rules, solution_set};
 
 use crate::filling::{fill, fill_packs};
 use crate::outcomes::Held;
 
 impl Held {
+    /// Copies the first packages of the cycle of this number, as many as there is room for, and tells how many it has. Where the number names none,
+    /// nothing is written.
+    pub fn read_cycle(&self, pre: bool, cycle: usize, into: &mut [u32], count: &mut usize) -> bool
+        ensures named { result ≡ is_some (cycle_of pre self.now cycle) }
+        ensures copied { into.new ≡ filled_where (cycle_of pre self.now cycle) into.old }
+        ensures told { count.new ≡ length_where (cycle_of pre self.now cycle) count.old }
+    {
+        match self.cycles(pre).get(cycle) {
+            Some(packs) => {
+                fill_packs(into, packs.held());
+                *count = packs.len();
+                true
+            }
+            None => false,
+        }
+    }
+
     /// Copies the first rules of the problem of this number, as many as there is room for, and tells how many it has. Where the number names
     /// none, nothing is written.
     pub fn read_problem_rules(&self, problem: usize, into: &mut [usize], count: &mut usize) -> bool

@@ -10,10 +10,10 @@
 //! - `Held::open`, `Held::build` and `Held::solve`: a task without packages; what a [`Call`](solv_draft::Call) gives to it, and how that ended, as [`Given`]; and the
 //!   answer to it. A task that is being built is [`Opened`].
 //! - [`fill`], [`fill_packs`] and [`fill_changes`]: copy the first items of a list, as many as there is room for. [`PackChange`] is a
-//!   change as C lays it out.
+//!   change as C lays it out, and [`RuleRow`] a rule.
 //!
-//! `specs/Building` says what calls build, `specs/Solvings` what is held after a script was read, `specs/Readings` what each method lends, and `specs/Fillings`
-//! what is copied.
+//! `specs/Building` says what calls build, `specs/Solvings` what is held after a script was read, `specs/Readings` what each method lends, `specs/RuleRows` what is told of
+//! rules, `specs/Texts` each text, `specs/Proofs` what holds of a problem's proof, and `specs/Fillings` what is copied.
 #![tactic(auto)]
 
 mod anew;
@@ -24,7 +24,10 @@ mod lending;
 mod opened;
 mod outcomes;
 mod pack_change;
+mod proving;
 mod reading;
+mod rule_row;
+mod ruling;
 mod solving;
 mod texts;
 mod with_answer;
@@ -36,5 +39,6 @@ pub use lending::solve_lent;
 pub use opened::Opened;
 pub use outcomes::Held;
 pub use pack_change::PackChange;
+pub use rule_row::RuleRow;
 pub use solving::solve_script;
 pub use with_answer::Solved;

@@ -1,10 +1,12 @@
 //! What is read of an answer.
 ghost use Rattle.std.specs.Prelude.{◌≡◌};
 ghost use Rattle.std.specs.Option.{option_copied};
-ghost use Rattle.solv_solved.specs.Readings.{answer_number, changes_in, order_in, set_in, problems_in, changes_of, order_of, set_of, problems_of, number_of, line_of, problem_of, solutions_of, solution_of};
+ghost use Rattle.solv_solved.specs.Proofs.{problems_in};
+ghost use Rattle.solv_solved.specs.Readings.{answer_number, changes_in, order_in, set_in, cycles_in, changes_of, order_of, set_of, cycles_of, problems_of, number_of, line_of, problem_of, solutions_of, solution_of};
 
 use crate::outcomes::Held;
 use solv_answers::Answer;
+use solv_list::Items;
 use solv_pool::PackNo;
 use solv_remedy::{Problem, Solution};
 use solv_trans::Change;
@@ -50,8 +52,24 @@ fn set_in(answer: &Answer) -> &[PackNo]
     }
 }
 
+/// The cycles in what its parts require of each other: of pre-requirements, or of all requirements.
+fn cycles_in(pre: bool, answer: &Answer) -> &[Items<PackNo>]
+    ensures { result.now ≡ cycles_in pre answer.now }
+{
+    match answer {
+        Answer::Transaction { ordered, .. } => {
+            if pre {
+                ordered.pre_cycles.held()
+            } else {
+                ordered.cycles.held()
+            }
+        }
+        _ => &[],
+    }
+}
+
 /// The problems of an answer.
-fn problems_in(answer: &Answer) -> &[Problem]
+pub(crate) fn problems_in(answer: &Answer) -> &[Problem]
     ensures { result.now ≡ problems_in answer.now }
 {
     match answer {
@@ -110,6 +128,17 @@ impl Held {
     {
         match self {
             Held::Answered(solved) => set_in(&solved.answer),
+            Held::Refused(_) | Held::Open(_) => &[],
+        }
+    }
+
+    /// The cycles in what the parts of a transaction require of each other: of pre-requirements, or of all requirements; each ascending, by their lowest
+    /// members.
+    pub fn cycles(&self, pre: bool) -> &[Items<PackNo>]
+        ensures { result.now ≡ cycles_of pre self.now }
+    {
+        match self {
+            Held::Answered(solved) => cycles_in(pre, &solved.answer),
             Held::Refused(_) | Held::Open(_) => &[],
         }
     }

@@ -1,5 +1,5 @@
 //! A script that is read and answered.
-ghost use Rattle.std.specs.Prelude.{◌≡◌, ◌≤◌, None, IfOk, IfErr, OnOk};
+ghost use Rattle.std.specs.Prelude.{◌≡◌, ◌≤◌, true, None, IfOk, IfErr, OnOk};
 ghost use Rattle.solv_pool.specs.Catalog.{catalog_of};
 ghost use Rattle.solv_pool.specs.HardRules.{hard_rules};
 ghost use Rattle.solv_pool.specs.TaskBelonging.{IsClosed};
@@ -10,9 +10,13 @@ ghost use Rattle.solv_answers.specs.Answers.{IsAnswered, IsPrepared, IsTransacti
 ghost use Rattle.solv_said.specs.Inner.Faults.{IsFaultDue};
 ghost use Rattle.solv_said.specs.Runs.{files_run};
 ghost use Rattle.solv_solved.specs.Inner.Answering.{IsRefusalOf};
+ghost use Rattle.solv_solved.specs.Inner.Finding.{IsFoundAnswer};
+ghost use Rattle.solv_solved.specs.Inner.Proving.{are_proved};
+ghost use Rattle.solv_solved.specs.Proofs.{problems_in};
 ghost use Rattle.solv_solved.specs.Solvings.{IsHeldFor, IsHeldOf, IsSolved};
 
 use crate::outcomes::Held;
+use crate::proving::answer_is_proved;
 use crate::with_answer::Solved;
 use solv_answers::{Answered, Prepared, answer, prepare};
 use solv_io::Files;
@@ -68,8 +72,10 @@ fn answer_with_rules(
     ensures good { IfOk result (λ a. IsAnswered task.now budget a.answered.answer a.answered.ledger) }
     ensures direct { IfOk result (λ a. IsTransactionUnlessChoicesClash task.now a.answered.answer) }
     ensures rules { IfOk result (λ a. read_rules a.rules ≡ hard_rules task.now) }
+    ensures proved { IfOk result (λ a. are_proved task.now (problems_in a.answered.answer) ≡ true) }
 {
     let answered = answer(alloc, task, prepared, budget)?;
+    answer_is_proved(task, &answered, budget);
     let rules = take_rules(alloc, task, prepared)?;
     Ok(WithRules { answered, rules })
 }
@@ -88,6 +94,7 @@ pub(crate) fn answer_of(
     ensures good { IfOk result (λ a. IsAnswered task.now budget a.answered.answer a.answered.ledger) }
     ensures direct { IfOk result (λ a. IsTransactionUnlessChoicesClash task.now a.answered.answer) }
     ensures rules { IfOk result (λ a. read_rules a.rules ≡ hard_rules task.now) }
+    ensures proved { IfOk result (λ a. are_proved task.now (problems_in a.answered.answer) ≡ true) }
     ensures fits { OnOk result (first_fault (catalog_of task.now) 0 (hard_rules task.now) ≡ None) }
     ensures fault { IfErr result (IsDue (first_fault (catalog_of task.now) 0 (hard_rules task.now))) }
 {
@@ -114,6 +121,7 @@ pub(crate) fn index_and_answer(
     ensures good { IfOk result (λ made. IsAnswered task.now budget made.1.answered.answer made.1.answered.ledger) }
     ensures direct { IfOk result (λ made. IsTransactionUnlessChoicesClash task.now made.1.answered.answer) }
     ensures rules { IfOk result (λ made. read_rules made.1.rules ≡ hard_rules task.now) }
+    ensures proved { IfOk result (λ made. are_proved task.now (problems_in made.1.answered.answer) ≡ true) }
     ensures fits { OnOk result (first_fault (catalog_of task.now) 0 (hard_rules task.now) ≡ None) }
     ensures fault { IfErr result (IsDue (first_fault (catalog_of task.now) 0 (hard_rules task.now))) }
 {
@@ -130,11 +138,7 @@ pub(crate) fn index_and_answer(
 pub(crate) fn solved(script: Script, prov: Providers, given: WithRules, budget: u32) -> Solved
     requires closed { IsClosed script.task }
     requires forms { HasForms script.task }
-    requires index { IsIndexOf prov (catalog_of script.task) }
-    requires good { IsAnswered script.task budget given.answered.answer given.answered.ledger }
-    requires direct { IsTransactionUnlessChoicesClash script.task given.answered.answer }
-    requires rules { read_rules given.rules ≡ hard_rules script.task }
-    requires fits { first_fault (catalog_of script.task) 0 (hard_rules script.task) ≡ None }
+    requires found { IsFoundAnswer budget script.task prov given }
     ensures { IsSolved budget script result }
 {
     let _ = budget;

@@ -2,10 +2,12 @@
 ghost use Rattle.std.specs.Prelude.{◌≡◌, ◌++◌, length, map, IfOk, OnOk};
 ghost use Rattle.solv_io.specs.Lines.{ended_lines};
 ghost use Rattle.solv_pool.specs.Belonging.{IsOver};
-ghost use Rattle.solv_solved.specs.Texts.{package_count_of, repo_count_of, package_found, package_text_in, package_text_of, rule_text_in, rule_text_of, solution_text_in, solution_text_of};
+ghost use Rattle.solv_solved.specs.Texts.{package_count_of, repo_count_of, package_found, dep_text_in, dep_text_of, package_text_in, package_text_of, rule_text_in, rule_text_of, solution_text_in, solution_text_of};
 
 use crate::outcomes::Held;
 use crate::with_answer::Solved;
+use solv_base::DepId;
+use solv_deps::dep_text;
 use solv_lines::{rule_text, solution_lines};
 use solv_list::Bytes;
 use solv_pool::{PackNo, Task};
@@ -23,6 +25,18 @@ fn package_text_in(alloc: Global, task: &Task, pack: u32) -> Result<Option<Bytes
     let mut text = Vec::new(alloc);
     task.universe
         .package_text(&task.pool, PackNo(pack), &mut text)?;
+    Ok(Some(Bytes::wrap(text)))
+}
+
+/// The text of a dependency, where there is such.
+fn dep_text_in(alloc: Global, task: &Task, dep: u32) -> Result<Option<Bytes>, AllocError>
+    ensures { IfOk result (λ text. text ≡ dep_text_in task.now dep) }
+{
+    if dep as usize >= task.pool.relation_count() {
+        return Ok(None);
+    }
+    let mut text = Vec::new(alloc);
+    dep_text(&task.pool, DepId(dep), &mut text)?;
     Ok(Some(Bytes::wrap(text)))
 }
 
@@ -108,6 +122,17 @@ impl Held {
             Held::Answered(solved) => package_text_in(alloc, &solved.script.task, pack),
             Held::Refused(_) => Ok(None),
             Held::Open(opened) => package_text_in(alloc, &opened.draft.task, pack),
+        }
+    }
+
+    /// The text of a dependency, where the number is one. A refusal has none.
+    pub fn dep_text(&self, alloc: Global, dep: u32) -> Result<Option<Bytes>, AllocError>
+        ensures { IfOk result (λ text. text ≡ dep_text_of self.now dep) }
+    {
+        match self {
+            Held::Answered(solved) => dep_text_in(alloc, &solved.script.task, dep),
+            Held::Refused(_) => Ok(None),
+            Held::Open(opened) => dep_text_in(alloc, &opened.draft.task, dep),
         }
     }
 

@@ -1,11 +1,13 @@
 //! A script with the answer to its first round.
-ghost use Rattle.std.specs.Prelude.{◌≡◌};
+ghost use Rattle.std.specs.Prelude.{◌≡◌, true, None};
 ghost use Rattle.solv_pool.specs.Catalog.{catalog_of};
 ghost use Rattle.solv_pool.specs.HardRules.{hard_rules};
 ghost use Rattle.solv_pool.specs.TaskBelonging.{IsClosed};
 ghost use Rattle.solv_pool.specs.TaskForms.{HasForms};
 ghost use Rattle.solv_prov.specs.Index.{IsIndexOf};
-ghost use Rattle.solv_rules.specs.Books.{read_rules};
+ghost use Rattle.solv_rules.specs.Books.{first_fault, read_rules};
+ghost use Rattle.solv_solved.specs.Inner.Proving.{are_proved};
+ghost use Rattle.solv_solved.specs.Proofs.{problems_in};
 
 use solv_answers::Answer;
 use solv_core::Ledger;
@@ -23,7 +25,9 @@ pub struct Solved {
     pub ghost closed: { IsClosed script.task },
     pub ghost forms: { HasForms script.task },
     pub ghost hard: { read_rules rules ≡ hard_rules script.task },
+    pub ghost fits: { first_fault (catalog_of script.task) 0 (hard_rules script.task) ≡ None },
     pub ghost index: { IsIndexOf prov (catalog_of script.task) },
+    pub ghost proved: { are_proved script.task (problems_in answer) ≡ true },
 }
 
 impl Drop for Solved {

@@ -10,5 +10,5 @@ returns-clause-text c =
     let value : Option Held = c.args.task.now.value in
     let kept : Some c.in-Some.kept.value ≡ value = search rules in
     let asked : IfOk c.package_text-made.result (λ t. t ≡ package_text value c.args.pack) = asked_of (λ v. package_text v c.args.pack) value c.in-Some.kept.value c.package_text-made.result kept (search rules) in
-    let is : IsTextCall (package_text value c.args.pack) c.args.into.now c.hand_out.new.into c.args.count.now c.hand_out.new.count c.hand_out.result = c.hand_out.ensures (package_text value c.args.pack) asked in
+    let is : IsTextCall (package_text value c.args.pack) c.args.into.now c.hand_out.new.into c.args.count.now c.hand_out.new.count c.hand_out.result = c.hand_out.ensures.text (package_text value c.args.pack) asked in
     search rules

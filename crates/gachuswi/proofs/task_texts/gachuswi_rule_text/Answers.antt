@@ -10,5 +10,5 @@ returns-clause-text c =
     let value : Option Held = c.args.task.now.value in
     let kept : Some c.in-Some.kept.value ≡ value = search rules in
     let asked : IfOk c.rule_text-made.result (λ t. t ≡ rule_text value c.args.rule) = asked_of (λ v. rule_text v c.args.rule) value c.in-Some.kept.value c.rule_text-made.result kept (search rules) in
-    let is : IsTextCall (rule_text value c.args.rule) c.args.into.now c.hand_out.new.into c.args.count.now c.hand_out.new.count c.hand_out.result = c.hand_out.ensures (rule_text value c.args.rule) asked in
+    let is : IsTextCall (rule_text value c.args.rule) c.args.into.now c.hand_out.new.into c.args.count.now c.hand_out.new.count c.hand_out.result = c.hand_out.ensures.text (rule_text value c.args.rule) asked in
     search rules

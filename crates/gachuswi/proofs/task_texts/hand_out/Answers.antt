@@ -4,8 +4,8 @@ use Rattle.gachuswi.specs.TaskTexts.{given}
 use Rattle.gachuswi.proofs.TextCalls.{handed}
 use Rattle.gachuswi.proofs.task_texts.hand_out.Goals as goal
 
-pub returns-in-Ok-Some : goal.returns-in-Ok-Some
-returns-in-Ok-Some c =
+pub returns-in-Ok-Some-clause-text : goal.returns-in-Ok-Some-clause-text
+returns-in-Ok-Some-clause-text c =
     let text : List ℕ = c.in-Ok-Some.text in
     let made : c.args.made ≡ Ok (Some text) = search rules in
     let copied : c.fill.new.into ≡ filled text c.args.into.now = c.fill.ensures ∙ ap (λ t. filled t c.args.into.now) c.held.ensures in

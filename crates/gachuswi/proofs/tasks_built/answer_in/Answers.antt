@@ -1,6 +1,8 @@
 use Rattle.std.proofs.Common.{◌≡◌, ℤ, Some, rules, subst, sym, to_z, w32}
 use Rattle.solv_solved.specs.Building.{IsTaskSolved}
 use Rattle.solv_solved.specs.declared.anew.Again.{Again}
+use Rattle.solv_solved.specs.declared.outcomes.Held.{Held}
+use Rattle.gachuswi.specs.Calls.{no_memory}
 use Rattle.gachuswi.specs.Tasks.{number_of}
 use Rattle.gachuswi.specs.TasksBuilt.{IsAnswerCall, answered, no_task, passes, ran_out}
 use Rattle.gachuswi.proofs.tasks_built.answer_in.Goals as goal
@@ -26,4 +28,6 @@ returns-in-Ok-Misused c =
     no_task old new c.requires (subst (λ (how : Again). IsTaskSolved c.args.budget old new how) c.in-Ok-Misused.field-0-is c.in-Ok-Misused.ensures.solved)
 
 pub returns-in-Err : goal.returns-in-Err
-returns-in-Err c = ran_out c.args.held.now c.solve.new.self c.requires c.in-Err.ensures.same
+returns-in-Err c =
+    let old = c.args.held.now in
+    subst (λ (new : Held). IsAnswerCall c.args.budget (Some old) (Some new) no_memory) (sym c.in-Err.ensures.same) (ran_out old c.requires)

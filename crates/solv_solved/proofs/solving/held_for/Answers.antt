@@ -6,6 +6,16 @@ use Rattle.solv_solved.specs.Solvings.{answered}
 use Rattle.solv_solved.proofs.WhatIsHeld.{passes_by}
 use Rattle.solv_solved.proofs.solving.held_for.Goals as goal
 
+pub solved-requires-clause-found : goal.solved-requires-clause-found
+solved-requires-clause-found c = record {
+  of_task = c.in-Ok.ensures.index;
+  good = c.in-Ok.ensures.good;
+  direct = c.in-Ok.ensures.direct;
+  rules = c.in-Ok.ensures.rules;
+  proved = c.in-Ok.ensures.proved;
+  fits = c.in-Ok.ensures.fits;
+}
+
 pub returns-in-Ok : goal.returns-in-Ok
 returns-in-Ok c = answered c.solved.result c.solved.ensures
 

@@ -1,9 +1,12 @@
-use Rattle.std.proofs.Common.{◌≡◌, ◌∙◌, map, refl}
+use Rattle.std.proofs.Common.{◌≡◌, ◌∙◌, true, None, map, refl}
+use Rattle.solv_pool.specs.Catalog.{catalog_of}
 use Rattle.solv_pool.specs.HardRules.{hard_rules}
 use Rattle.solv_pool.specs.TaskBelonging.{IsClosed}
 use Rattle.solv_pool.specs.TaskForms.{HasForms}
-use Rattle.solv_rules.specs.Books.{read_rules}
+use Rattle.solv_rules.specs.Books.{first_fault, read_rules}
 use Rattle.solv_draft.specs.JobRows.{flags_of, job_of}
+use Rattle.solv_solved.specs.Inner.Proving.{are_proved}
+use Rattle.solv_solved.specs.Proofs.{problems_in}
 use Rattle.solv_solved.proofs.JobsAnew.{closed_anew, due_anew, forms_anew, put_back, solved_anew}
 use Rattle.solv_solved.proofs.with_answer.Solved.answer_again.Goals as goal
 
@@ -24,7 +27,9 @@ invariant_of-self c =
       closed = closed_anew old.script.task flags c.args.rows.now c.replace-before.new.dest is old.closed c.requires.rows;
       forms = forms_anew old.script.task flags c.args.rows.now c.replace-before.new.dest is old.forms;
       hard = c.in-Ok.ensures.rules;
+      fits = c.in-Ok.ensures.fits;
       index = old.index;
+      proved = c.in-Ok.ensures.proved;
     }
 
 pub invariant_of-self-in-Err : goal.invariant_of-self-in-Err
@@ -36,7 +41,9 @@ invariant_of-self-in-Err c =
       closed = put_back IsClosed old.script.task _ _ flags jobs old.closed;
       forms = put_back HasForms old.script.task _ _ flags jobs old.forms;
       hard = put_back (λ task. read_rules old.rules ≡ hard_rules task) old.script.task _ _ flags jobs old.hard;
+      fits = put_back (λ task. first_fault (catalog_of task) 0 (hard_rules task) ≡ None) old.script.task _ _ flags jobs old.fits;
       index = old.index;
+      proved = put_back (λ task. are_proved task (problems_in old.answer) ≡ true) old.script.task _ _ flags jobs old.proved;
     }
 
 pub returns-in-Ok-clause-solved : goal.returns-in-Ok-clause-solved
