@@ -10,3 +10,4 @@ pub mod Told
 pub mod Gone
 pub mod Named
 pub mod Asked
+pub mod Reached

@@ -1,5 +1,5 @@
 -- Tables of tests, and what they tell.
-use Rattle.std.proofs.Common.{◌≡◌, ℕ, zero, suc, ◌+◌, ◌-◌, ◌<◌, ◌≤◌, Bool, true, false, ◌||◌, List, [], ◌∷◌, ◌++◌, length, filter, map, inl, inr, refl, sym, ap, ◌∙◌, arith, add-one, eqb, Some}
+use Rattle.std.proofs.Common.{◌≡◌, ℕ, zero, suc, ◌+◌, ◌<◌, ◌≤◌, Bool, true, false, ◌||◌, List, [], ◌∷◌, ◌++◌, length, filter, map, inl, inr, refl, sym, ap, ◌∙◌, arith, add-one, eqb, Some}
 use Rattle.std.specs.Prelude.{if◌then◌else◌, nat_eq}
 use Rattle.std.specs.List.{list_any, range_with_len}
 use Rattle.std.specs.Option.{option_eq}
@@ -37,7 +37,7 @@ told_from f a zero p lt = absurd (omega arith)
 told_from f a (suc n) zero lt = let e : a ≡ a + 0 = omega arith in ap f e
 told_from f a (suc n) (suc p) lt = let e : a + 1 + p ≡ a + suc p = omega arith in told_from f (a + 1) n p (omega (arith, lt)) ∙ ap f e
 
-told_past : (f : ℕ → Bool) (a n p : ℕ) → n ≤ p → is_marked (map f (range_with_len a n)) p ≡ false
+pub told_past : (f : ℕ → Bool) (a n p : ℕ) → n ≤ p → is_marked (map f (range_with_len a n)) p ≡ false
 told_past f a zero p le = refl
 told_past f a (suc n) zero le = absurd (omega arith)
 told_past f a (suc n) (suc p) le = told_past f (a + 1) n p (omega (arith, le))

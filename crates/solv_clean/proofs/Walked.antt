@@ -124,7 +124,7 @@ module _ (catalog : Catalog) (in_set : List Bool) (each : length in_set ≡ leng
       let one = and_parts (is_marked in_set x) (is_marked in_set y && (serves_package catalog y x || supplements catalog (is_marked in_set) y x)) h in
       in_members catalog in_set each y (and_parts (is_marked in_set y) (serves_package catalog y x || supplements catalog (is_marked in_set) y x) one.1).0
 
-  needed_by : (x y : ℕ) → is_marked in_set x ≡ true → is_marked in_set y ≡ true → (serves_package catalog y x || supplements catalog (is_marked in_set) y x) ≡ true → need x y ≡ true
+  pub needed_by : (x y : ℕ) → is_marked in_set x ≡ true → is_marked in_set y ≡ true → (serves_package catalog y x || supplements catalog (is_marked in_set) y x) ≡ true → need x y ≡ true
   needed_by x y a b h = and_from (is_marked in_set x) (is_marked in_set y && (serves_package catalog y x || supplements catalog (is_marked in_set) y x)) a (and_from (is_marked in_set y) (serves_package catalog y x || supplements catalog (is_marked in_set) y x) b h)
 
   -- what asks for something is a package
@@ -148,10 +148,10 @@ module _ (catalog : Catalog) (in_set : List Bool) (each : length in_set ≡ leng
     tells : (q : ℕ) → (needed q ≡ true → LeadsFrom need starts q) × (LeadsFrom need starts q → needed q ≡ true)
     tells q = let t = law need (members catalog) starts (λ x h. in_members catalog in_set each x (inside x h)) ends q in (t.0, t.1)
 
-    needed_next : (p q : ℕ) → needed p ≡ true → need p q ≡ true → needed q ≡ true
+    pub needed_next : (p q : ℕ) → needed p ≡ true → need p q ≡ true → needed q ≡ true
     needed_next p q h e = let l = (tells p).0 h in (tells q).1 (record { start = l.start; is_start = l.is_start; leads = leads_through need l.start p q l.leads (leads_step need p q e) })
 
-    needed_start : (q : ℕ) → is_among starts q ≡ true → needed q ≡ true
+    pub needed_start : (q : ℕ) → is_among starts q ≡ true → needed q ≡ true
     needed_start q h = (tells q).1 (record { start = q; is_start = h; leads = leads_here need q })
 
     -- what is needed lies in the set

@@ -3,6 +3,7 @@
 //! - [`clean_marks`]: marks besides what erase jobs select what they clean.
 //! - [`users`]: the packages of a set that the user asked for.
 //! - [`unneeded`]: the packages of a set that nobody needs.
+//! - [`unreached`]: which packages nothing asks for, however far it is asked.
 //!
 //! What needs what, and what is cleaned, stands in `solv_pool`'s `Needs` and `Cleaning`; `specs/Unneeded` says the rest. A
 //! member of a set is needed where a walk leads to it, and each member of the walk needs the next. The code has no walks: it
@@ -14,6 +15,7 @@
 mod cleaning;
 mod finding;
 mod holding;
+mod leaving;
 mod naming;
 mod passing;
 mod searching;
@@ -22,4 +24,5 @@ mod tables;
 mod unneeding;
 
 pub use cleaning::clean_marks;
+pub use leaving::unreached;
 pub use unneeding::{unneeded, users};

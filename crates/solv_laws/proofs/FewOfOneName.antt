@@ -21,7 +21,7 @@ use Rattle.solv_pool.specs.declared.job_marks.Marks.{Marks}
 use Rattle.solv_pool.specs.declared.packages.Package.{Package}
 use Rattle.solv_pool.specs.declared.tasks.Task.{Task}
 use Rattle.solv_script.specs.GrownTasks.{is_compared, asks_by_name}
-use Rattle.solv_laws.proofs.Totals.{total}
+use Rattle.solv_leaving.proofs.Totals.{total}
 
 -- how much a package asks for
 abbrev pub asked : Package → ℕ

@@ -32,10 +32,10 @@ use Rattle.solv_pool.proofs.Members.{Has, of_filtered, all_at}
 use Rattle.solv_pool.proofs.Origins.{IsFrom, is_from}
 use Rattle.solv_rules.specs.Books.{rich_by, rich_fault, first_fault}
 use Rattle.solv_script.specs.GrownTasks.{is_compared}
-use Rattle.solv_laws.proofs.ClauseWords.{size, size_made, raw_words, passes_no_limit}
+use Rattle.solv_leaving.proofs.ClauseWords.{size, size_made, raw_words, passes_no_limit}
 use Rattle.solv_laws.proofs.FewOfOneName.{IsModest, asked, compared, plain_at, few_named, few_members, meeting_named, namesake_named, near_named}
 use Rattle.solv_laws.proofs.Packs.{some_passes}
-use Rattle.solv_laws.proofs.Totals.{total, total_join, total_made, total_flat, total_when, fewer_pass}
+use Rattle.solv_leaving.proofs.Totals.{total, total_join, total_made, total_flat, total_when, fewer_pass}
 use Rattle.std.proofs.lemmas.Bool.{or_right}
 
 -- rules of all numbers, by the records

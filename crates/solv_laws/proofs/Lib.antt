@@ -4,8 +4,6 @@ mod AskedFor
 mod NoneBroken
 mod ErasedLines
 mod ComingFirst
-mod Totals
-mod ClauseWords
 mod FewOfOneName
 mod FewWords
 mod SeedTasks

@@ -28,7 +28,7 @@ use Rattle.solv_script.proofs.GrownTexts.{first_are}
 use Rattle.solv_laws.specs.Seeds.{SeedsPassNoLimit}
 use Rattle.solv_laws.proofs.FewOfOneName.{IsModest, asked}
 use Rattle.solv_laws.proofs.FewWords.{none_pass, modest_fits}
-use Rattle.solv_laws.proofs.Totals.{total}
+use Rattle.solv_leaving.proofs.Totals.{total}
 
 -- names are apart
 text_number : (j k : ℕ) → j < 10000 → k < 10000 → name_text j ≡ name_text k → j ≡ k

@@ -1,19 +1,24 @@
 //! What is printed for an answer.
-ghost use Rattle.std.specs.Prelude.{◌≡◌, ◌++◌, ◌∷◌, [], ◌||◌, map, true, length, is_none, IfOk, OnOk};
+ghost use Rattle.std.specs.Prelude.{◌≡◌, ◌++◌, ◌∷◌, [], ◌||◌, map, true, false, length, is_none, IfOk, OnOk};
 ghost use Rattle.solv_io.specs.Lines.{ended_lines};
 ghost use Rattle.solv_pool.specs.HardRules.{hard_rules};
 ghost use Rattle.solv_pool.specs.Words.{when};
 ghost use Rattle.solv_pool.specs.TaskBelonging.{IsClosed};
-ghost use Rattle.solv_answers.specs.Answers.{IsPrepared, is_spent};
+ghost use Rattle.solv_pool.specs.Catalog.{catalog_of};
+ghost use Rattle.solv_prov.specs.Index.{IsIndexOf};
+ghost use Rattle.solv_rules.specs.Books.{read_rules};
+ghost use Rattle.solv_answers.specs.Answers.{is_spent, is_transaction};
 ghost use Rattle.solv_script.specs.Inner.Turns.{first_turn};
 ghost use Rattle.solv_run.specs.Inner.Outcomes.{has_listed};
 ghost use Rattle.solv_run.specs.Texts.{problems_lines, answer_lines, told_lines, differing_lines, differences, is_as_wanted, round_lines};
 ghost use Rattle.solv_lines.specs.LineSets.{line_set};
 
 use crate::rounds::is_spent;
-use solv_answers::{Answer, Prepared};
+use solv_answers::Answer;
 use solv_lines::{LineSet, Outcome, compare, line_set, result_lines};
 use solv_list::Bytes;
+use solv_pool::Rules;
+use solv_prov::Providers;
 use solv_remedy::Problem;
 use solv_script::Script;
 use std::alloc::{AllocError, Global};
@@ -22,31 +27,34 @@ use std::alloc::{AllocError, Global};
 fn lines_of_problems(
     alloc: Global,
     script: &Script,
-    prepared: &Prepared<'_>,
+    prov: &Providers,
+    rules: &Rules,
     problems: &[Problem],
 ) -> Result<LineSet, AllocError>
     requires closed { IsClosed script.now.task }
-    requires prepared { IsPrepared script.now.task prepared.now }
+    requires index { IsIndexOf prov.now (catalog_of script.now.task) }
+    requires rules { read_rules rules.now ≡ hard_rules script.now.task }
     ensures { IfOk result (λ lines. lines ≡ line_set (problems_lines script.now.task script.now.kinds problems.now)) }
 {
-    let (task, rules) = (&script.task, prepared.book.rules());
     let failed = Outcome::Failed(problems);
-    result_lines(alloc, script.kinds, task, prepared.prov, rules, &failed)
+    result_lines(alloc, script.kinds, &script.task, prov, rules, &failed)
 }
 
 /// The result lines of an answer to a script.
 fn answer_lines(
     alloc: Global,
     script: &Script,
-    prepared: &Prepared<'_>,
+    prov: &Providers,
+    rules: &Rules,
     answer: &Answer,
 ) -> Result<LineSet, AllocError>
     requires closed { IsClosed script.now.task }
-    requires prepared { IsPrepared script.now.task prepared.now }
+    requires index { IsIndexOf prov.now (catalog_of script.now.task) }
+    requires rules { is_transaction answer.now ≡ false → read_rules rules.now ≡ hard_rules script.now.task }
     requires listed { has_listed (length script.now.task.universe.packages) answer.now ≡ true }
     ensures { IfOk result (λ lines. lines ≡ line_set (answer_lines script.now.task script.now.kinds answer.now)) }
 {
-    let (task, rules) = (&script.task, prepared.book.rules());
+    let task = &script.task;
     match answer {
         Answer::Transaction {
             trail,
@@ -60,14 +68,14 @@ fn answer_lines(
                 trail,
                 set: set.held(),
             };
-            result_lines(alloc, script.kinds, task, prepared.prov, rules, &solved)
+            result_lines(alloc, script.kinds, task, prov, rules, &solved)
         }
         Answer::Problems(problems) => {
-            lines_of_problems(alloc, script, prepared, problems.held())
+            lines_of_problems(alloc, script, prov, rules, problems.held())
         }
         Answer::Spent => {
             let spent = Outcome::Spent;
-            result_lines(alloc, script.kinds, task, prepared.prov, rules, &spent)
+            result_lines(alloc, script.kinds, task, prov, rules, &spent)
         }
     }
 }
@@ -161,21 +169,23 @@ fn append_told(
     }
 }
 
-/// What is printed for the answer to the first round of a script.
+/// What is printed for the answer to the first round of a script. The hard rules are those of problems; a transaction has none.
 pub(crate) fn round_said(
     alloc: Global,
     shows: bool,
     script: &Script,
-    prepared: &Prepared<'_>,
+    prov: &Providers,
+    rules: &Rules,
     answer: &Answer,
 ) -> Result<Said, AllocError>
     requires closed { IsClosed script.now.task }
-    requires prepared { IsPrepared script.now.task prepared.now }
+    requires index { IsIndexOf prov.now (catalog_of script.now.task) }
+    requires rules { is_transaction answer.now ≡ false → read_rules rules.now ≡ hard_rules script.now.task }
     requires listed { has_listed (length script.now.task.universe.packages) answer.now ≡ true }
     ensures text { IfOk result (λ made. made.text.items ≡ ended_lines (round_lines shows (first_turn script.now) answer.now)) }
     ensures as_wanted { IfOk result (λ made. made.as_wanted ≡ is_as_wanted (first_turn script.now) answer.now) }
 {
-    let given = answer_lines(alloc, script, prepared, answer)?;
+    let given = answer_lines(alloc, script, prov, rules, answer)?;
     let differing = differences(alloc, script, answer, &given)?;
     let mut text = Vec::new(alloc);
     append_told(shows, script, &given, &mut text)?;

@@ -6,9 +6,10 @@ ghost use Rattle.solv_pool.specs.Catalog.{catalog_of};
 ghost use Rattle.solv_pool.specs.HardRules.{hard_rules};
 ghost use Rattle.solv_pool.specs.TaskBelonging.{IsClosed};
 ghost use Rattle.solv_pool.specs.TaskForms.{HasForms};
-ghost use Rattle.solv_rules.specs.Books.{IsDue, first_fault};
+ghost use Rattle.solv_prov.specs.Index.{IsIndexOf};
+ghost use Rattle.solv_rules.specs.Books.{IsDue, first_fault, read_rules};
 ghost use Rattle.solv_rounds.specs.Inner.Fronts.{IsDueAt, IsLimitAt};
-ghost use Rattle.solv_answers.specs.Answers.{IsPrepared, first_limit, is_spent};
+ghost use Rattle.solv_answers.specs.Answers.{IsPrepared, first_limit, is_spent, is_transaction};
 ghost use Rattle.solv_answers.specs.Inner.Fronts.{MayGoOn};
 ghost use Rattle.solv_script.specs.Rounds.{tasks, turn_of, turns, with_jobs_of};
 ghost use Rattle.solv_script.specs.Inner.Turns.{first_turn};
@@ -20,6 +21,8 @@ use crate::outputs::prints_lines;
 use crate::printing::round_said;
 use crate::reports::Reached;
 use solv_answers::{Answer, Answered, Prepared, answer_in_turn, prepare_next};
+use solv_pool::Rules;
+use solv_prov::Providers;
 use solv_rules::BookFault;
 use solv_script::Script;
 use solv_words::Command;
@@ -56,27 +59,29 @@ fn left_by(left: u32, answered: &Answered) -> u32
 
 impl Begun {
     /// Takes in what is printed of the first round of a script.
-    fn print(
+    pub(crate) fn print(
         &mut self,
         alloc: Global,
         shows: bool,
         script: &Script,
-        prepared: &Prepared<'_>,
+        prov: &Providers,
+        rules: &Rules,
         answer: &Answer,
     ) -> Result<(), AllocError>
         requires closed { IsClosed script.now.task }
-        requires prepared { IsPrepared script.now.task prepared.now }
+        requires index { IsIndexOf prov.now (catalog_of script.now.task) }
+        requires rules { is_transaction answer.now ≡ false → read_rules rules.now ≡ hard_rules script.now.task }
         requires listed { has_listed (length script.now.task.universe.packages) answer.now ≡ true }
         ensures { OnOk result (HasPrinted shows (first_turn script.now) answer.now self.old self.new) }
     {
-        let said = round_said(alloc, shows, script, prepared, answer)?;
+        let said = round_said(alloc, shows, script, prov, rules, answer)?;
         self.text.extend_from_slice(&said.text)?;
         self.as_wanted = self.as_wanted && said.as_wanted;
         Ok(())
     }
 
     /// Takes in an answer.
-    fn take(&mut self, answered: Answered) -> Result<(), AllocError>
+    pub(crate) fn take(&mut self, answered: Answered) -> Result<(), AllocError>
         ensures taken { OnOk result (HasTaken answered self.old self.new) }
         ensures left { self.new.left ≤ self.old.left }
     {
@@ -108,7 +113,8 @@ pub(crate) fn answer_round(
     if !prints_lines(command.output) {
         return begun.take(answered);
     }
-    begun.print(alloc, command.shows, script, prepared, &answered.answer)?;
+    let (prov, rules) = (prepared.prov, prepared.book.rules());
+    begun.print(alloc, command.shows, script, prov, rules, &answered.answer)?;
     begun.take(answered)
 }
 

@@ -5,6 +5,7 @@ ghost use Rattle.solv_pool.specs.Catalog.{catalog_of};
 ghost use Rattle.solv_pool.specs.HardRules.{hard_rules};
 ghost use Rattle.solv_pool.specs.TaskBelonging.{IsClosed};
 ghost use Rattle.solv_pool.specs.TaskForms.{HasForms};
+ghost use Rattle.solv_prov.specs.Index.{IsIndexOf};
 ghost use Rattle.solv_rules.specs.Books.{first_fault};
 ghost use Rattle.solv_answers.specs.Answers.{IsPrepared, first_limit};
 ghost use Rattle.solv_answers.specs.Inner.Fronts.{MayGoOn};
@@ -18,6 +19,7 @@ ghost use Rattle.solv_run.specs.Texts.{printed};
 
 use crate::checks::{append_false, are_true};
 use crate::dues::{Conclusion, PROGRAM, nothing_reached, status_of, unanswered};
+use crate::lean::lean_due;
 use crate::outputs::{asks_answers, prints_lines};
 use crate::proving::proofs_due;
 use crate::rounds::{Begun, answer_with, later_rounds};
@@ -83,7 +85,7 @@ fn answers_due(
 }
 
 /// What the rounds of a script come to, where lines are asked for.
-fn answers_concluded(
+pub(crate) fn answers_concluded(
     alloc: Global,
     command: &Command,
     script: &Script,
@@ -156,7 +158,7 @@ fn concluded(
 }
 
 /// Nothing begun, and the whole budget left.
-fn none_begun(alloc: Global, budget: u32) -> Begun
+pub(crate) fn none_begun(alloc: Global, budget: u32) -> Begun
     ensures reached { result.reached ≡ nothing_reached }
     ensures text { result.text.items ≡ [] }
     ensures as_wanted { result.as_wanted ≡ true }
@@ -195,6 +197,27 @@ fn rounds_due(
     }
 }
 
+/// What is due for a script that was read, by all hard rules of its rounds.
+fn whole_due(
+    alloc: Global,
+    command: &Command,
+    script: &mut Script,
+    prov: &Providers,
+) -> Result<Conclusion, AllocError>
+    requires asks { asks_answers command.now.output ≡ true }
+    requires closed { All IsClosed (tasks script.old) }
+    requires forms { All HasForms (tasks script.old) }
+    requires index { IsIndexOf prov.now (catalog_of script.old.task) }
+    requires budget { command.now.budget ≤ 1000000 }
+    ensures { IfOk result (λ conclusion. IsDueFor command.now script.old conclusion.due conclusion.reached) }
+{
+    match prepare_first(alloc, &script.task, prov) {
+        Ok(first) => rounds_due(alloc, command, script, first),
+        Err(BookFault::Memory) => Err(AllocError),
+        Err(fault) => passed_due(alloc, command, script, fault),
+    }
+}
+
 /// What is due for a script that was read, where its answers are asked for.
 fn solved_due(
     alloc: Global,
@@ -208,10 +231,9 @@ fn solved_due(
     ensures { IfOk result (λ conclusion. IsDueFor command.now script.old conclusion.due conclusion.reached) }
 {
     let prov = Providers::build(alloc, &script.task)?;
-    match prepare_first(alloc, &script.task, &prov) {
-        Ok(first) => rounds_due(alloc, command, script, first),
-        Err(BookFault::Memory) => Err(AllocError),
-        Err(fault) => passed_due(alloc, command, script, fault),
+    match lean_due(alloc, command, script, &prov)? {
+        Some(conclusion) => Ok(conclusion),
+        None => whole_due(alloc, command, script, &prov),
     }
 }
 

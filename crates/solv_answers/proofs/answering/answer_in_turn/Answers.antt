@@ -1,3 +1,6 @@
+use Rattle.std.proofs.Common.{None, subst, sym}
+use Rattle.solv_answers.specs.Answers.{IsPrepared}
+use Rattle.solv_answers.specs.declared.preparing.Prepared.{Prepared}
 use Rattle.solv_answers.proofs.Solved.{solved_if}
 use Rattle.std.specs.Prelude.{Ok}
 use Rattle.solv_answers.proofs.answering.answer_in_turn.Goals as goal
@@ -6,3 +9,12 @@ pub returns-clause-direct : goal.returns-clause-direct
 returns-clause-direct c =
     solved_if c.args.task.now c.questions_keep_the_law.ensures c.clauses_name_packages.ensures c.clauses_say_the_rule.ensures c.requires.formed c.requires.prepared.bookable
     c.args.budget (Ok c.in_ok-answered.field-0.answered) c.in_ok-answered.ensures.good
+
+pub returns-clause-prepared : goal.returns-clause-prepared
+returns-clause-prepared c =
+    let K : Prepared → Type 0 = λ q. IsPrepared c.args.task.now q in
+    let before = c.requires.prepared in
+    let none : K (record c.args.prepared.now { left = None }) =
+    record { index = before.index; flags = before.flags; marks = before.marks; each = before.each; book = before.book; rules = before.rules; bookable = before.bookable; fits = before.fits } in
+    let taken : K c.take_left-left.new.prepared = subst K (sym c.take_left-left.ensures.prepared) none in
+    record { index = taken.index; flags = taken.flags; marks = taken.marks; each = taken.each; book = taken.book; rules = taken.rules; bookable = taken.bookable; fits = taken.fits }

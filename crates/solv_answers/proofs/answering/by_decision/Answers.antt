@@ -1,16 +1,18 @@
 use Rattle.std.proofs.Common.{◌+◌, ◌∙◌, ℕ, ap, length, subst, sym}
 use Rattle.std.specs.Prelude.{◌==◌, IfOk}
 use Rattle.solv_pool.specs.declared.job_marks.Marks.{Marks}
+use Rattle.solv_pool.specs.Catalog.{catalog_of}
+use Rattle.solv_pool.specs.JobMarks.{marks_of}
+use Rattle.solv_leaving.proofs.NoneOut.{none_left_out}
 use Rattle.solv_core.specs.Inner.Running.{is_spent_verdict}
 use Rattle.solv_questions.specs.Questions.{request_of}
 use Rattle.solv_decide.specs.Inner.Deciding.{IsAskedFor}
 use Rattle.solv_answers.specs.Answers.{IsAnswered}
-use Rattle.solv_answers.proofs.Meeting.{bookable_agree}
 use Rattle.solv_answers.proofs.Remedied.{begun_made, core_is, made_for, spent_first}
 use Rattle.solv_answers.proofs.answering.by_decision.Goals as goal
 
-pub solved-requires-clause-agree : goal.solved-requires-clause-agree
-solved-requires-clause-agree c = bookable_agree c.args.task.now c.clauses_say_the_rule.ensures c.requires.prepared.bookable
+pub solved-requires-clause-out : goal.solved-requires-clause-out
+solved-requires-clause-out c = none_left_out (catalog_of c.args.task.now) c.args.task.now.flags c.args.task.now.jobs (marks_of c.args.task.now)
 
 pub solved-requires-clause-begun : goal.solved-requires-clause-begun
 solved-requires-clause-begun c =

@@ -3,8 +3,12 @@ use Rattle.std.specs.Prelude.{IfOk}
 use Rattle.solv_pool.specs.Catalog.{catalog_of}
 use Rattle.solv_lines.specs.LineSets.{line_set}
 use Rattle.solv_lines.specs.ResultLines.{solved_lines}
+use Rattle.solv_answers.specs.Answers.{is_transaction}
 use Rattle.solv_run.specs.Texts.{answer_lines}
 use Rattle.solv_run.proofs.printing.answer_lines.Goals as goal
+
+pub lines_of_problems-requires-clause-rules : goal.lines_of_problems-requires-clause-rules
+lines_of_problems-requires-clause-rules c = c.requires.rules (ap is_transaction c.in-Problems.is)
 
 pub returns-in-Transaction : goal.returns-in-Transaction
 returns-in-Transaction c =

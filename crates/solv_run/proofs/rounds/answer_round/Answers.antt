@@ -2,11 +2,15 @@ use Rattle.std.proofs.Common.{sym, ◌∙◌}
 use Rattle.solv_script.specs.Inner.Turns.{first_turn}
 use Rattle.solv_said.proofs.Forming.{asks_formed}
 use Rattle.solv_run.specs.Rounds.{IsGoodAnswer}
+use Rattle.solv_run.proofs.AnswerLines.{listed_answer}
 use Rattle.solv_run.proofs.RoundByRound.{taken_alone, taken_behind}
 use Rattle.solv_run.proofs.rounds.answer_round.Goals as goal
 
 pub answer_in_turn-requires-clause-formed : goal.answer_in_turn-requires-clause-formed
 answer_in_turn-requires-clause-formed c = asks_formed c.args.script.now.task c.requires.forms
+
+pub print-requires-clause-listed : goal.print-requires-clause-listed
+print-requires-clause-listed c = let good = c.in_ok-answered.ensures.good in listed_answer c.args.script.now.task good.left c.in_ok-answered.answered.answer good.is
 
 pub returns-then-not-prints_lines-clause-one_more : goal.returns-then-not-prints_lines-clause-one_more
 returns-then-not-prints_lines-clause-one_more c =

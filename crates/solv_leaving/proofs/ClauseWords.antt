@@ -8,7 +8,7 @@ use Rattle.solv_pool.specs.Clauses.{is_out, Clause, shape_clauses, same_literal,
 use Rattle.solv_pool.specs.RuleMeaning.{HardRule, shape_of}
 use Rattle.solv_pool.proofs.Members.{Has}
 use Rattle.solv_rules.specs.Books.{most_words, overrun, or_else, rich_fault, rule_fault, first_fault}
-use Rattle.solv_laws.proofs.Totals.{total, total_is, fewer_pass}
+use Rattle.solv_leaving.proofs.Totals.{total, total_is, fewer_pass}
 
 -- each literal once is no more literals
 fewer_firsts : (before c : Clause) → length (firsts before c) ≤ length c

@@ -1,0 +1,65 @@
+-- What a decision over the rules that are made comes to.
+use Rattle.std.proofs.Common.{◌≡◌, ◌≤◌, ◌+◌, ℕ, Bool, true, List, [], ◌∷◌, sym, ap, ◌∙◌, subst, length}
+use Rattle.std.specs.Prelude.{◌==◌, flat_map, replicate}
+use Rattle.std.proofs.lemmas.List.{length-map}
+use Rattle.solv_pool.specs.Catalog.{catalog_of}
+use Rattle.solv_pool.specs.Clauses.{rule_clauses}
+use Rattle.solv_pool.specs.RuleMeaning.{rule_with}
+use Rattle.solv_pool.specs.declared.job_marks.Marks.{Marks}
+use Rattle.solv_pool.specs.declared.tasks.Task.{Task}
+use Rattle.solv_core.specs.Cores.{CoreOf}
+use Rattle.solv_core.specs.Ledgers.{IsGoodLedger}
+use Rattle.solv_core.specs.Inner.Running.{is_spent_verdict}
+use Rattle.solv_rules.specs.Books.{owners_from}
+use Rattle.solv_questions.specs.Questions.{asks, request_of}
+use Rattle.solv_decide.specs.Inner.Deciding.{IsDecided}
+use Rattle.solv_decide.specs.declared.deciding.Decided.{Decided}
+use Rattle.solv_answers.specs.Answers.{all_made, made_asks, made_clauses, made_owners, made_request}
+use Rattle.solv_answers.specs.Inner.Beginnings.{HasBegun}
+use Rattle.solv_answers.specs.Inner.Lean.{IsDecidedLean, IsLean}
+use Rattle.solv_answers.specs.declared.lean.Lean.{Lean}
+
+module _ (task : Task) (lean : Lean) (is : IsLean task lean) where
+  abbrev left : List Bool
+  left = lean.marks.left_out
+
+  abbrev book_core : CoreOf
+  book_core = record { clauses = lean.book.clauses; owners = lean.book.owners; packages = length task.universe.packages }
+
+  abbrev made_core : CoreOf
+  made_core = record { clauses = made_clauses task left; owners = made_owners task left; packages = length task.universe.packages }
+
+  core_is : book_core ≡ made_core
+  core_is = λ i. record {
+    clauses = (is.book.clauses ∙ ap (flat_map (rule_clauses (catalog_of task))) is.rules) i;
+    owners = (is.book.owners ∙ ap (owners_from (catalog_of task) 0) is.rules) i;
+    packages = length task.universe.packages;
+  }
+
+  enabled_are : replicate (length lean.book.rules.list) true ≡ all_made task left
+  enabled_are = ap (λ n. replicate n true) (sym (length-map lean.book.rules.list (rule_with lean.book.rules.sets)) ∙ ap length is.rules)
+
+  pub decided_lean : (budget : ℕ) (decided : Decided) → decided.ledger.budget ≡ budget → length decided.ledger.entries ≤ decided.ledger.budget + 1
+      → decided.ledger.runs ≡ (record { enabled = replicate (length lean.book.rules.list) true; kept = [] }) ∷ []
+      → IsGoodLedger lean.book.clauses lean.book.owners (length task.universe.packages) (asks (request_of task lean.marks)) decided.ledger
+      → is_spent_verdict decided.verdict ≡ (length decided.ledger.entries == budget + 1)
+      → IsDecided (request_of task lean.marks) (replicate (length lean.book.rules.list) true) book_core decided.verdict
+      → IsDecidedLean task left decided
+  decided_lean budget decided budget_is few runs good spent so =
+      let G : Marks → Type 0 = λ m. IsGoodLedger lean.book.clauses lean.book.owners (length task.universe.packages) (asks (request_of task m)) decided.ledger in
+      let C : CoreOf → Type 0 = λ c. IsGoodLedger c.clauses c.owners c.packages (made_asks task left) decided.ledger in
+      let M : Marks → Type 0 = λ m. IsDecided (request_of task m) (replicate (length lean.book.rules.list) true) book_core decided.verdict in
+      let E : List Bool → Type 0 = λ l. IsDecided (made_request task left) l book_core decided.verdict in
+      let begun : HasBegun task left decided.ledger = record {
+        good = subst C core_is (subst G is.left.marks_are good);
+        runs = runs ∙ ap (λ l. (record { enabled = l; kept = [] }) ∷ []) enabled_are;
+        few = few;
+      } in
+      record {
+        out = is.left.out;
+        bookable = is.bookable;
+        begun = begun;
+        spent = spent ∙ ap (λ n. length decided.ledger.entries == n + 1) (sym budget_is);
+        core = book_core;
+        decided_so = subst E enabled_are (subst M is.left.marks_are so);
+      }

@@ -1,0 +1,3 @@
+-- Words of contracts between layers, and what holds inside.
+pub mod Fitting
+pub mod Starting

@@ -1,0 +1,57 @@
+-- Packages that nothing can ask for. Of what they require no rules are made, since no set that answers a task holds them.
+use Rattle.std.specs.Prelude.{ℕ, ◌≡◌, Bool, true, false, not, ◌&&◌, ◌||◌, List, [], ◌∷◌}
+use Rattle.std.specs.List.{list_all}
+use Rattle.solv_base.specs.Dependency.{Dep, one, namespace, and, or, with, without, if_then, if_else, unless, unless_else, missing, package_wise}
+use Rattle.solv_pool.specs.Words.{is_among, passes}
+use Rattle.solv_pool.specs.Catalog.{Catalog, packages, package_at, dependency, is_installed}
+use Rattle.solv_pool.specs.HardRules.{feature_candidates}
+use Rattle.solv_pool.specs.JobKinds.{is_install, job_selects}
+use Rattle.solv_pool.specs.JobMarks.{marked}
+use Rattle.solv_pool.specs.Needs.{asked_by, serves_package}
+use Rattle.solv_pool.specs.declared.jobs.Job.{Job}
+use Rattle.solv_pool.specs.declared.job_marks.Marks.{Marks}
+use Rattle.solv_pool.specs.declared.packages.Package.{Package}
+use Rattle.solv_pool.specs.declared.tasks.Flags.{Flags}
+
+-- whatever can be taken so that the dependency holds meets one of its parts: nothing is taken for a condition
+abbrev pub is_plainly_met : {N : Type 0} → Dep N → Bool
+is_plainly_met (one c) = true
+is_plainly_met (namespace n) = true
+is_plainly_met (with a b) = true
+is_plainly_met (without a b) = true
+is_plainly_met (and a b) = is_plainly_met a && is_plainly_met b
+is_plainly_met (or a b) = package_wise (or a b) || (is_plainly_met a && is_plainly_met b)
+is_plainly_met (if_then a b) = is_plainly_met a
+is_plainly_met (if_else a b c) = false
+is_plainly_met (unless a b) = false
+is_plainly_met (unless_else a b c) = false
+is_plainly_met missing = false
+
+module _ (catalog : Catalog) where
+  -- so it is with all that a package asks for, and packages meet its conflicts alone
+  abbrev pub asks_plainly : Package → Bool
+  asks_plainly a = list_all (λ d. is_plainly_met (dependency catalog d)) (asked_by a) && list_all (λ d. package_wise (dependency catalog d)) a.conflicts
+
+  -- packages meet its requirements alone
+  abbrev pub is_met_alone : Package → Bool
+  is_met_alone a = list_all (λ need. package_wise (dependency catalog need.dep)) a.requires_
+
+-- the marks with these packages left out
+abbrev pub leaving : Marks → List Bool → Marks
+leaving marks left = record marks { left_out = left }
+
+-- something is in the list
+abbrev pub has_some : {X : Type 0} → List X → Bool
+has_some [] = false
+has_some (x ∷ xs) = true
+
+-- Which packages are left out: neither the system, nor what may stand in the place of an installed package, what an install job selects, what supplements something,
+-- what has a requirement that packages do not meet alone, and what serves a package that is not left out. None is, where a condition could ask for something.
+pub record LeavesOut (catalog : Catalog) (flags : Flags) (jobs : List Job) (marks : Marks) (left : List Bool) : Type 0 where
+  pub plain : (q : ℕ) → marked left q ≡ true → list_all (asks_plainly catalog) catalog.universe.packages ≡ true
+  pub system : marked left 0 ≡ false
+  pub kept : (p q : ℕ) → is_installed catalog p ≡ true → is_among (feature_candidates catalog flags marks p) q ≡ true → marked left q ≡ false
+  pub selected : (q : ℕ) → job_selects catalog jobs is_install q ≡ true → marked left q ≡ false
+  pub offered : (q : ℕ) → passes (package_at catalog q) (λ a. has_some a.supplements) ≡ true → marked left q ≡ false
+  pub rich : (q : ℕ) → passes (package_at catalog q) (λ a. not (is_met_alone catalog a)) ≡ true → marked left q ≡ false
+  pub needed : (p q : ℕ) → is_among (packages catalog) p ≡ true → marked left p ≡ false → serves_package catalog q p ≡ true → marked left q ≡ false

@@ -1,0 +1,148 @@
+//! Packages that may be asked for by themselves.
+ghost use Rattle.std.specs.Prelude.{ℕ, ◌≡◌, ◌≤◌, ◌<◌, ◌||◌, ◌==◌, true, length, IfOk, OnOk};
+ghost use Rattle.std.specs.List.{list_all};
+ghost use Rattle.solv_base.specs.Dependency.{tree, package_wise};
+ghost use Rattle.solv_pool.specs.Belonging.{IsOver};
+ghost use Rattle.solv_pool.specs.Catalog.{catalog_of, package_at};
+ghost use Rattle.solv_pool.specs.TaskBelonging.{IsClosed};
+ghost use Rattle.solv_pool.specs.Words.{is_among, passes};
+ghost use Rattle.solv_prov.specs.Index.{IsIndexOf};
+ghost use Rattle.solv_jobs.specs.Marking.{HasMarks};
+ghost use Rattle.solv_clean.specs.Inner.Readiness.{need_below};
+ghost use Rattle.solv_clean.specs.Inner.Tables.{is_marked};
+ghost use Rattle.solv_leaving.specs.Inner.Starting.{AreMarked, AreStarted, AreStarts, kept_by, stands_alone, starts_by};
+
+use solv_base::Pool;
+use solv_jobs::{Mark, marked_by};
+use solv_pool::{Marks, Need, PackNo, Task};
+use solv_prov::Providers;
+use solv_updates::feature_candidates;
+use std::alloc::{AllocError, Global};
+
+/// Whether packages meet these requirements alone.
+fn are_met_alone(pool: &Pool, needs: &[Need]) -> bool
+    requires { list_all (need_below (length pool.now.nodes)) needs.now ≡ true }
+    ensures { result ≡ list_all (λ need. package_wise (tree pool.now.nodes need.dep)) needs.now }
+{
+    for need in needs {
+        if !pool.package_wise(need.dep) {
+            return false;
+        }
+    }
+    true
+}
+
+/// Whether a package supplements something, or has a requirement that packages do not meet alone.
+fn stands_alone(task: &Task, pack: PackNo) -> bool
+    requires over { IsOver task.now.pool task.now.universe }
+    requires a_package { 0 < pack }
+    requires held { pack ≤ length task.now.universe.packages }
+    ensures { result ≡ passes (package_at (catalog_of task.now) pack) (stands_alone (catalog_of task.now)) }
+{
+    let package = task.universe.package(pack);
+    !package.supplements().is_empty() || !are_met_alone(&task.pool, package.requires_())
+}
+
+/// Marks a package. One that has no entry is left out.
+fn mark(table: &mut [bool], pack: PackNo)
+    ensures size { length table.new ≡ length table.old }
+    ensures marked { (p : ℕ) → p < length table.old → is_marked table.new p ≡ (is_marked table.old p || (pack == p)) }
+{
+    let place = pack.0 as usize;
+    if place < table.len() {
+        table[place] = true;
+    }
+}
+
+/// Marks packages.
+fn mark_all(table: &mut [bool], packs: &[PackNo])
+    ensures size { length table.new ≡ length table.old }
+    ensures marked { (p : ℕ) → p < length table.old → is_marked table.new p ≡ (is_marked table.old p || is_among packs.now p) }
+{
+    for pack in packs {
+        mark(table, *pack);
+    }
+}
+
+/// Marks what may stand in the place of a package, if it is installed.
+fn mark_kept(
+    alloc: Global,
+    task: &Task,
+    prov: &Providers,
+    marks: &Marks,
+    pack: PackNo,
+    table: &mut [bool],
+) -> Result<(), AllocError>
+    requires index { IsIndexOf prov.now (catalog_of task.now) }
+    requires over { IsOver task.now.pool task.now.universe }
+    requires marks { HasMarks (length task.now.universe.packages) marks.now }
+    requires a_package { 0 < pack }
+    requires held { pack ≤ length task.now.universe.packages }
+    ensures { OnOk result (AreMarked (kept_by (catalog_of task.now) task.now.flags marks.now pack) table.old table.new) }
+{
+    if task.universe.installed(pack) {
+        let packs = feature_candidates(alloc, task, prov, marks, pack)?;
+        mark_all(table, &packs);
+    }
+    Ok(())
+}
+
+/// Marks what may stand in the place of a package, if it is installed, and the package itself, if it is asked for by itself.
+fn mark_started(
+    alloc: Global,
+    task: &Task,
+    prov: &Providers,
+    marks: &Marks,
+    pack: PackNo,
+    table: &mut [bool],
+) -> Result<(), AllocError>
+    requires index { IsIndexOf prov.now (catalog_of task.now) }
+    requires over { IsOver task.now.pool task.now.universe }
+    requires marks { HasMarks (length task.now.universe.packages) marks.now }
+    requires a_package { 0 < pack }
+    requires held { pack ≤ length task.now.universe.packages }
+    ensures { OnOk result (AreMarked (starts_by (catalog_of task.now) task.now.flags marks.now pack) table.old table.new) }
+{
+    mark_kept(alloc, task, prov, marks, pack, table)?;
+    if stands_alone(task, pack) {
+        mark(table, pack);
+    }
+    Ok(())
+}
+
+/// Marks all that is started so by one of the packages.
+fn mark_each_started(
+    alloc: Global,
+    task: &Task,
+    prov: &Providers,
+    marks: &Marks,
+    table: &mut [bool],
+) -> Result<(), AllocError>
+    requires index { IsIndexOf prov.now (catalog_of task.now) }
+    requires over { IsOver task.now.pool task.now.universe }
+    requires marks { HasMarks (length task.now.universe.packages) marks.now }
+    ensures { OnOk result (AreStarted (catalog_of task.now) task.now.flags marks.now (length task.now.universe.packages) table.old table.new) }
+{
+    for before in 0..task.universe.count() {
+        mark_started(alloc, task, prov, marks, PackNo(before + 1), table)?;
+    }
+    Ok(())
+}
+
+/// A table of the packages that may be asked for by themselves.
+pub(crate) fn starts(
+    alloc: Global,
+    task: &Task,
+    prov: &Providers,
+    marks: &Marks,
+) -> Result<Vec<bool>, AllocError>
+    requires index { IsIndexOf prov.now (catalog_of task.now) }
+    requires closed { IsClosed task.now }
+    requires marks { HasMarks (length task.now.universe.packages) marks.now }
+    ensures { IfOk result (λ table. AreStarts (catalog_of task.now) task.now.flags marks.now task.now.jobs table.items) }
+{
+    let asked = marked_by(alloc, task, prov, Mark::Asked)?;
+    let mut table = asked.into_vec();
+    mark_each_started(alloc, task, prov, marks, &mut table)?;
+    Ok(table)
+}
