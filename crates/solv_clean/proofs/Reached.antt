@@ -1,8 +1,8 @@
 -- What no walk leads to, by tables.
 use Rattle.std.proofs.Common.{◌≡◌, ℕ, zero, suc, ◌+◌, ◌<◌, Bool, true, false, ◌&&◌, List, [], ◌∷◌, length, filter, inl, inr, refl, sym, ap, ◌∙◌, subst, arith, eqb}
 use Rattle.std.specs.Prelude.{not, replicate}
-use Rattle.std.proofs.lemmas.Bool.{and_from, and_parts, or_left, or_right, cases_lt, eqb-true, false≢true}
-use Rattle.solv_list.proofs.Booleans.{or_cases}
+use Rattle.std.proofs.lemmas.Bool.{and_from, and_parts, or_left, or_right, cases_lt, eqb-true}
+use Rattle.solv_list.proofs.Booleans.{or_cases, second_is_false, true_of_not}
 use Rattle.solv_pool.specs.Words.{is_among}
 use Rattle.solv_pool.specs.Catalog.{Catalog, packages}
 use Rattle.solv_pool.specs.Cleaning.{needed_from}
@@ -28,11 +28,6 @@ all_marked (suc n) (suc q) lt = all_marked n q (omega (arith, lt))
 pub all_entries : (n : ℕ) → length (replicate n true) ≡ n
 all_entries zero = refl
 all_entries (suc n) = ap (λ k. suc k) (all_entries n)
-
-both_first : (a b : Bool) → (a && not b) ≡ false → a ≡ true → b ≡ true
-both_first true true h e = refl
-both_first true false h e = sym h
-both_first false b h e = absurd (false≢true e)
 
 neither_with : (a b : Bool) → b ≡ true → (a && not b) ≡ false
 neither_with true true h = refl
@@ -70,7 +65,7 @@ module _ (catalog : Catalog) where
     ]
 
     found_by : (p : ℕ) → p < count → is_marked made p ≡ false → need p ≡ true
-    found_by p lt h = sym (tells p) ∙ both_first (is_marked all p) (is_marked reached p) (sym (told_at (but_not all reached) count p lt) ∙ h) (all_marked count p lt)
+    found_by p lt h = sym (tells p) ∙ true_of_not (is_marked reached p) (second_is_false (is_marked all p) (not (is_marked reached p)) (sym (told_at (but_not all reached) count p lt) ∙ h) (all_marked count p lt))
 
     start_out : (q : ℕ) → is_among (begun starts) q ≡ true → marked made q ≡ false
     start_out q h = marked_is made q ∙ found_out q (needed_start catalog all (all_entries count) law (begun starts) (begun_inside starts) q h)

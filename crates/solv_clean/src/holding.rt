@@ -3,13 +3,12 @@ ghost use Rattle.std.specs.Prelude.{ℕ, Bool, ◌≡◌, ◌<◌, ◌+◌, ◌�
 ghost use Rattle.std.specs.List.{list_any};
 ghost use Rattle.solv_pool.specs.Catalog.{catalog_of, dependency};
 ghost use Rattle.solv_pool.specs.Holding.{holds, member_meets};
-ghost use Rattle.solv_prov.specs.Index.{IsIndexOf};
 ghost use Rattle.solv_clean.specs.Inner.Tables.{is_marked};
 ghost use Rattle.solv_clean.specs.Inner.Holding.{AreKnown};
 
+use crate::members::Members;
 use solv_base::{DepId, DepNode};
-use solv_pool::{PackNo, Task};
-use solv_prov::Providers;
+use solv_pool::PackNo;
 
 /// Whether a package is in the set. One without an entry is not.
 pub(crate) fn is_in(in_set: &[bool], pack: PackNo) -> bool
@@ -32,13 +31,11 @@ fn has_one(in_set: &[bool], packs: &[PackNo]) -> bool
 }
 
 /// Whether a member of the set meets a relation alone.
-fn is_met(task: &Task, prov: &Providers, in_set: &[bool], dep: DepId) -> bool
-    requires index { IsIndexOf prov.now (catalog_of task.now) }
-    requires held { dep < length task.now.pool.nodes }
-    ensures { result ≡ member_meets (catalog_of task.now) (dependency (catalog_of task.now) dep) (is_marked in_set.now) }
+fn is_met(members: &Members<'_>, dep: DepId) -> bool
+    requires held { dep < length members.now.task.now.pool.nodes }
+    ensures { result ≡ member_meets (catalog_of members.now.task.now) (dependency (catalog_of members.now.task.now) dep) (is_marked members.now.in_set.now) }
 {
-    let _pool = &task.pool;
-    has_one(in_set, prov.of(dep))
+    has_one(members.in_set, members.prov.of(dep))
 }
 
 /// What is known of a relation. Of one without an entry nothing is.
@@ -63,79 +60,65 @@ fn note_known(known: &mut [Option<bool>], dep: DepId, held: bool)
 
 /// Whether a dependency holds in the set, of which nothing is known.
 #[cycle(holding)]
-fn holds_anew(
-    task: &Task,
-    prov: &Providers,
-    in_set: &[bool],
-    dep: DepId,
-    known: &mut [Option<bool>],
-) -> bool
-    requires index { IsIndexOf prov.now (catalog_of task.now) }
-    requires held { dep < length task.now.pool.nodes }
-    requires known { AreKnown (catalog_of task.now) in_set.now known.old }
-    ensures holds { result ≡ holds (catalog_of task.now) (dependency (catalog_of task.now) dep) (is_marked in_set.now) }
-    ensures known { AreKnown (catalog_of task.now) in_set.now known.new }
+fn holds_anew(members: &Members<'_>, dep: DepId, known: &mut [Option<bool>]) -> bool
+    requires held { dep < length members.now.task.now.pool.nodes }
+    requires known { AreKnown (catalog_of members.now.task.now) members.now.in_set.now known.old }
+    ensures holds { result ≡ holds (catalog_of members.now.task.now) (dependency (catalog_of members.now.task.now) dep) (is_marked members.now.in_set.now) }
+    ensures known { AreKnown (catalog_of members.now.task.now) members.now.in_set.now known.new }
 {
-    match task.pool.dep(dep) {
+    match members.task.pool.dep(dep) {
         DepNode::And(a, b) => {
-            let first = holds(task, prov, in_set, a, known);
-            let second = holds(task, prov, in_set, b, known);
+            let first = holds(members, a, known);
+            let second = holds(members, b, known);
             first && second
         }
         DepNode::Or(a, b) => {
-            let first = holds(task, prov, in_set, a, known);
-            let second = holds(task, prov, in_set, b, known);
+            let first = holds(members, a, known);
+            let second = holds(members, b, known);
             first || second
         }
         DepNode::If(a, b) => {
-            let first = holds(task, prov, in_set, a, known);
-            let given = holds(task, prov, in_set, b, known);
+            let first = holds(members, a, known);
+            let given = holds(members, b, known);
             first || !given
         }
         DepNode::Unless(a, b) => {
-            let first = holds(task, prov, in_set, a, known);
-            let given = holds(task, prov, in_set, b, known);
+            let first = holds(members, a, known);
+            let given = holds(members, b, known);
             first && !given
         }
         DepNode::IfElse(a, b, c) => {
-            let first = holds(task, prov, in_set, a, known);
-            let given = holds(task, prov, in_set, b, known);
-            let last = holds(task, prov, in_set, c, known);
+            let first = holds(members, a, known);
+            let given = holds(members, b, known);
+            let last = holds(members, c, known);
             if given { first } else { last }
         }
         DepNode::UnlessElse(a, b, c) => {
-            let first = holds(task, prov, in_set, a, known);
-            let given = holds(task, prov, in_set, b, known);
-            let last = holds(task, prov, in_set, c, known);
+            let first = holds(members, a, known);
+            let given = holds(members, b, known);
+            let last = holds(members, c, known);
             if given { last } else { first }
         }
-        DepNode::Simple(_) => is_met(task, prov, in_set, dep),
-        DepNode::Versioned(_, _, _) => is_met(task, prov, in_set, dep),
-        DepNode::Namespace(_) => is_met(task, prov, in_set, dep),
-        DepNode::With(_, _) => is_met(task, prov, in_set, dep),
-        DepNode::Without(_, _) => is_met(task, prov, in_set, dep),
+        DepNode::Simple(_) => is_met(members, dep),
+        DepNode::Versioned(_, _, _) => is_met(members, dep),
+        DepNode::Namespace(_) => is_met(members, dep),
+        DepNode::With(_, _) => is_met(members, dep),
+        DepNode::Without(_, _) => is_met(members, dep),
     }
 }
 
 /// Whether a dependency holds in the set. What is found out of a relation is noted, so each is gone through once.
 #[cycle(holding)]
-pub(crate) fn holds(
-    task: &Task,
-    prov: &Providers,
-    in_set: &[bool],
-    dep: DepId,
-    known: &mut [Option<bool>],
-) -> bool
-    requires index { IsIndexOf prov.now (catalog_of task.now) }
-    requires held { dep < length task.now.pool.nodes }
-    requires known { AreKnown (catalog_of task.now) in_set.now known.old }
-    ensures holds { result ≡ holds (catalog_of task.now) (dependency (catalog_of task.now) dep) (is_marked in_set.now) }
-    ensures known { AreKnown (catalog_of task.now) in_set.now known.new }
+pub(crate) fn holds(members: &Members<'_>, dep: DepId, known: &mut [Option<bool>]) -> bool
+    requires held { dep < length members.now.task.now.pool.nodes }
+    requires known { AreKnown (catalog_of members.now.task.now) members.now.in_set.now known.old }
+    ensures holds { result ≡ holds (catalog_of members.now.task.now) (dependency (catalog_of members.now.task.now) dep) (is_marked members.now.in_set.now) }
+    ensures known { AreKnown (catalog_of members.now.task.now) members.now.in_set.now known.new }
 {
     if let Some(held) = known_of(known, dep) {
         return held;
     }
-    let held = holds_anew(task, prov, in_set, dep, known);
+    let held = holds_anew(members, dep, known);
     note_known(known, dep, held);
     held
 }

@@ -16,6 +16,7 @@ mod cleaning;
 mod finding;
 mod holding;
 mod leaving;
+mod members;
 mod naming;
 mod passing;
 mod searching;

@@ -10,6 +10,7 @@ ghost use Rattle.solv_clean.specs.Inner.Searching.{HasBegun, edge_in, IsFound};
 ghost use Rattle.solv_clean.specs.Inner.Readiness.{IsReady};
 
 use crate::finding::{mark_all, mark_needed};
+use crate::members::Members;
 use crate::supplementing::supplements_in;
 use crate::tables::table_with_relations;
 use solv_graph::{Graph, reached_is_where_walks_lead};
@@ -36,9 +37,7 @@ fn begin(
 
 /// Looks at each vertex that was found, and finds what is next to it.
 fn go_on(
-    task: &Task,
-    prov: &Providers,
-    in_set: &[bool],
+    members: &Members<'_>,
     may: &[bool],
     supplements: &Graph,
     starts: &[PackNo],
@@ -46,12 +45,10 @@ fn go_on(
     marks: &mut [bool],
     found: &mut Vec<u32>,
 ) -> Result<(), AllocError>
-    requires ready { IsReady task.now prov.now }
-    requires each { length in_set.now ≡ length task.now.universe.packages + 1 }
-    requires may { IsWithRelations in_set.now (length task.now.pool.nodes) may.now }
-    requires passed { ArePassed (serving (catalog_of task.now)) in_set.now passed.old marks.old }
+    requires may { IsWithRelations members.now.in_set.now (length members.now.task.now.pool.nodes) may.now }
+    requires passed { ArePassed (serving (catalog_of members.now.task.now)) members.now.in_set.now passed.old marks.old }
     requires begun { HasBegun may.now starts.now marks.old found.old.items }
-    ensures { OnOk result (IsFound (edge_in may.now (next_to (catalog_of task.now) in_set.now supplements.now)) starts.now marks.new) }
+    ensures { OnOk result (IsFound (edge_in may.now (next_to (catalog_of members.now.task.now) members.now.in_set.now supplements.now)) starts.now marks.new) }
 {
     let _starts = starts;
     for place in 0..may.len() {
@@ -59,17 +56,7 @@ fn go_on(
             return Ok(());
         }
         let vertex = found[place];
-        mark_needed(
-            task,
-            prov,
-            in_set,
-            may,
-            supplements,
-            vertex,
-            passed,
-            marks,
-            found,
-        )?;
+        mark_needed(members, may, supplements, vertex, passed, marks, found)?;
     }
     Ok(())
 }
@@ -77,31 +64,25 @@ fn go_on(
 /// Marks the members of a set to which walks lead from these, and what relations the walks lead over.
 fn search(
     alloc: Global,
-    task: &Task,
-    prov: &Providers,
-    in_set: &[bool],
+    members: &Members<'_>,
     may: &[bool],
     supplements: &Graph,
     starts: &[PackNo],
     marks: &mut [bool],
 ) -> Result<(), AllocError>
-    requires ready { IsReady task.now prov.now }
-    requires each { length in_set.now ≡ length task.now.universe.packages + 1 }
-    requires may { IsWithRelations in_set.now (length task.now.pool.nodes) may.now }
-    requires supplements { AreSupplements (catalog_of task.now) in_set.now supplements.now }
-    requires inside { (q : ℕ) → is_among starts.now q ≡ true → is_marked in_set.now q ≡ true }
+    requires may { IsWithRelations members.now.in_set.now (length members.now.task.now.pool.nodes) may.now }
+    requires supplements { AreSupplements (catalog_of members.now.task.now) members.now.in_set.now supplements.now }
+    requires inside { (q : ℕ) → is_among starts.now q ≡ true → is_marked members.now.in_set.now q ≡ true }
     requires size { length marks.old ≡ length may.now }
     requires none { (q : ℕ) → is_marked marks.old q ≡ false }
-    ensures { OnOk result ((q : ℕ) → q < length in_set.now → is_marked marks.new q ≡ is_among (needed_from (catalog_of task.now) (is_marked in_set.now) starts.now) q) }
+    ensures { OnOk result ((q : ℕ) → q < length members.now.in_set.now → is_marked marks.new q ≡ is_among (needed_from (catalog_of members.now.task.now) (is_marked members.now.in_set.now) starts.now) q) }
 {
     reached_is_where_walks_lead();
     let mut found = Vec::new(alloc);
-    let mut passed = vec![in alloc; false; task.pool.relation_count()]?;
+    let mut passed = vec![in alloc; false; members.task.pool.relation_count()]?;
     begin(may, starts, marks, &mut found)?;
     go_on(
-        task,
-        prov,
-        in_set,
+        members,
         may,
         supplements,
         starts,
@@ -115,30 +96,17 @@ fn search(
 /// Which vertices a search finds that begins at these.
 fn found_from(
     alloc: Global,
-    task: &Task,
-    prov: &Providers,
-    in_set: &[bool],
+    members: &Members<'_>,
     may: &[bool],
     starts: &[PackNo],
 ) -> Result<Vec<bool>, AllocError>
-    requires ready { IsReady task.now prov.now }
-    requires each { length in_set.now ≡ length task.now.universe.packages + 1 }
-    requires may { IsWithRelations in_set.now (length task.now.pool.nodes) may.now }
-    requires inside { (q : ℕ) → is_among starts.now q ≡ true → is_marked in_set.now q ≡ true }
-    ensures { IfOk result (λ marks. (q : ℕ) → q < length in_set.now → is_marked marks.items q ≡ is_among (needed_from (catalog_of task.now) (is_marked in_set.now) starts.now) q) }
+    requires may { IsWithRelations members.now.in_set.now (length members.now.task.now.pool.nodes) may.now }
+    requires inside { (q : ℕ) → is_among starts.now q ≡ true → is_marked members.now.in_set.now q ≡ true }
+    ensures { IfOk result (λ marks. (q : ℕ) → q < length members.now.in_set.now → is_marked marks.items q ≡ is_among (needed_from (catalog_of members.now.task.now) (is_marked members.now.in_set.now) starts.now) q) }
 {
-    let supplements = supplements_in(alloc, task, prov, in_set)?;
+    let supplements = supplements_in(alloc, members)?;
     let mut marks = vec![in alloc; false; may.len()]?;
-    search(
-        alloc,
-        task,
-        prov,
-        in_set,
-        may,
-        &supplements,
-        starts,
-        &mut marks,
-    )?;
+    search(alloc, members, may, &supplements, starts, &mut marks)?;
     Ok(marks)
 }
 
@@ -156,8 +124,9 @@ pub(crate) fn needed_from(
     ensures { IfOk result (λ marks. (q : ℕ) → is_marked marks.items q ≡ is_among (needed_from (catalog_of task.now) (is_marked in_set.now) starts.now) q) }
 {
     reached_is_where_walks_lead();
+    let members = Members { task, prov, in_set };
     let may = table_with_relations(alloc, in_set, task.pool.relation_count())?;
-    let mut marks = found_from(alloc, task, prov, in_set, &may, starts)?;
+    let mut marks = found_from(alloc, &members, &may, starts)?;
     marks.truncate(in_set.len());
     Ok(marks)
 }

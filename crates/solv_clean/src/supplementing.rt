@@ -8,18 +8,19 @@ ghost use Rattle.std.specs.List.{list_all};
 ghost use Rattle.solv_pool.specs.Catalog.{catalog_of};
 ghost use Rattle.solv_pool.specs.Words.{is_among};
 ghost use Rattle.solv_graph.specs.Inner.Graphs.{edge_to};
-ghost use Rattle.solv_prov.specs.Index.{IsIndexOf, providers_of};
+ghost use Rattle.solv_prov.specs.Index.{providers_of};
 ghost use Rattle.solv_clean.specs.Inner.Tables.{is_marked};
 ghost use Rattle.solv_clean.specs.Inner.Joining.{Adds, from_member, Grows, AreJoined, LeadFromServing, LeadByOne, has_supplement, LeadTo, AreSupplements};
 ghost use Rattle.solv_clean.specs.Inner.Holding.{AreKnown};
-ghost use Rattle.solv_clean.specs.Inner.Readiness.{IsReady, dep_below};
+ghost use Rattle.solv_clean.specs.Inner.Readiness.{dep_below};
 
 use crate::holding::{holds, is_in};
+use crate::members::Members;
 use crate::passing::{note_passed, was_passed};
 use solv_base::DepId;
 use solv_graph::Graph;
-use solv_pool::{PackNo, Task};
-use solv_prov::{Parts, Providers, parts_of};
+use solv_pool::PackNo;
+use solv_prov::{Parts, parts_of};
 use std::alloc::{AllocError, Global};
 
 /// The vertex of a relation: relations stand behind the members.
@@ -62,21 +63,13 @@ fn join_all_from(
 }
 
 /// Puts edges to a relation from the members that meet it.
-fn join_itself(
-    task: &Task,
-    prov: &Providers,
-    in_set: &[bool],
-    dep: DepId,
-    graph: &mut Graph,
-) -> Result<(), AllocError>
-    requires index { IsIndexOf prov.now (catalog_of task.now) }
-    requires held { dep < length task.now.pool.nodes }
-    requires size { length graph.old ≡ length in_set.now + length task.now.pool.nodes }
-    ensures { OnOk result (Adds (from_member in_set.now (length in_set.now + dep)) (providers_of (catalog_of task.now) dep) graph.old graph.new) }
+fn join_itself(members: &Members<'_>, dep: DepId, graph: &mut Graph) -> Result<(), AllocError>
+    requires held { dep < length members.now.task.now.pool.nodes }
+    requires size { length graph.old ≡ length members.now.in_set.now + length members.now.task.now.pool.nodes }
+    ensures { OnOk result (Adds (from_member members.now.in_set.now (length members.now.in_set.now + dep)) (providers_of (catalog_of members.now.task.now) dep) graph.old graph.new) }
 {
-    let _pool = &task.pool;
-    let to = vertex_of(in_set, dep, graph);
-    join_all_from(in_set, to, prov.of(dep), graph)?;
+    let to = vertex_of(members.in_set, dep, graph);
+    join_all_from(members.in_set, to, members.prov.of(dep), graph)?;
     Ok(())
 }
 
@@ -95,41 +88,37 @@ fn join_over(in_set: &[bool], from: DepId, to: DepId, graph: &mut Graph) -> Resu
 
 /// Puts walks to a relation from the members that serve it, unless it was gone through already.
 fn join_serving(
-    task: &Task,
-    prov: &Providers,
-    in_set: &[bool],
+    members: &Members<'_>,
     dep: DepId,
     passed: &mut [bool],
     graph: &mut Graph,
 ) -> Result<(), AllocError>
-    requires index { IsIndexOf prov.now (catalog_of task.now) }
-    requires each { length in_set.now ≡ length task.now.universe.packages + 1 }
-    requires held { dep < length task.now.pool.nodes }
-    requires joined { AreJoined (catalog_of task.now) in_set.now passed.old graph.old }
+    requires held { dep < length members.now.task.now.pool.nodes }
+    requires joined { AreJoined (catalog_of members.now.task.now) members.now.in_set.now passed.old graph.old }
     ensures grows { OnOk result (Grows graph.old graph.new) }
-    ensures joined { OnOk result (AreJoined (catalog_of task.now) in_set.now passed.new graph.new) }
-    ensures served { OnOk result (LeadFromServing (catalog_of task.now) in_set.now graph.new dep) }
+    ensures joined { OnOk result (AreJoined (catalog_of members.now.task.now) members.now.in_set.now passed.new graph.new) }
+    ensures served { OnOk result (LeadFromServing (catalog_of members.now.task.now) members.now.in_set.now graph.new dep) }
 {
     if was_passed(passed, dep) {
         return Ok(());
     }
-    match parts_of(&task.pool, dep) {
+    match parts_of(&members.task.pool, dep) {
         Parts::Itself => {
-            join_itself(task, prov, in_set, dep, graph)?;
+            join_itself(members, dep, graph)?;
             note_passed(passed, dep);
             Ok(())
         }
         Parts::Of(operand) => {
-            join_serving(task, prov, in_set, operand, passed, graph)?;
-            join_over(in_set, operand, dep, graph)?;
+            join_serving(members, operand, passed, graph)?;
+            join_over(members.in_set, operand, dep, graph)?;
             note_passed(passed, dep);
             Ok(())
         }
         Parts::OfBoth(first, second) => {
-            join_serving(task, prov, in_set, first, passed, graph)?;
-            join_serving(task, prov, in_set, second, passed, graph)?;
-            join_over(in_set, first, dep, graph)?;
-            join_over(in_set, second, dep, graph)?;
+            join_serving(members, first, passed, graph)?;
+            join_serving(members, second, passed, graph)?;
+            join_over(members.in_set, first, dep, graph)?;
+            join_over(members.in_set, second, dep, graph)?;
             note_passed(passed, dep);
             Ok(())
         }
@@ -138,122 +127,97 @@ fn join_serving(
 
 /// Puts walks to a member by a supplement, if it holds in the set.
 fn join_supplement(
-    task: &Task,
-    prov: &Providers,
-    in_set: &[bool],
+    members: &Members<'_>,
     pack: PackNo,
     dep: DepId,
     known: &mut [Option<bool>],
     passed: &mut [bool],
     graph: &mut Graph,
 ) -> Result<(), AllocError>
-    requires index { IsIndexOf prov.now (catalog_of task.now) }
-    requires each { length in_set.now ≡ length task.now.universe.packages + 1 }
-    requires to { is_marked in_set.now pack ≡ true }
-    requires of { has_supplement (catalog_of task.now) pack dep ≡ true }
-    requires held { dep < length task.now.pool.nodes }
-    requires known { AreKnown (catalog_of task.now) in_set.now known.old }
-    requires joined { AreJoined (catalog_of task.now) in_set.now passed.old graph.old }
-    ensures known { OnOk result (AreKnown (catalog_of task.now) in_set.now known.new) }
+    requires to { is_marked members.now.in_set.now pack ≡ true }
+    requires of { has_supplement (catalog_of members.now.task.now) pack dep ≡ true }
+    requires held { dep < length members.now.task.now.pool.nodes }
+    requires known { AreKnown (catalog_of members.now.task.now) members.now.in_set.now known.old }
+    requires joined { AreJoined (catalog_of members.now.task.now) members.now.in_set.now passed.old graph.old }
+    ensures known { OnOk result (AreKnown (catalog_of members.now.task.now) members.now.in_set.now known.new) }
     ensures grows { OnOk result (Grows graph.old graph.new) }
-    ensures joined { OnOk result (AreJoined (catalog_of task.now) in_set.now passed.new graph.new) }
-    ensures by { OnOk result (LeadByOne (catalog_of task.now) in_set.now graph.new pack dep) }
+    ensures joined { OnOk result (AreJoined (catalog_of members.now.task.now) members.now.in_set.now passed.new graph.new) }
+    ensures by { OnOk result (LeadByOne (catalog_of members.now.task.now) members.now.in_set.now graph.new pack dep) }
 {
-    if !holds(task, prov, in_set, dep, known) {
+    if !holds(members, dep, known) {
         return Ok(());
     }
-    join_serving(task, prov, in_set, dep, passed, graph)?;
-    let from = vertex_of(in_set, dep, graph);
+    join_serving(members, dep, passed, graph)?;
+    let from = vertex_of(members.in_set, dep, graph);
     graph.join(from, pack.0)?;
     Ok(())
 }
 
 /// Puts walks to a member by these of its supplements.
 fn join_supplements(
-    task: &Task,
-    prov: &Providers,
-    in_set: &[bool],
+    members: &Members<'_>,
     pack: PackNo,
     deps: &[DepId],
     known: &mut [Option<bool>],
     passed: &mut [bool],
     graph: &mut Graph,
 ) -> Result<(), AllocError>
-    requires index { IsIndexOf prov.now (catalog_of task.now) }
-    requires each { length in_set.now ≡ length task.now.universe.packages + 1 }
-    requires to { is_marked in_set.now pack ≡ true }
-    requires of { (id : ℕ) → is_among deps.now id ≡ true → has_supplement (catalog_of task.now) pack id ≡ true }
-    requires held { list_all (dep_below (length task.now.pool.nodes)) deps.now ≡ true }
-    requires known { AreKnown (catalog_of task.now) in_set.now known.old }
-    requires joined { AreJoined (catalog_of task.now) in_set.now passed.old graph.old }
-    ensures known { OnOk result (AreKnown (catalog_of task.now) in_set.now known.new) }
+    requires to { is_marked members.now.in_set.now pack ≡ true }
+    requires of { (id : ℕ) → is_among deps.now id ≡ true → has_supplement (catalog_of members.now.task.now) pack id ≡ true }
+    requires held { list_all (dep_below (length members.now.task.now.pool.nodes)) deps.now ≡ true }
+    requires known { AreKnown (catalog_of members.now.task.now) members.now.in_set.now known.old }
+    requires joined { AreJoined (catalog_of members.now.task.now) members.now.in_set.now passed.old graph.old }
+    ensures known { OnOk result (AreKnown (catalog_of members.now.task.now) members.now.in_set.now known.new) }
     ensures grows { OnOk result (Grows graph.old graph.new) }
-    ensures joined { OnOk result (AreJoined (catalog_of task.now) in_set.now passed.new graph.new) }
-    ensures by { OnOk result ((id : ℕ) → is_among deps.now id ≡ true → LeadByOne (catalog_of task.now) in_set.now graph.new pack id) }
+    ensures joined { OnOk result (AreJoined (catalog_of members.now.task.now) members.now.in_set.now passed.new graph.new) }
+    ensures by { OnOk result ((id : ℕ) → is_among deps.now id ≡ true → LeadByOne (catalog_of members.now.task.now) members.now.in_set.now graph.new pack id) }
 {
     for dep in deps {
-        join_supplement(task, prov, in_set, pack, *dep, known, passed, graph)?;
+        join_supplement(members, pack, *dep, known, passed, graph)?;
     }
     Ok(())
 }
 
 /// Puts walks to a package from what supplements it, if it is in the set.
 fn join_to(
-    task: &Task,
-    prov: &Providers,
-    in_set: &[bool],
+    members: &Members<'_>,
     pack: PackNo,
     known: &mut [Option<bool>],
     passed: &mut [bool],
     graph: &mut Graph,
 ) -> Result<(), AllocError>
-    requires ready { IsReady task.now prov.now }
-    requires each { length in_set.now ≡ length task.now.universe.packages + 1 }
     requires a_package { 0 < pack }
-    requires held { pack ≤ length task.now.universe.packages }
-    requires known { AreKnown (catalog_of task.now) in_set.now known.old }
-    requires joined { AreJoined (catalog_of task.now) in_set.now passed.old graph.old }
-    ensures known { OnOk result (AreKnown (catalog_of task.now) in_set.now known.new) }
+    requires held { pack ≤ length members.now.task.now.universe.packages }
+    requires known { AreKnown (catalog_of members.now.task.now) members.now.in_set.now known.old }
+    requires joined { AreJoined (catalog_of members.now.task.now) members.now.in_set.now passed.old graph.old }
+    ensures known { OnOk result (AreKnown (catalog_of members.now.task.now) members.now.in_set.now known.new) }
     ensures grows { OnOk result (Grows graph.old graph.new) }
-    ensures joined { OnOk result (AreJoined (catalog_of task.now) in_set.now passed.new graph.new) }
-    ensures to { OnOk result (LeadTo (catalog_of task.now) in_set.now graph.new pack) }
+    ensures joined { OnOk result (AreJoined (catalog_of members.now.task.now) members.now.in_set.now passed.new graph.new) }
+    ensures to { OnOk result (LeadTo (catalog_of members.now.task.now) members.now.in_set.now graph.new pack) }
 {
-    if !is_in(in_set, pack) {
+    if !is_in(members.in_set, pack) {
         return Ok(());
     }
-    let package = task.universe.package(pack);
-    join_supplements(
-        task,
-        prov,
-        in_set,
-        pack,
-        package.supplements(),
-        known,
-        passed,
-        graph,
-    )?;
+    let package = members.task.universe.package(pack);
+    join_supplements(members, pack, package.supplements(), known, passed, graph)?;
     Ok(())
 }
 
 /// Puts walks to all packages of the set.
 fn join_packages(
-    task: &Task,
-    prov: &Providers,
-    in_set: &[bool],
+    members: &Members<'_>,
     known: &mut [Option<bool>],
     passed: &mut [bool],
     graph: &mut Graph,
 ) -> Result<(), AllocError>
-    requires ready { IsReady task.now prov.now }
-    requires each { length in_set.now ≡ length task.now.universe.packages + 1 }
-    requires known { AreKnown (catalog_of task.now) in_set.now known.old }
-    requires joined { AreJoined (catalog_of task.now) in_set.now passed.old graph.old }
-    ensures known { OnOk result (AreKnown (catalog_of task.now) in_set.now known.new) }
-    ensures joined { OnOk result (AreJoined (catalog_of task.now) in_set.now passed.new graph.new) }
-    ensures to { OnOk result ((q : ℕ) → 0 < q → q < length task.now.universe.packages + 1 → LeadTo (catalog_of task.now) in_set.now graph.new q) }
+    requires known { AreKnown (catalog_of members.now.task.now) members.now.in_set.now known.old }
+    requires joined { AreJoined (catalog_of members.now.task.now) members.now.in_set.now passed.old graph.old }
+    ensures known { OnOk result (AreKnown (catalog_of members.now.task.now) members.now.in_set.now known.new) }
+    ensures joined { OnOk result (AreJoined (catalog_of members.now.task.now) members.now.in_set.now passed.new graph.new) }
+    ensures to { OnOk result ((q : ℕ) → 0 < q → q < length members.now.task.now.universe.packages + 1 → LeadTo (catalog_of members.now.task.now) members.now.in_set.now graph.new q) }
 {
-    for before in 0..task.universe.count() {
-        join_to(task, prov, in_set, PackNo(before + 1), known, passed, graph)?;
+    for before in 0..members.task.universe.count() {
+        join_to(members, PackNo(before + 1), known, passed, graph)?;
     }
     Ok(())
 }
@@ -272,21 +236,14 @@ fn vertex_count(members: usize, relations: usize) -> Result<u32, AllocError>
 }
 
 /// The graph of what supplements what among the members of the set, over relations.
-pub(crate) fn supplements_in(
-    alloc: Global,
-    task: &Task,
-    prov: &Providers,
-    in_set: &[bool],
-) -> Result<Graph, AllocError>
-    requires ready { IsReady task.now prov.now }
-    requires each { length in_set.now ≡ length task.now.universe.packages + 1 }
-    ensures { IfOk result (λ graph. AreSupplements (catalog_of task.now) in_set.now graph) }
+pub(crate) fn supplements_in(alloc: Global, members: &Members<'_>) -> Result<Graph, AllocError>
+    ensures { IfOk result (λ graph. AreSupplements (catalog_of members.now.task.now) members.now.in_set.now graph) }
 {
-    let relations = task.pool.relation_count();
-    let count = vertex_count(in_set.len(), relations)?;
+    let relations = members.task.pool.relation_count();
+    let count = vertex_count(members.in_set.len(), relations)?;
     let mut graph = Graph::new(alloc, count)?;
     let mut passed = vec![in alloc; false; relations]?;
     let mut known = vec![in alloc; None; relations]?;
-    join_packages(task, prov, in_set, &mut known, &mut passed, &mut graph)?;
+    join_packages(members, &mut known, &mut passed, &mut graph)?;
     Ok(graph)
 }

@@ -4,4 +4,4 @@ use Rattle.solv_clean.specs.Inner.Finding.{Finds, ArePassed, serving}
 use Rattle.solv_clean.proofs.finding.mark_recommended.Given as goal
 
 abbrev pub invariant-loop-dep : goal.invariant-loop-dep
-invariant-loop-dep l = (Finds l.in_set (serving (catalog_of l.task)) (take l.dep-index l.deps) l.initial.marks l.initial.found.items l.marks l.found.items) × ArePassed (serving (catalog_of l.task)) l.in_set l.passed l.marks
+invariant-loop-dep l = (Finds l.members.in_set.now (serving (catalog_of l.members.task.now)) (take l.dep-index l.deps) l.initial.marks l.initial.found.items l.marks l.found.items) × ArePassed (serving (catalog_of l.members.task.now)) l.members.in_set.now l.passed l.marks

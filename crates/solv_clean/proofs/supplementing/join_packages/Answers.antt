@@ -9,11 +9,11 @@ loop-before-init c = (c.requires.known, c.requires.joined, λ q low high. absurd
 
 pub loop-before-preserved : goal.loop-before-preserved
 loop-before-preserved c =
-    let catalog : Catalog = catalog_of c.args.task.now in (
+    let catalog : Catalog = catalog_of c.args.members.now.task.now in (
       c.in_ok-join_to.ensures.known,
       c.in_ok-join_to.ensures.joined,
       λ q low high. elim (cases_lt q (c.loop-before.before + 1)) [
-        | inl lt ↦ to_more catalog c.args.in_set.now c.loop-before.graph c.join_to.new.graph c.in_ok-join_to.ensures.grows q (c.loop-before.invariant.2 q low lt)
+        | inl lt ↦ to_more catalog c.args.members.now.in_set.now c.loop-before.graph c.join_to.new.graph c.in_ok-join_to.ensures.grows q (c.loop-before.invariant.2 q low lt)
         | inr le ↦ let same : q ≡ c.loop-before.before + 1 = omega (arith, le, high) in
             rw same c.in_ok-join_to.ensures.to
       ],
@@ -21,5 +21,5 @@ loop-before-preserved c =
 
 pub returns-clause-to : goal.returns-clause-to
 returns-clause-to c q low high =
-    let whole : c.loop-before.before ≡ length c.args.task.now.universe.packages = omega (arith, c.count-before-end.ensures) in
+    let whole : c.loop-before.before ≡ length c.args.members.now.task.now.universe.packages = omega (arith, c.count-before-end.ensures) in
     c.loop-before.invariant.2 q low (omega (arith, high, whole))

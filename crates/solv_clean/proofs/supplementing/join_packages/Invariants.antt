@@ -5,4 +5,4 @@ use Rattle.solv_clean.specs.Inner.Joining.{AreJoined, LeadTo}
 use Rattle.solv_clean.proofs.supplementing.join_packages.Given as goal
 
 abbrev pub invariant-loop-before : goal.invariant-loop-before
-invariant-loop-before l = (AreKnown (catalog_of l.task) l.in_set l.known) × (AreJoined (catalog_of l.task) l.in_set l.passed l.graph) × ((q : ℕ) → 0 < q → q < l.before + 1 → LeadTo (catalog_of l.task) l.in_set l.graph q)
+invariant-loop-before l = (AreKnown (catalog_of l.members.task.now) l.members.in_set.now l.known) × (AreJoined (catalog_of l.members.task.now) l.members.in_set.now l.passed l.graph) × ((q : ℕ) → 0 < q → q < l.before + 1 → LeadTo (catalog_of l.members.task.now) l.members.in_set.now l.graph q)

@@ -6,4 +6,4 @@ use Rattle.solv_clean.specs.Inner.Joining.{Grows, AreJoined, LeadByOne}
 use Rattle.solv_clean.proofs.supplementing.join_supplements.Given as goal
 
 abbrev pub invariant-loop-dep : goal.invariant-loop-dep
-invariant-loop-dep l = (AreKnown (catalog_of l.task) l.in_set l.known) × (Grows l.initial.graph l.graph) × (AreJoined (catalog_of l.task) l.in_set l.passed l.graph) × ((id : ℕ) → is_among (take l.dep-index l.deps) id ≡ true → LeadByOne (catalog_of l.task) l.in_set l.graph l.pack id)
+invariant-loop-dep l = (AreKnown (catalog_of l.members.task.now) l.members.in_set.now l.known) × (Grows l.initial.graph l.graph) × (AreJoined (catalog_of l.members.task.now) l.members.in_set.now l.passed l.graph) × ((id : ℕ) → is_among (take l.dep-index l.deps) id ≡ true → LeadByOne (catalog_of l.members.task.now) l.members.in_set.now l.graph l.pack id)
