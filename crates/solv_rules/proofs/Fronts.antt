@@ -27,9 +27,9 @@ both_parts (suc n) (x ∷ xs) = ap (λ t. x ∷ t) (both_parts n xs)
 pub words_parts : (n : ℕ) (cs : List (List ℤ)) → words_of_all cs ≡ words_of_all (take n cs) + words_of_all (drop n cs)
 words_parts n cs = ap words_of_all (sym (both_parts n cs)) ∙ words_append (take n cs) (drop n cs)
 
-clause_of_both : (a b : Option BookFault) → or_else a b ≡ None → (a ≡ None) × (b ≡ None)
-clause_of_both None b h = (refl, h)
-clause_of_both (Some fault) b h = absurd (cc)
+pub neither_fault : (a b : Option BookFault) → or_else a b ≡ None → (a ≡ None) × (b ≡ None)
+neither_fault None b h = (refl, h)
+neither_fault (Some fault) b h = absurd (cc)
 
 module _ (catalog : Catalog) where
   abbrev clauses_of : List HardRule → List (List ℤ)
@@ -59,7 +59,7 @@ module _ (catalog : Catalog) where
   fits_join before [] rest fits = let same : before ≡ before + 0 = omega arith in ap (λ n. first_fault catalog n rest) same
   fits_join before (r ∷ front) rest fits =
       let own : ℕ = words_of_all (rule_clauses catalog r) in
-      let two = clause_of_both (rule_fault catalog before r) (first_fault catalog (before + own) front) fits in
+      let two = neither_fault (rule_fault catalog before r) (first_fault catalog (before + own) front) fits in
       let long : words_of_all (clauses_of (r ∷ front)) ≡ own + words_of_all (clauses_of front) = words_append (rule_clauses catalog r) (clauses_of front) in
       let same : before + own + words_of_all (clauses_of front) ≡ before + words_of_all (clauses_of (r ∷ front)) = omega (arith, long) in
       ap (λ o. or_else o (first_fault catalog (before + own) (front ++ rest))) two.0
@@ -70,7 +70,7 @@ module _ (catalog : Catalog) where
   front_fits before [] rest fits = refl
   front_fits before (r ∷ front) rest fits =
       let own : ℕ = words_of_all (rule_clauses catalog r) in
-      let two = clause_of_both (rule_fault catalog before r) (first_fault catalog (before + own) (front ++ rest)) fits in
+      let two = neither_fault (rule_fault catalog before r) (first_fault catalog (before + own) (front ++ rest)) fits in
       ap (λ o. or_else o (first_fault catalog (before + own) front)) two.0 ∙ front_fits (before + own) front rest two.1
 
   -- what stands behind the clauses of the first rules
