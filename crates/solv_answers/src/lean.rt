@@ -17,7 +17,7 @@ use crate::making::hard_rules;
 use crate::preparing::marks;
 use solv_core::Verdict;
 use solv_decide::{Decided, decide};
-use solv_leaving::{all_fit, all_rules_fit, left_out, words_in};
+use solv_leaving::{all_fit, all_rules_fit, left_out};
 use solv_list::Items;
 use solv_pool::laws::{clauses_name_packages, clauses_say_the_rule};
 use solv_pool::{Marks, Task};
@@ -72,7 +72,7 @@ fn lean_on(
         Err(BookFault::Memory) => return Err(AllocError),
         Err(_) => return Ok(None),
     };
-    if !all_fit(task, prov, marks.left_out.held(), words_in(book.memory())) {
+    if !all_fit(task, prov, marks.left_out.held(), book.words()) {
         return Ok(None);
     }
     Ok(Some(Lean { marks, book }))
