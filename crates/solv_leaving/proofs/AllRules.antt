@@ -3,6 +3,7 @@ use Rattle.std.proofs.Common.{◌≡◌, ◌≤◌, ◌+◌, ℕ, Bool, true, fa
 use Rattle.std.proofs.lemmas.Bool.{cases_Bool, false≢true}
 use Rattle.std.specs.Prelude.{filter, flat_map, if◌then◌else◌}
 use Rattle.std.specs.Option.{option_map_or}
+use Rattle.solv_list.proofs.Booleans.{true_of_not}
 use Rattle.solv_base.specs.Dependency.{package_wise}
 use Rattle.solv_pool.specs.Words.{passes}
 use Rattle.solv_pool.specs.Catalog.{Catalog, packages, package_at, dependency}
@@ -16,8 +17,9 @@ use Rattle.solv_pool.specs.declared.job_marks.Marks.{Marks}
 use Rattle.solv_pool.specs.declared.packages.Package.{Package}
 use Rattle.solv_pool.specs.declared.tasks.Flags.{Flags}
 use Rattle.solv_pool.proofs.Members.{Has}
-use Rattle.solv_rules.specs.Books.{or_else, rich_fault, overrun, rule_fault, first_fault}
+use Rattle.solv_rules.specs.Books.{rich_fault, overrun, rule_fault, first_fault}
 use Rattle.solv_rules.specs.declared.fault.BookFault.{BookFault}
+use Rattle.solv_rules.proofs.Fronts.{neither_fault}
 use Rattle.solv_leaving.proofs.ClauseWords.{size, passes_no_limit}
 use Rattle.solv_leaving.proofs.Totals.{total, total_is, total_join}
 use Rattle.solv_leaving.specs.Leaving.{is_met_alone, leaving}
@@ -33,10 +35,6 @@ no_fault : (o : Option BookFault) → faults o ≡ 0 → o ≡ None
 no_fault None h = refl
 no_fault (Some fault) h = absurd (cc)
 
-neither : (a b : Option BookFault) → or_else a b ≡ None → (a ≡ None) × (b ≡ None)
-neither None b h = (refl, h)
-neither (Some fault) b h = absurd (cc)
-
 nothing_in : {X : Type 0} (w : X → ℕ) (xs : List X) (x : X) → total w xs ≡ 0 → Has xs x → w x ≡ 0
 nothing_in w [] x h there = absurd there
 nothing_in w (y ∷ ys) x h (inl e) = subst (λ z. w z ≡ 0) e (omega (arith, h))
@@ -46,10 +44,6 @@ total_nothing : {X : Type 0} (xs : List X) → total (λ x. 0) xs ≡ 0
 total_nothing [] = refl
 total_nothing (x ∷ xs) = let rest = total_nothing xs in omega (arith, rest)
 
-true_of_not : (b : Bool) → not b ≡ false → b ≡ true
-true_of_not true h = refl
-true_of_not false h = sym h
-
 module _ (catalog : Catalog) where
   -- whether the dependency of a rule gives too many clauses
   abbrev rich : HardRule → ℕ
@@ -58,8 +52,8 @@ module _ (catalog : Catalog) where
   none_rich : (before : ℕ) (rs : List HardRule) → first_fault catalog before rs ≡ None → total rich rs ≡ 0
   none_rich before [] h = refl
   none_rich before (r ∷ rs) h =
-      let both = neither (rule_fault catalog before r) (first_fault catalog (before + words_of_all (rule_clauses catalog r)) rs) h in
-      let own = neither (rich_fault catalog (shape_of r)) (overrun before (rule_clauses catalog r)) both.0 in
+      let both = neither_fault (rule_fault catalog before r) (first_fault catalog (before + words_of_all (rule_clauses catalog r)) rs) h in
+      let own = neither_fault (rich_fault catalog (shape_of r)) (overrun before (rule_clauses catalog r)) both.0 in
       let here : rich r ≡ 0 = ap faults own.0 in
       let rest = none_rich (before + words_of_all (rule_clauses catalog r)) rs both.1 in
       omega (arith, here, rest)

@@ -3,18 +3,14 @@ ghost use Rattle.std.specs.Prelude.{◌≡◌, ◌<◌, ◌≤◌, ◌+◌, leng
 ghost use Rattle.std.specs.List.{list_all};
 ghost use Rattle.solv_pool.specs.Catalog.{Catalog, catalog_of};
 ghost use Rattle.solv_pool.specs.JobMarks.{marked};
-ghost use Rattle.solv_pool.specs.Clauses.{words_of_all};
 ghost use Rattle.solv_pool.specs.TaskBelonging.{IsClosed};
 ghost use Rattle.solv_prov.specs.Index.{IsIndexOf};
 ghost use Rattle.solv_rules.specs.Books.{most_words};
 ghost use Rattle.solv_leaving.specs.Inner.Fitting.{AllFit, within, need_words, words_at, words_left_out};
 
-use solv_pack::{RuleMem, RuleNo};
 use solv_pool::{Need, PackNo, Task};
 use solv_prov::Providers;
-
-/// The most words of a book.
-const MOST_WORDS: u64 = 134_217_728;
+use solv_rules::MOST_WORDS;
 
 /// Where the clauses of the rules that are made pass no limit, and at least the words of those of the packages that are left out stand beside theirs, the clauses of all rules pass none.
 #[tactic(auto, using(crate::proofs::AllRules::all_fit))]
@@ -88,17 +84,6 @@ fn with_package(
         return with_needs(prov, task.universe.package(pack).requires_(), words);
     }
     Some(words)
-}
-
-/// How many words the clauses of a book take: each has one for each literal, and four.
-pub fn words_in(memory: &RuleMem) -> u64
-    ensures { result ≡ words_of_all memory.now.rules }
-{
-    let mut words = 0;
-    for rule in 0..memory.len() {
-        words += memory.lits(RuleNo(rule as u32)).len() as u64 + 4;
-    }
-    words
 }
 
 /// Whether so many words, and at least those of the clauses of what is left out, are no more than a book may have.

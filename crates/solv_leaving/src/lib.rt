@@ -1,7 +1,7 @@
 //! Packages that nothing can ask for.
 //!
 //! - [`left_out`]: which packages are left out.
-//! - [`all_fit`]: whether the clauses of all rules would pass no limit, where those of the rules that are made pass none; [`words_in`]: how many words these take.
+//! - [`all_fit`]: whether the clauses of all rules would pass no limit, where those of the rules that are made pass none.
 //!
 //! A set that answers a task holds no package that is left out, so no rules have to be made of what such a package requires: each set without it meets them. What is
 //! left out is what no walk leads to that begins at a package which may be asked for by itself, and goes on to whatever serves what a package asks for.
@@ -11,5 +11,5 @@ mod fitting;
 mod leaving;
 mod starting;
 
-pub use fitting::{all_fit, all_rules_fit, words_in};
+pub use fitting::{all_fit, all_rules_fit};
 pub use leaving::left_out;

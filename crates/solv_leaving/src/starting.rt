@@ -8,6 +8,7 @@ ghost use Rattle.solv_pool.specs.TaskBelonging.{IsClosed};
 ghost use Rattle.solv_pool.specs.Words.{is_among, passes};
 ghost use Rattle.solv_prov.specs.Index.{IsIndexOf};
 ghost use Rattle.solv_jobs.specs.Marking.{HasMarks};
+ghost use Rattle.solv_policy.specs.Inner.Candidates.{IsPlace};
 ghost use Rattle.solv_clean.specs.Inner.Readiness.{need_below};
 ghost use Rattle.solv_clean.specs.Inner.Tables.{is_marked};
 ghost use Rattle.solv_leaving.specs.Inner.Starting.{AreMarked, AreStarted, AreStarts, kept_by, stands_alone, starts_by};
@@ -16,7 +17,7 @@ use solv_base::Pool;
 use solv_jobs::{Mark, marked_by};
 use solv_pool::{Marks, Need, PackNo, Task};
 use solv_prov::Providers;
-use solv_updates::feature_candidates;
+use solv_updates::{Ready, feature_candidates};
 use std::alloc::{AllocError, Global};
 
 /// Whether packages meet these requirements alone.
@@ -67,21 +68,15 @@ fn mark_all(table: &mut [bool], packs: &[PackNo])
 /// Marks what may stand in the place of a package, if it is installed.
 fn mark_kept(
     alloc: Global,
-    task: &Task,
-    prov: &Providers,
-    marks: &Marks,
+    ready: &Ready<'_>,
     pack: PackNo,
     table: &mut [bool],
 ) -> Result<(), AllocError>
-    requires index { IsIndexOf prov.now (catalog_of task.now) }
-    requires over { IsOver task.now.pool task.now.universe }
-    requires marks { HasMarks (length task.now.universe.packages) marks.now }
-    requires a_package { 0 < pack }
-    requires held { pack ≤ length task.now.universe.packages }
-    ensures { OnOk result (AreMarked (kept_by (catalog_of task.now) task.now.flags marks.now pack) table.old table.new) }
+    requires { IsPlace ready.now.task.now pack }
+    ensures { OnOk result (AreMarked (kept_by (catalog_of ready.now.task.now) ready.now.task.now.flags ready.now.marks.now pack) table.old table.new) }
 {
-    if task.universe.installed(pack) {
-        let packs = feature_candidates(alloc, task, prov, marks, pack)?;
+    if ready.task.universe.installed(pack) {
+        let packs = feature_candidates(alloc, ready.task, ready.prov, ready.marks, pack)?;
         mark_all(table, &packs);
     }
     Ok(())
@@ -90,41 +85,26 @@ fn mark_kept(
 /// Marks what may stand in the place of a package, if it is installed, and the package itself, if it is asked for by itself.
 fn mark_started(
     alloc: Global,
-    task: &Task,
-    prov: &Providers,
-    marks: &Marks,
+    ready: &Ready<'_>,
     pack: PackNo,
     table: &mut [bool],
 ) -> Result<(), AllocError>
-    requires index { IsIndexOf prov.now (catalog_of task.now) }
-    requires over { IsOver task.now.pool task.now.universe }
-    requires marks { HasMarks (length task.now.universe.packages) marks.now }
-    requires a_package { 0 < pack }
-    requires held { pack ≤ length task.now.universe.packages }
-    ensures { OnOk result (AreMarked (starts_by (catalog_of task.now) task.now.flags marks.now pack) table.old table.new) }
+    requires { IsPlace ready.now.task.now pack }
+    ensures { OnOk result (AreMarked (starts_by (catalog_of ready.now.task.now) ready.now.task.now.flags ready.now.marks.now pack) table.old table.new) }
 {
-    mark_kept(alloc, task, prov, marks, pack, table)?;
-    if stands_alone(task, pack) {
+    mark_kept(alloc, ready, pack, table)?;
+    if stands_alone(ready.task, pack) {
         mark(table, pack);
     }
     Ok(())
 }
 
 /// Marks all that is started so by one of the packages.
-fn mark_each_started(
-    alloc: Global,
-    task: &Task,
-    prov: &Providers,
-    marks: &Marks,
-    table: &mut [bool],
-) -> Result<(), AllocError>
-    requires index { IsIndexOf prov.now (catalog_of task.now) }
-    requires over { IsOver task.now.pool task.now.universe }
-    requires marks { HasMarks (length task.now.universe.packages) marks.now }
-    ensures { OnOk result (AreStarted (catalog_of task.now) task.now.flags marks.now (length task.now.universe.packages) table.old table.new) }
+fn mark_each_started(alloc: Global, ready: &Ready<'_>, table: &mut [bool]) -> Result<(), AllocError>
+    ensures { OnOk result (AreStarted (catalog_of ready.now.task.now) ready.now.task.now.flags ready.now.marks.now (length ready.now.task.now.universe.packages) table.old table.new) }
 {
-    for before in 0..task.universe.count() {
-        mark_started(alloc, task, prov, marks, PackNo(before + 1), table)?;
+    for before in 0..ready.task.universe.count() {
+        mark_started(alloc, ready, PackNo(before + 1), table)?;
     }
     Ok(())
 }
@@ -143,6 +123,7 @@ pub(crate) fn starts(
 {
     let asked = marked_by(alloc, task, prov, Mark::Asked)?;
     let mut table = asked.into_vec();
-    mark_each_started(alloc, task, prov, marks, &mut table)?;
+    let ready = Ready { task, prov, marks };
+    mark_each_started(alloc, &ready, &mut table)?;
     Ok(table)
 }
