@@ -1,5 +1,5 @@
 //! Vertices that are marked and listed: members of a set by number, and relations behind them.
-ghost use Rattle.std.specs.Prelude.{◌≡◌, ◌≤◌, ◌<◌, ◌+◌, ◌∷◌, [], true, length, OnOk};
+ghost use Rattle.std.specs.Prelude.{◌≡◌, ◌≤◌, ◌<◌, ◌∷◌, [], true, length, OnOk};
 ghost use Rattle.std.specs.List.{list_all};
 ghost use Rattle.solv_pool.specs.Catalog.{catalog_of};
 ghost use Rattle.solv_clean.specs.Inner.Finding.{Finds, ArePassed, itself, serving, serving_need, serving_package, next_to};

@@ -1,5 +1,5 @@
 //! Where walks lead.
-ghost use Rattle.std.specs.Prelude.{ℕ, ◌≡◌, ◌≤◌, ◌<◌, ◌+◌, true, false, length, IfOk, OnOk};
+ghost use Rattle.std.specs.Prelude.{ℕ, ◌≡◌, ◌<◌, ◌+◌, true, false, length, IfOk, OnOk};
 ghost use Rattle.solv_pool.specs.Catalog.{catalog_of};
 ghost use Rattle.solv_pool.specs.Cleaning.{needed_from};
 ghost use Rattle.solv_pool.specs.Words.{is_among};
