@@ -136,12 +136,12 @@ selection_formed pool false packs = refl
 module _ (task : Task) (draft : IsDraft task) where
   -- a task over which nothing has happened, or whose pool has grown
   pub kept_itself : IsKept task task
-  kept_itself = record { task = refl; grows = Grows-itself task.pool; draft = draft }
+  kept_itself = record { task = refl; besides = refl; grows = Grows-itself task.pool; draft = draft }
 
   pub kept_grown : (pool : Held) → Grows task.pool pool → IsKept task (record task { pool = pool })
   kept_grown pool grows =
       let same = stays task draft.closed pool grows in
-      record { task = same; grows = grows; draft = record { closed = closed_grown task draft.closed pool grows; forms = subst HasWrittenForms (sym same) draft.forms } }
+      record { task = same; besides = refl; grows = grows; draft = record { closed = closed_grown task draft.closed pool grows; forms = subst HasWrittenForms (sym same) draft.forms } }
 
   -- a repository of this name stands before
   pub repo_twice : (name : List ℕ) (priority : ℤ) → is_some (repo_found task.pool task.universe name) ≡ true → repo_given name priority (drawn task) ≡ Err (Refused 1 DuplicateRepo)

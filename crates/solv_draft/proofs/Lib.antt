@@ -1,2 +1,3 @@
 mod FormsAsWritten
 pub mod Drawing
+mod OncePools

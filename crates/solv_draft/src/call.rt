@@ -1,4 +1,7 @@
 //! What a task is given by one call.
+ghost use Rattle.std.specs.Prelude.{◌≡◌};
+ghost use Rattle.solv_draft.specs.Inner.Calls.{enters_texts};
+
 use crate::flag_row::FlagRow;
 use crate::job_row::JobRow;
 
@@ -40,4 +43,18 @@ pub enum Call<'a> {
     },
     /// No jobs, in place of those that are there.
     NoJobs,
+}
+
+impl Call<'_> {
+    /// Whether the texts of a call go into the task's pool.
+    pub(crate) fn enters_texts(&self) -> bool
+        ensures { result ≡ enters_texts self.now }
+    {
+        match self {
+            Call::Repo { .. } | Call::Packages { .. } => true,
+            Call::Namespace { .. } | Call::JobBy { .. } => true,
+            Call::System { .. } | Call::Disable(_) | Call::Flags(_) => false,
+            Call::Job(_) | Call::NoJobs => false,
+        }
+    }
 }

@@ -20,6 +20,7 @@ pub(crate) fn add_job(task: &mut Task, row: &JobRow<'_>) -> Result<(), DraftFaul
     ensures done { OnOk result (HasDrawn task.new (job_given row.now (drawn task.old))) }
     ensures refused { IfErr result (λ fault. IsFault fault (job_given row.now (drawn task.old))) }
     ensures kept { OnErr result (IsKept task.old task.new) }
+    ensures pool { task.new.pool ≡ task.old.pool }
 {
     if !is_row(task.universe.count(), row) {
         return Err(DraftFault::Misused);
@@ -92,6 +93,7 @@ pub(crate) fn clear_jobs(task: &mut Task) -> Result<(), DraftFault>
     ensures done { OnOk result (HasDrawn task.new (no_jobs_given (drawn task.old))) }
     ensures refused { IfErr result (λ fault. IsFault fault (no_jobs_given (drawn task.old))) }
     ensures kept { OnErr result (IsKept task.old task.new) }
+    ensures pool { task.new.pool ≡ task.old.pool }
 {
     task.jobs = Items::wrap(Vec::new(task.pool.alloc()));
     Ok(())

@@ -50,6 +50,7 @@ pub(crate) fn set_system(
     ensures done { OnOk result (HasDrawn task.new (system_given arch has_installed installed (drawn task.old))) }
     ensures refused { IfErr result (λ fault. IsFault fault (system_given arch has_installed installed (drawn task.old))) }
     ensures kept { OnErr result (IsKept task.old task.new) }
+    ensures pool { task.new.pool ≡ task.old.pool }
 {
     if !fits_installed(task.universe.repos(), has_installed, installed) {
         return Err(DraftFault::Misused);
@@ -68,6 +69,7 @@ pub(crate) fn disable(task: &mut Task, pack: u32) -> Result<(), DraftFault>
     ensures done { OnOk result (HasDrawn task.new (disabled_given pack (drawn task.old))) }
     ensures refused { IfErr result (λ fault. IsFault fault (disabled_given pack (drawn task.old))) }
     ensures kept { OnErr result (IsKept task.old task.new) }
+    ensures pool { task.new.pool ≡ task.old.pool }
 {
     if !is_number_of(task.universe.count(), pack) {
         return Err(DraftFault::Misused);
@@ -82,6 +84,7 @@ pub(crate) fn set_flags(task: &mut Task, row: &FlagRow) -> Result<(), DraftFault
     ensures done { OnOk result (HasDrawn task.new (flags_given row.now (drawn task.old))) }
     ensures refused { IfErr result (λ fault. IsFault fault (flags_given row.now (drawn task.old))) }
     ensures kept { OnErr result (IsKept task.old task.new) }
+    ensures pool { task.new.pool ≡ task.old.pool }
 {
     task.flags = flags_of(row);
     Ok(())

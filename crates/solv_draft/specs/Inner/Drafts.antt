@@ -23,9 +23,10 @@ pub record HasDrawn (task : Task) (given : Result State DraftFault) : Type 0 whe
   pub is : given ≡ Ok (drawn task)
   pub draft : IsDraft task
 
--- a task is as it was; its pool may hold more
+-- a task is as it was; its pool may hold more, and nothing else has changed
 pub record IsKept (old new : Task) : Type 0 where
   pub task : written_task new ≡ written_task old
+  pub besides : new ≡ record old { pool = new.pool }
   pub grows : Grows old.pool new.pool
   pub draft : IsDraft new
 
