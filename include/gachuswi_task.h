@@ -107,8 +107,9 @@ int32_t gachuswi_task_solve_again(gachuswi_task *task, const gachuswi_flags *fla
 /* ---- A task built by calls. They are made in any order, but what a call names by a number is there before it. Each answers GACHUSWI_DONE, and
  * the task has what was given; or GACHUSWI_REFUSED, where a text is refused: gachuswi_task_err tells the call, the number of the text's first bad line,
  * and the cause, as `gachuswi: packages:12: BadPackageLine`; GACHUSWI_MISUSE, where a number names nothing, or no task is kept; or GACHUSWI_NO_MEMORY. In
- * the last three cases the task is as it was. In any case it has no answer any more, which gachuswi_task_answer gives. A refused script is
- * no task. A task that was read from a script is one, with the flags and jobs of its first round, or those of gachuswi_task_solve_again. */
+ * the last three cases the task is as it was. With GACHUSWI_NO_MEMORY an answer is still kept, and so is what gachuswi_task_err tells; in the other cases a
+ * task has no answer any more, which gachuswi_task_answer gives. A refused script is no task, and stays. A task that was read from a script is one, with the
+ * flags and jobs of its first round, or those of gachuswi_task_solve_again. */
 
 /* Opens a task without packages, with the flags of GACHUSWI_FLAGS, in place of what was kept. Answers GACHUSWI_DONE, or GACHUSWI_NO_MEMORY, and then what was
  * kept is as it was. */

@@ -18,11 +18,9 @@ use Rattle.solv_remedy.specs.Remedies.{IsGoodList}
 use Rattle.solv_remedy.specs.declared.problems.Problem.{Problem}
 use Rattle.solv_verdicts.specs.Laws.{AreGoodFor, AreOfRounds, ProblemsAreProved, ProblemsMayBeWritten, proof_of, proofs_of, proofs_of_rounds}
 use Rattle.solv_verdicts.specs.Verdicts.{of_round, verdict_of, verdict_on}
-use Rattle.solv_verdicts.specs.declared.verdicts.Verdict.{Verdict}
-use Rattle.solv_verdicts.specs.declared.verdicts.Verdict.TheVariants.{NoRound, Yes}
+use Rattle.solv_verdicts.specs.declared.verdicts.Verdict.TheVariants.{NoRound, NoRules, NoStep, Yes}
 use Rattle.solv_solved.specs.Inner.Proving.{are_proved, is_proved, is_yes}
 use Rattle.solv_solved.specs.Proofs.{problems_in}
-use Rattle.solv_solved.proofs.WhatIsHeld.{some_is}
 
 -- a proof that may follow another may stand alone
 alone : (round number : ℕ) (p : Proof) → may_follow round number p ≡ true → are_listed (p ∷ []) ≡ true
@@ -58,7 +56,9 @@ each_good : (task : Task) (problems : List Problem) → IsGoodList (request task
     → slice_get (problems ∷ []) i ≡ Some ps → 0 < length ps → AreGoodFor r ps
 each_good task problems good zero r ps at there some =
     let here : AreGoodFor (request task) problems = record { core = hard_core task; clauses = refl; good = good } in
-    subst (λ (q : Request). AreGoodFor q ps) (some_is (request task) r at) (subst (λ (l : List Problem). AreGoodFor (request task) l) (some_is problems ps there) here)
+    let one : request task ≡ r = cc in
+    let all : problems ≡ ps = cc in
+    subst (λ (q : Request). AreGoodFor q ps) one (subst (λ (l : List Problem). AreGoodFor (request task) l) all here)
 each_good task problems good (suc i) r ps at there some = absurd (cc)
 
 good_proved : ProblemsMayBeWritten → ProblemsAreProved → (task : Task) (problems : List Problem) → IsGoodList (request task) (hard_core task) problems → are_proved task problems ≡ true
@@ -81,17 +81,13 @@ proved may law task budget (Transaction trail set made ordered) ledger is = refl
 proved may law task budget (Problems problems) ledger is = good_proved may law task problems is.is.good
 proved may law task budget Spent ledger is = refl
 
-is_yes_so : (v : Verdict) → is_yes v ≡ true → v ≡ Yes
-is_yes_so Yes said = refl
-is_yes_so v said = absurd (cc)
-
 -- the proof of the problem at a place may be written, and yes is said of it
 proved_at : (task : Task) (n i : ℕ) (problems : List Problem) (problem : Problem) → list_all (is_proved task) (map (λ x. proof_of 1 x.0 x.1) (enumerate_from n problems)) ≡ true → slice_get problems i ≡ Some problem
     → is_proved task (proof_of 1 (n + i) problem) ≡ true
 proved_at task n i [] problem all at = absurd (cc)
 proved_at task n zero (p ∷ ps) problem all at =
     let parts = and_parts (is_proved task (proof_of 1 n p)) (list_all (is_proved task) (map (λ x. proof_of 1 x.0 x.1) (enumerate_from (n + 1) ps))) all in
-    let here : p ≡ problem = some_is p problem at in
+    let here : p ≡ problem = cc in
     subst (λ (q : Problem). is_proved task (proof_of 1 (n + 0) q) ≡ true) here (subst (λ (m : ℕ). is_proved task (proof_of 1 m p) ≡ true) (omega arith) parts.0)
 proved_at task n (suc i) (p ∷ ps) problem all at =
     let parts = and_parts (is_proved task (proof_of 1 n p)) (list_all (is_proved task) (map (λ x. proof_of 1 x.0 x.1) (enumerate_from (n + 1) ps))) all in
@@ -106,4 +102,10 @@ module _ (task : Task) (problems : List Problem) (i : ℕ) (problem : Problem) (
   may_be_written = both.0
 
   pub gets_yes : verdict_of (task ∷ []) (proof_of 1 (i + 1) problem) ≡ Yes
-  gets_yes = is_yes_so (verdict_of (task ∷ []) (proof_of 1 (i + 1) problem)) both.1
+  gets_yes =
+      elim (verdict_of (task ∷ []) (proof_of 1 (i + 1) problem)) as (λ v. is_yes v ≡ true → v ≡ Yes) [
+        | Yes ↦ λ said. refl
+        | NoRound ↦ λ said. absurd (cc)
+        | NoRules ↦ λ said. absurd (cc)
+        | NoStep n ↦ λ said. absurd (cc)
+      ] both.1

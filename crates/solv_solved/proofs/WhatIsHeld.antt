@@ -1,10 +1,8 @@
 -- What is held by the clauses of the calls.
-use Rattle.std.proofs.Common.{◌≡◌, ◌<◌, ◌∙◌, ◌∷◌, ◌++◌, ℕ, true, List, [], None, Some, inl, inr, ap, refl, sym, subst, arith}
+use Rattle.std.proofs.Common.{◌≡◌, ◌<◌, ◌∙◌, ◌∷◌, ◌++◌, ℕ, true, List, [], Some, inl, inr, refl, sym, subst, arith}
 use Rattle.solv_io.specs.Counters.{Rose}
-use Rattle.std.specs.List.{All}
 use Rattle.solv_pool.specs.Catalog.{catalog_of}
 use Rattle.solv_pool.specs.HardRules.{hard_rules}
-use Rattle.solv_pool.specs.declared.tasks.Task.{Task}
 use Rattle.solv_rules.specs.Books.{first_fault}
 use Rattle.solv_rules.specs.declared.fault.BookFault.{BookFault}
 use Rattle.solv_lent.specs.Inner.Asked.{last_is_missing}
@@ -12,7 +10,6 @@ use Rattle.solv_lent.specs.Lent.{is_missing, lent_bytes}
 use Rattle.solv_lent.proofs.HeldFiles.{last_behind}
 use Rattle.solv_lent.specs.declared.lent_file.LentFile.{LentFile}
 use Rattle.solv_script.specs.FileRuns.{FilesRun}
-use Rattle.solv_script.specs.Rounds.{tasks}
 use Rattle.solv_script.specs.declared.scripts.Script.{Script}
 use Rattle.solv_script.specs.declared.scripts.ScriptFault.{ScriptFault}
 use Rattle.solv_said.specs.Dues.{limit_due}
@@ -24,10 +21,6 @@ use Rattle.solv_solved.specs.Solvings.{IsHeldFor, IsHeldOf, IsHeldOfLent, NamesT
 use Rattle.solv_solved.specs.declared.outcomes.Held.{Held}
 use Rattle.solv_solved.specs.declared.outcomes.Held.TheVariants.{Answered, Refused, Open}
 
--- what holds of the tasks of all rounds holds of the first one's
-pub of_first : (P : Task → Type 0) (script : Script) → All P (tasks script) → P script.task
-of_first P script all = all 0 script.task (omega arith)
-
 pub passes_by : (budget : ℕ) (script : Script) (fault : BookFault) (due : Due) → first_fault (catalog_of script.task) 0 (hard_rules script.task) ≡ Some fault → due ≡ limit_due program script.task fault → IsHeldFor budget script (Refused due)
 passes_by budget script fault due passed is = subst (λ (d : Due). IsHeldFor budget script (Refused d)) (sym is) (passes fault passed)
 
@@ -36,18 +29,13 @@ unread_by name files budget fault (Answered solved) none is = absurd is
 unread_by name files budget fault (Open opened) none is = absurd is
 unread_by name files budget fault (Refused due) none is = unread due (none.due program due is)
 
-some_rose : (faults : ℕ) → Rose 0 faults → 0 < faults
-some_rose faults (inl less) = less
-some_rose faults (inr at_last) = absurd (omega (arith, at_last.0))
-
-pub some_is : {A : Type 0} → (x y : A) → Some x ≡ Some y → x ≡ y
-some_is x y is = ap (λ o. elim o [ Some z ↦ z | None ↦ x ]) is
-
 module _ (files : List LentFile) (names : List (List ℕ)) (faults : ℕ) (missing : 0 < faults → last_is_missing files names ≡ true) where
   -- the name that was asked for last is missing where a fault was counted
   last_missing : (before : List (List ℕ)) (name : List ℕ) → Some names ≡ Some (before ++ name ∷ []) → Rose 0 faults → is_missing files name ≡ true
   last_missing before name asked rose =
-      sym (last_behind files before name) ∙ subst (λ (all : List (List ℕ)). last_is_missing files all ≡ true) (some_is _ _ asked) (missing (some_rose faults rose))
+      let same : names ≡ before ++ name ∷ [] = cc in
+      let some : 0 < faults = elim rose [ inl less ↦ less | inr at_last ↦ absurd (omega (arith, at_last.0)) ] in
+      sym (last_behind files before name) ∙ subst (λ (all : List (List ℕ)). last_is_missing files all ≡ true) same (missing some)
 
   pub names_the_missing : (name : List ℕ) (budget : ℕ) (held : Held) → IsHeldOf name (lent_files files names faults) budget held → NamesTheMissing files held
   names_the_missing name budget _ (was_read script held fetched (answered solved is)) = tt

@@ -15,6 +15,7 @@ use Rattle.solv_said.specs.declared.dues.Due.{Due}
 use Rattle.solv_draft.specs.Drafts.{IsAsBefore, drawn}
 use Rattle.solv_draft.specs.declared.draft_fault.DraftFault.{DraftFault}
 use Rattle.solv_draft.specs.declared.draft_fault.DraftFault.TheVariants as fault
+use Rattle.solv_solved.specs.Anew.{IsSame}
 use Rattle.solv_solved.specs.Solvings.{IsSolved, program}
 use Rattle.solv_solved.specs.declared.anew.Again.{Again}
 use Rattle.solv_solved.specs.declared.anew.Again.TheVariants as ended
@@ -57,16 +58,17 @@ pub data IsBuilt (name : List ℕ) (call : State → Result State DraftFault) : 
   of_task : (old : Held) (task : Task) (new : Opened) (how : Given) → task_of old ≡ Some task → IsGiven name call task new how → IsBuilt name call old (Open new) how
   of_refusal : (due : Due) → IsBuilt name call (Refused due) (Refused due) Misused
 
--- the task is held without an answer, as it was
-abbrev pub IsStillOf : Task → Held → Type 0
-IsStillOf task (Answered solved) = ⊥
-IsStillOf task (Refused due) = ⊥
-IsStillOf task (Open new) = IsAsBefore task new.draft.task
+-- a task without an answer is as it was, and so is what was said of it
+pub record IsStillOpen (old new : Opened) : Type 0 where
+  pub task : IsAsBefore old.draft.task new.draft.task
+  pub said : new.said ≡ old.said
 
--- so it is with what is held; a refusal stays
-pub data IsStill : Held → Held → Type 0 where
-  still : (old new : Held) (task : Task) → task_of old ≡ Some task → IsStillOf task new → IsStill old new
-  still_refused : (due : Due) → IsStill (Refused due) (Refused due)
+-- What is held stays: an answer, of which nothing has changed; a task without one; a refusal.
+abbrev pub IsStill : Held → Held → Type 0
+IsStill (Answered old) (Answered new) = IsSame old new
+IsStill (Refused old) (Refused new) = new ≡ old
+IsStill (Open old) (Open new) = IsStillOpen old new
+IsStill old new = ⊥
 
 -- What is held is answered within the budget: a task has an answer then, in place of any before it. Or the clauses of a task without an answer pass a limit, which is told;
 -- one with an answer passes none. A refusal has no task, and stays.

@@ -1,19 +1,21 @@
 //! What calls build, and the answer to it.
-ghost use Rattle.std.specs.Prelude.{◌≡◌, ◌≤◌, None, Some, IfOk, OnErr};
+ghost use Rattle.std.specs.Prelude.{◌≡◌, ◌≤◌, None, Some, IfOk, IsOk, OnErr};
 ghost use Rattle.std.specs.Option.{option_map};
 ghost use Rattle.solv_pool.specs.TaskBelonging.{IsClosed};
 ghost use Rattle.solv_pool.specs.TaskForms.{HasForms};
-ghost use Rattle.solv_draft.specs.Drafts.{IsAsBefore};
 ghost use Rattle.solv_draft.specs.Inner.Calls.{given};
-ghost use Rattle.solv_solved.specs.Building.{IsBuilt, IsEmpty, IsEmptyHeld, IsGiven, IsStill, IsTaskSolved, script_of, task_of};
+ghost use Rattle.solv_solved.specs.Building.{IsBuilt, IsEmpty, IsEmptyHeld, IsGiven, IsStill, IsStillOpen, IsTaskSolved, script_of, task_of};
 ghost use Rattle.solv_solved.specs.Inner.CallNames.{call_name};
 ghost use Rattle.solv_solved.specs.Inner.Finding.{IsFound, IsFoundIn, IsSolveOf};
 ghost use Rattle.solv_solved.specs.Inner.Limits.{IsLimitSaid};
+ghost use Rattle.solv_solved.specs.Inner.Tellings.{IsTold};
+ghost use Rattle.solv_solved.specs.declared.outcomes.Held.TheVariants.{Answered};
 
 use crate::anew::Again;
 use crate::opened::Opened;
 use crate::outcomes::Held;
 use crate::solving::{PROGRAM, WithRules, index_and_answer, solved};
+use crate::with_answer::Solved;
 use solv_draft::{Call, Draft, DraftFault};
 use solv_list::{Bytes, Items};
 use solv_pool::Task;
@@ -50,6 +52,27 @@ fn call_name(call: &Call<'_>) -> &'static str
     }
 }
 
+/// The line on how a call ended, and how that was. Running out of memory is no end.
+fn told(
+    alloc: Global,
+    call: &Call<'_>,
+    ended: Result<(), DraftFault>,
+) -> Result<(Bytes, Given), AllocError>
+    ensures told { IfOk result (λ told. IsTold (call_name call.now) ended told.0 told.1) }
+    ensures nothing { IsOk ended → IsOk result }
+{
+    let none = Bytes::wrap(Vec::new(alloc));
+    match ended {
+        Ok(()) => Ok((none, Given::Done)),
+        Err(DraftFault::Refused { line, cause }) => {
+            let text = bad_line_text(alloc, PROGRAM, call_name(call), line, cause.name())?;
+            Ok((Bytes::wrap(text.into_bytes()), Given::Refuses))
+        }
+        Err(DraftFault::Misused) => Ok((none, Given::Misused)),
+        Err(DraftFault::Memory) => Err(AllocError),
+    }
+}
+
 impl Opened {
     /// A task before the first call. It takes no memory.
     fn empty(alloc: Global) -> Opened
@@ -64,23 +87,34 @@ impl Opened {
     /// Gives the task what a call gives, or says why not.
     fn build(&mut self, alloc: Global, call: &Call<'_>) -> Result<Given, AllocError>
         ensures built { IfOk result (IsGiven (call_name call.now) (given call.now) self.old.draft.task self.new) }
-        ensures same { OnErr result (IsAsBefore self.old.draft.task self.new.draft.task) }
+        ensures same { OnErr result (IsStillOpen self.old self.new) }
     {
-        match self.draft.give(call) {
-            Ok(()) => {
-                self.said = Bytes::wrap(Vec::new(alloc));
-                Ok(Given::Done)
+        let ended = self.draft.give(call);
+        match told(alloc, call, ended) {
+            Ok((said, given)) => {
+                self.said = said;
+                Ok(given)
             }
-            Err(DraftFault::Refused { line, cause }) => {
-                let text = bad_line_text(alloc, PROGRAM, call_name(call), line, cause.name())?;
-                self.said = Bytes::wrap(text.into_bytes());
-                Ok(Given::Refuses)
+            Err(_) => Err(AllocError),
+        }
+    }
+}
+
+impl Solved {
+    /// Gives the task what a call gives, or says why not, and lets its answer go then. Where memory runs out the answer stays.
+    fn build(self, alloc: Global, call: &Call<'_>) -> (Held, Result<Given, AllocError>)
+        ensures built { IfOk result.1 (IsBuilt (call_name call.now) (given call.now) (Answered self) result.0) }
+        ensures same { OnErr result.1 (IsStill (Answered self) result.0) }
+    {
+        let (task, beside) = self.apart();
+        let mut draft = Draft::of(task);
+        let ended = draft.give_or_stay(call);
+        match told(alloc, call, ended) {
+            Ok((said, given)) => (Held::Open(Opened { draft, said }), Ok(given)),
+            Err(_) => {
+                let solved = beside.joined(draft.into_task());
+                (Held::Answered(solved), Err(AllocError))
             }
-            Err(DraftFault::Misused) => {
-                self.said = Bytes::wrap(Vec::new(alloc));
-                Ok(Given::Misused)
-            }
-            Err(DraftFault::Memory) => Err(AllocError),
         }
     }
 }
@@ -207,14 +241,23 @@ impl Held {
         }
     }
 
-    /// Gives the task that is held what a call gives, or says why not; and then the task is as it was. Its answer is let go.
+    /// Gives the task that is held what a call gives, or says why not, and then the task is as it was. Its answer is let go, but where memory runs out
+    /// all stays.
     pub fn build(&mut self, alloc: Global, call: &Call<'_>) -> Result<Given, AllocError>
         ensures built { IfOk result (IsBuilt (call_name call.now) (given call.now) self.old self.new) }
         ensures same { OnErr result (IsStill self.old self.new) }
     {
-        match self.take_task(alloc) {
-            None => Ok(Given::Misused),
-            Some(mut opened) => {
+        match replace(self, Held::open(alloc)) {
+            Held::Answered(solved) => {
+                let (held, given) = solved.build(alloc, call);
+                *self = held;
+                given
+            }
+            Held::Refused(due) => {
+                *self = Held::Refused(due);
+                Ok(Given::Misused)
+            }
+            Held::Open(mut opened) => {
                 let given = opened.build(alloc, call);
                 *self = Held::Open(opened);
                 given

@@ -17,6 +17,7 @@
 #![tactic(auto)]
 
 mod anew;
+mod beside;
 mod building;
 mod filling;
 mod handing;

@@ -9,6 +9,7 @@ ghost use Rattle.solv_rules.specs.Books.{first_fault, read_rules};
 ghost use Rattle.solv_solved.specs.Inner.Proving.{are_proved};
 ghost use Rattle.solv_solved.specs.Proofs.{problems_in};
 
+use crate::beside::Beside;
 use solv_answers::Answer;
 use solv_core::Ledger;
 use solv_pool::{Rules, Task};
@@ -64,5 +65,44 @@ impl Solved {
             later: _,
         } = script;
         task
+    }
+}
+
+impl Solved {
+    ghost use Rattle.solv_solved.specs.Inner.Besides.{IsAnswerTo, beside_of};
+
+    /// The task, and what there is besides it.
+    pub(crate) fn apart(self) -> (Task, Beside)
+        ensures task { result.0 ≡ self.script.task }
+        ensures beside { result.1 ≡ beside_of self }
+        ensures closed { IsClosed result.0 }
+        ensures forms { HasForms result.0 }
+        ensures answer { IsAnswerTo result.0 result.1 }
+    {
+        let Solved {
+            script,
+            prov,
+            rules,
+            answer,
+            ledger,
+        } = self;
+        let Script {
+            task,
+            kinds,
+            wanted,
+            checks,
+            later,
+        } = script;
+        let beside = Beside {
+            kinds,
+            wanted,
+            checks,
+            later,
+            prov,
+            rules,
+            answer,
+            ledger,
+        };
+        (task, beside)
     }
 }

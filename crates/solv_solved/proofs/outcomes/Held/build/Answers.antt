@@ -1,20 +1,22 @@
-use Rattle.std.proofs.Common.{sym}
+use Rattle.std.proofs.Common.{◌≡◌, Some, ap, rules, subst, sym}
 use Rattle.solv_list.proofs.Answers.{ok_map}
 use Rattle.solv_draft.specs.Inner.Calls.{given}
-use Rattle.solv_solved.specs.Building.{of_task, still}
+use Rattle.solv_solved.specs.Building.{IsBuilt, of_refusal, of_task, task_of}
 use Rattle.solv_solved.specs.Inner.CallNames.{call_name}
-use Rattle.solv_solved.specs.declared.outcomes.Held.TheVariants.{Open}
-use Rattle.solv_solved.proofs.Built.{built_none, err_map}
+use Rattle.solv_solved.specs.declared.building.Given.TheVariants.{Misused}
+use Rattle.solv_solved.specs.declared.outcomes.Held.{Held}
+use Rattle.solv_solved.specs.declared.outcomes.Held.TheVariants.{Open, Refused}
 use Rattle.solv_solved.proofs.outcomes.Held.build.Goals as goal
 
-pub returns-in-None-clause-built : goal.returns-in-None-clause-built
-returns-in-None-clause-built c =
-    let none = sym c.in-None.ensures.task in built_none (call_name c.args.call.now) (given c.args.call.now) c.args.self.now c.take_task.new.self none (c.in-None.ensures.stays none)
+pub returns-in-Refused-clause-built : goal.returns-in-Refused-clause-built
+returns-in-Refused-clause-built c =
+    let due = c.in-Refused.due in
+    let same : Refused due ≡ c.args.self.now = search rules in
+    subst (λ (old : Held). IsBuilt (call_name c.args.call.now) (given c.args.call.now) old (Refused due) Misused) same (of_refusal due)
 
-pub returns-in-Some-clause-built : goal.returns-in-Some-clause-built
-returns-in-Some-clause-built c =
-    ok_map _ _ c.build-given.result (λ how h. of_task c.args.self.now c.in-Some.opened.draft.task c.build-given.new.self how (sym c.in-Some.ensures.task) h) c.build-given.ensures.built
-
-pub returns-in-Some-clause-same : goal.returns-in-Some-clause-same
-returns-in-Some-clause-same c =
-    err_map c.build-given.result (λ h. still c.args.self.now (Open c.build-given.new.self) c.in-Some.opened.draft.task (sym c.in-Some.ensures.task) h) c.build-given.ensures.same
+pub returns-in-Open-clause-built : goal.returns-in-Open-clause-built
+returns-in-Open-clause-built c =
+    let opened = c.in-Open.opened in
+    let same : Open opened ≡ c.args.self.now = search rules in
+    let there : task_of c.args.self.now ≡ Some opened.draft.task = ap (λ (old : Held). task_of old) (sym same) in
+    ok_map _ _ c.build-given.result (λ how h. of_task c.args.self.now opened.draft.task c.build-given.new.self how there h) c.build-given.ensures.built
