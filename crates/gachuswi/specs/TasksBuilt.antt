@@ -25,8 +25,8 @@ pub data IsOpenCall (old : Option Held) : Option Held → ℤ → Type 0 where
   opened : (new : Held) → IsEmptyHeld new → IsOpenCall old (Some new) done
   ran_out : IsOpenCall old old no_memory
 
--- A call of this name that builds: the task has what was given; or a text is refused, which is told; or a number names nothing, or there is no task; or memory ran out; or
--- nothing was kept.
+-- A call of this name that builds: the task has what was given; or a text is refused, which is told; or a number names nothing, or there is no task; or memory ran out, and
+-- what was kept stays, with its answer; or nothing was kept.
 pub data IsBuildCall (name : List ℕ) (call : State → Result State DraftFault) : Option Held → Option Held → ℤ → Type 0 where
   has_built : (old new : Held) → IsBuilt name call old new Done → IsBuildCall name call (Some old) (Some new) done
   refuses : (old new : Held) → IsBuilt name call old new Refuses → IsBuildCall name call (Some old) (Some new) refused

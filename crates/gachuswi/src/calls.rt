@@ -2,6 +2,7 @@
 ghost use Rattle.std.specs.Prelude.{◌≡◌, ◌≤◌, length, None, IfOk};
 ghost use Rattle.gachuswi.specs.Calls.{IsKeptRun, IsRunCall, filled, out_of, err_of, status_of};
 
+use crate::answer_numbers::{MISUSED, MOST_LEARNT, NO_MEMORY};
 use crate::asking::{Options, asked, asks_for_both};
 use crate::handles::Handle;
 use solv_embed::run_lent;
@@ -10,15 +11,6 @@ use std::alloc::{AllocError, Global};
 
 /// The number of this interface. It grows by one with each change that a program in C has to know of.
 const ABI: u32 = 1;
-
-/// What a call answers where memory ran out.
-const NO_MEMORY: i32 = 6;
-
-/// What a call answers that was made wrongly.
-const MISUSED: i32 = 8;
-
-/// The greatest budget.
-const MOST_LEARNT: u32 = 1_000_000;
 
 /// The number of this interface.
 #[unsafe(no_mangle)]

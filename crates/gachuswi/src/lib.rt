@@ -17,6 +17,7 @@
 //! does is said by definitions (`specs/Calls`); that an answer's memory is owned by its handle, by `specs/Inner/Held`.
 #![tactic(auto)]
 
+mod answer_numbers;
 mod asking;
 mod calls;
 mod handles;

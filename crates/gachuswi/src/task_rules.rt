@@ -4,16 +4,11 @@ ghost use Rattle.gachuswi.specs.TaskRules.{packs_of_rule, rule_of, rules_of};
 ghost use Rattle.gachuswi.specs.Tasks.{code_of};
 ghost use Rattle.solv_solved.specs.Fillings.{filled_where, length_where};
 
+use crate::answer_numbers::{DONE, MISUSED};
 use crate::task_handles::TaskHandle;
 use crate::tasks::code;
 use solv_solved::RuleRow;
 use std::alloc::Global;
-
-/// What a call answers where its numbers name something.
-const DONE: i32 = 0;
-
-/// What a call answers that was made wrongly.
-const MISUSED: i32 = 8;
 
 /// How many hard rules the task has that is answered.
 #[unsafe(no_mangle)]

@@ -4,19 +4,11 @@ ghost use Rattle.gachuswi.specs.TaskTexts.{IsGoodProofOf, IsTextCall, dep_text, 
 ghost use Rattle.gachuswi.specs.Tasks.{code_of};
 ghost use Rattle.solv_solved.specs.Fillings.{number_where};
 
+use crate::answer_numbers::{DONE, MISUSED, NO_MEMORY};
 use crate::task_handles::TaskHandle;
 use solv_list::Bytes;
 use solv_solved::fill;
 use std::alloc::{AllocError, Global};
-
-/// What a call answers that gives a text.
-const DONE: i32 = 0;
-
-/// What a call answers where memory ran out.
-const NO_MEMORY: i32 = 6;
-
-/// What a call answers that was made wrongly.
-const MISUSED: i32 = 8;
 
 /// Copies the first bytes of a text, as many as there is room for, and tells its length, where there is one.
 fn hand_out(made: Result<Option<Bytes>, AllocError>, into: &mut [u8], count: &mut usize) -> i32

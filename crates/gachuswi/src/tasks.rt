@@ -4,22 +4,11 @@ ghost use Rattle.solv_solved.specs.Fillings.{change_row, filled, filled_where, l
 ghost use Rattle.solv_solved.specs.Readings.{problem_rules, solution_count, solution_rules, solution_set};
 ghost use Rattle.gachuswi.specs.Tasks.{IsKeptTask, IsTaskCall, number_of, line_of, changes_of, order_of, set_of, cycles_of, cycle_of, problems_of, of_problem, of_solution, code_of, code_where};
 
+use crate::answer_numbers::{DONE, MISUSED, MOST_LEARNT, NO_MEMORY};
 use crate::task_handles::TaskHandle;
 use solv_lent::LentFile;
 use solv_solved::{PackChange, fill, fill_changes, fill_packs, solve_lent};
 use std::alloc::{AllocError, Global};
-
-/// What a call answers where its numbers name something.
-const DONE: i32 = 0;
-
-/// What a call answers where memory ran out.
-const NO_MEMORY: i32 = 6;
-
-/// What a call answers that was made wrongly.
-const MISUSED: i32 = 8;
-
-/// The greatest budget.
-const MOST_LEARNT: u32 = 1_000_000;
 
 /// Reads the script of this name, answers its first round, and keeps what that comes to.
 fn kept_task(

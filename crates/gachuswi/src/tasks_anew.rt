@@ -2,22 +2,11 @@
 ghost use Rattle.std.specs.Prelude.{◌≤◌, Some};
 ghost use Rattle.gachuswi.specs.TasksAnew.{IsAgainCall};
 
+use crate::answer_numbers::{MISUSED, MOST_LEARNT, NO_MEMORY, REFUSED};
 use crate::task_handles::TaskHandle;
 use solv_draft::{FlagRow, JobRow};
 use solv_solved::{Again, Held};
 use std::alloc::Global;
-
-/// What a call answers where the clauses pass a limit.
-const REFUSED: i32 = 2;
-
-/// What a call answers where memory ran out.
-const NO_MEMORY: i32 = 6;
-
-/// What a call answers that was made wrongly.
-const MISUSED: i32 = 8;
-
-/// The greatest budget.
-const MOST_LEARNT: u32 = 1_000_000;
 
 /// Answers what is held anew, and gives the number of how that ended.
 fn again(alloc: Global, held: &mut Held, flags: &FlagRow, rows: &[JobRow], budget: u32) -> i32

@@ -6,25 +6,11 @@ ghost use Rattle.solv_solved.specs.Inner.CallNames.{call_name};
 ghost use Rattle.gachuswi.specs.TaskTexts.{package_count};
 ghost use Rattle.gachuswi.specs.TasksBuilt.{IsAnswerCall, IsBuildCall, IsOpenCall, done, repo_count};
 
+use crate::answer_numbers::{DONE, MISUSED, MOST_LEARNT, NO_MEMORY, REFUSED};
 use crate::task_handles::TaskHandle;
 use solv_draft::{Call, FlagRow, JobRow};
 use solv_solved::{Again, Given, Held};
 use std::alloc::Global;
-
-/// What a call answers that is done.
-const DONE: i32 = 0;
-
-/// What a call answers where a text is refused, or the clauses pass a limit.
-const REFUSED: i32 = 2;
-
-/// What a call answers where memory ran out.
-const NO_MEMORY: i32 = 6;
-
-/// What a call answers that was made wrongly.
-const MISUSED: i32 = 8;
-
-/// The greatest budget.
-const MOST_LEARNT: u32 = 1_000_000;
 
 /// Opens a task without packages, in place of what was kept.
 #[unsafe(no_mangle)]
