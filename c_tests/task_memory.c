@@ -67,7 +67,7 @@ static unsigned long kept(gachuswi_task *task) {
     return sum * 31 + gachuswi_task_set(task, NULL, 0) + gachuswi_task_err(task, NULL, 0);
 }
 
-/* ---- calls that build; the memory of what a refused one read may stay with the task */
+/* ---- calls that build; the memory of what a refused one read may stay with a task that has no answer */
 
 static int32_t add_repo(gachuswi_task *task) {
     static unsigned char count;
@@ -103,12 +103,16 @@ static int32_t answer_it(gachuswi_task *task) { return gachuswi_task_answer(task
 
 static int32_t open_one(gachuswi_task *task) { return gachuswi_task_open(task); }
 
-/* whether the memory that a refused call holds is looked at */
-static bool keeps_memory;
+/* whether the memory that a refused call holds is let be, and whether each call is made on a task that has an answer */
+static bool keeps_memory, on_answers;
+
+static bool has_answer(gachuswi_task *task) { return gachuswi_task_status(task) != GACHUSWI_OPEN; }
 
 static void refuse(const char *name, gachuswi_task *task, int32_t (*call)(gachuswi_task *)) {
     for (int all = 0; all < 2; all++) {
         for (unsigned long k = 0;; k++) {
+            /* a call that is done lets the answer go */
+            if (on_answers && !has_answer(task) && (gachuswi_task_answer(task, budget), !has_answer(task))) return;
             unsigned long before = kept(task);
             long held = blocks;
             counts = true, refuses_all = all, was_refused = false, granted = k;
@@ -155,6 +159,15 @@ static void refuse_each(const gachuswi_options *options) {
         refuse("packages", &task, add_packages);
         refuse("an answer", &task, answer_it);
         refuse("an answer with an answer before", &task, answer_it);
+        /* with an answer nothing may have changed, nor may memory stay */
+        on_answers = true, keeps_memory = false;
+        refuse("packages with an answer", &task, add_packages);
+        refuse("a repository with an answer", &task, add_repo);
+        refuse("packages that are refused with an answer", &task, add_refused);
+        refuse("a namespace with an answer", &task, add_namespace);
+        refuse("a job with an answer", &task, add_job);
+        refuse("a job by a dependency with an answer", &task, add_job_by);
+        on_answers = false;
     }
     keeps_memory = false;
     refuse("open", &task, open_one);
