@@ -2,9 +2,8 @@
 use Rattle.std.proofs.Common.{◌≡◌, ◌∙◌, ℕ, zero, suc, List, [], ◌∷◌, slice_get, Some, Ok, sym, ap, subst, arith}
 use Rattle.std.specs.Prelude.{slice_set, replicate}
 use Rattle.solv_base.specs.Pool.{Held, Grows}
-use Rattle.solv_deps.specs.declared.recent.Row.{Row}
 use Rattle.solv_deps.specs.declared.recent.Recent.{Recent}
-use Rattle.solv_deps.specs.Inner.Recent.{IsRead, AreRead}
+use Rattle.solv_deps.specs.Inner.Recent.{AreRead}
 
 -- what holds of a value and of all values of a list holds of all when it is written at a place
 pub written_keeps : {X : Type 0} (P : X → Type 0) (xs : List X) (i : ℕ) (x : X) → P x → ((n : ℕ) (y : X) → slice_get xs n ≡ Some y → P y)

@@ -13,7 +13,7 @@ use crate::laws::held_is_entered;
 use crate::place::Place;
 use solv_base::{DepId, Pool};
 use std::alloc::Global;
-use std::hash::{BuildHasher, BuildHasherDefault, FoldHasher};
+use std::hash::{FoldHasher, Hasher};
 
 /// How many texts are kept, each at the place that its hash gives.
 const ROOM: usize = 8192;
@@ -21,8 +21,8 @@ const ROOM: usize = 8192;
 /// How many bytes are to be read where it is worth while to keep texts.
 const WORTH: usize = 1 << 16;
 
-/// The longest text that is kept. A row then has 40 bytes.
-const MOST: usize = 34;
+/// The longest text that is kept. A row then has 64 bytes.
+const MOST: usize = 58;
 
 /// A text, where it stood, and what it gave. A row of no bytes is none.
 #[derive(Clone, Copy)]
@@ -33,10 +33,19 @@ pub(crate) struct Row {
     bytes: [u8; MOST],
 }
 
-/// Texts that were read into one pool, each with what it gave. Where there is no memory for them it keeps none.
+/// Where a text may be kept, and its sign there: two parts of its hash.
+#[derive(Clone, Copy)]
+struct Spot {
+    at: usize,
+    sign: u8,
+}
+
+/// Texts that were read into one pool, each with what it gave, and their signs, of which many lie together: a row is looked at where the sign of its text is that
+/// of the text in question. Where there is no memory for them it keeps none.
 #[derive(Drop)]
 pub struct Recent {
     rows: Vec<Row>,
+    signs: Vec<u8>,
 }
 
 /// A row of no text.
@@ -53,7 +62,7 @@ fn no_row() -> Row
 
 /// A row of a text.
 fn row_of(text: &[u8], place: Place, id: DepId) -> Row
-    requires { length text.now ≤ 34 }
+    requires { length text.now ≤ 58 }
     ensures { (pool : Held) → dependency place text.now ≡ Ok (text_tree pool id) → id < length pool.nodes → IsRead pool result }
 {
     let mut bytes = [0; MOST];
@@ -93,9 +102,23 @@ fn given(row: &Row, text: &[u8], place: Place) -> Option<DepId>
     Some(row.id)
 }
 
-/// The place of a text.
-fn place_of(text: &[u8]) -> usize {
-    (BuildHasherDefault::<FoldHasher>::new().hash_one(text) % ROOM as u64) as usize
+/// Signs of no texts, or none where there is no memory for them.
+fn signs(alloc: Global) -> Vec<u8> {
+    match Vec::from_elem(alloc, 0, ROOM) {
+        Ok(signs) => signs,
+        Err(_) => Vec::new(alloc),
+    }
+}
+
+/// Where a text may be kept.
+fn spot_of(text: &[u8]) -> Spot {
+    let mut hasher = FoldHasher::default();
+    hasher.write(text);
+    let hash = hasher.finish();
+    Spot {
+        at: (hash % ROOM as u64) as usize,
+        sign: (hash >> 56) as u8,
+    }
 }
 
 impl Recent {
@@ -105,34 +128,36 @@ impl Recent {
     {
         if bytes >= WORTH {
             if let Ok(rows) = Vec::from_elem(alloc, no_row(), ROOM) {
-                return Recent { rows };
+                return Recent {
+                    rows,
+                    signs: signs(alloc),
+                };
             }
         }
         Recent {
             rows: Vec::new(alloc),
+            signs: Vec::new(alloc),
         }
     }
 
     /// What a text gave, where it is among those that are kept.
-    fn find(&self, text: &[u8], place: Place) -> Option<DepId>
+    fn find(&self, text: &[u8], place: Place, spot: Spot) -> Option<DepId>
         ensures { IfSome result (λ id. (pool : Held) → AreRead pool self.now → (dependency place text.now ≡ Ok (text_tree pool id)) × (id < length pool.nodes)) }
     {
-        if self.rows.is_empty() {
+        if *self.signs.get(spot.at)? != spot.sign {
             return None;
         }
-        given(self.rows.get(place_of(text))?, text, place)
+        given(self.rows.get(spot.at)?, text, place)
     }
 
     /// Keeps what a text gave, in the place of what was kept there.
-    fn keep(&mut self, text: &[u8], place: Place, id: DepId)
+    fn keep(&mut self, text: &[u8], place: Place, spot: Spot, id: DepId)
         ensures { (pool : Held) → AreRead pool self.old → dependency place text.now ≡ Ok (text_tree pool id) → id < length pool.nodes → AreRead pool self.new }
     {
-        if text.len() > MOST || self.rows.is_empty() {
-            return;
-        }
-        let at = place_of(text);
-        if at < self.rows.len() {
+        let at = spot.at;
+        if text.len() <= MOST && at < self.rows.len() && at < self.signs.len() {
             self.rows[at] = row_of(text, place, id);
+            self.signs[at] = spot.sign;
         }
     }
 }
@@ -155,14 +180,15 @@ pub fn read_again(
     ensures grows { Grows pool.old pool.new }
     ensures kept { AreRead pool.new recent.new }
 {
-    if let Some(id) = recent.find(text, place) {
+    let spot = spot_of(text);
+    if let Some(id) = recent.find(text, place, spot) {
         pool.holds_each_once();
         held_is_entered();
         return Ok(id);
     }
     let read = read_dep(pool, text, place);
     if let Ok(id) = read {
-        recent.keep(text, place, id);
+        recent.keep(text, place, spot, id);
     }
     read
 }

@@ -1,4 +1,4 @@
-use Rattle.std.proofs.Common.{◌≡◌, Some, slice_get, ap, ◌∙◌, sym, subst}
+use Rattle.std.proofs.Common.{◌≡◌, slice_get, ap, ◌∙◌, sym, subst}
 use Rattle.std.specs.Prelude.{replicate}
 use Rattle.solv_deps.specs.Inner.Recent.{IsRead}
 use Rattle.solv_deps.proofs.Recents.{all_equal}
