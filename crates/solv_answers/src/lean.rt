@@ -1,17 +1,17 @@
-//! The transaction of a task by the rules of what can be asked for.
-ghost use Rattle.std.specs.Prelude.{◌≡◌, ◌≤◌, [], None, true, length, IfOk, IfSome};
+//! The answer to a task by the rules of what can be asked for.
+ghost use Rattle.std.specs.Prelude.{◌≡◌, ◌≤◌, [], None, false, true, length, IfOk, IfSome};
 ghost use Rattle.std.specs.List.{list_all};
 ghost use Rattle.solv_pool.specs.Catalog.{catalog_of};
 ghost use Rattle.solv_pool.specs.HardRules.{hard_rules as all_rules};
 ghost use Rattle.solv_pool.specs.TaskBelonging.{IsClosed};
 ghost use Rattle.solv_prov.specs.Index.{IsIndexOf};
 ghost use Rattle.solv_jobs.specs.Marking.{HasMarks};
-ghost use Rattle.solv_rules.specs.Books.{first_fault};
+ghost use Rattle.solv_rules.specs.Books.{first_fault, read_rules};
 ghost use Rattle.solv_rules.specs.Making.{asks_in_form};
-ghost use Rattle.solv_answers.specs.Answers.{IsAnswered, is_transaction};
-ghost use Rattle.solv_answers.specs.Inner.Lean.{HasLeft, IsDecidedLean, IsLean};
+ghost use Rattle.solv_answers.specs.Answers.{IsAnswered, IsTransactionUnlessChoicesClash, is_spent, is_transaction, left_of, made_rules};
+ghost use Rattle.solv_answers.specs.Inner.Lean.{HasDecidedLean, HasLeft, IsLean};
 
-use crate::answering::solved;
+use crate::answering::{Refutation, problems_of, solved};
 use crate::answers::Answered;
 use crate::making::hard_rules;
 use crate::preparing::marks;
@@ -23,7 +23,7 @@ use solv_pool::laws::{clauses_name_packages, clauses_say_the_rule};
 use solv_pool::{Marks, Task};
 use solv_prov::Providers;
 use solv_questions::questions_keep_the_law;
-use solv_rules::{Book, BookFault};
+use solv_rules::{Book, BookFault, hard_rules_are_bookable};
 use std::alloc::{AllocError, Global};
 
 /// The marks of a task, and the book of its hard rules without the requirements of the packages that they leave out.
@@ -35,6 +35,16 @@ pub struct Lean {
 impl Drop for Lean {
     fn drop(self) {
         let Lean { marks: _, book: _ } = self;
+    }
+}
+
+impl Lean {
+    /// The book alone.
+    fn into_book(self) -> Book
+        ensures { result ≡ self.book }
+    {
+        let Lean { marks: _, book } = self;
+        book
     }
 }
 
@@ -66,6 +76,7 @@ fn lean_on(
     ensures { IfOk result (λ lean. IfSome lean (IsLean task.now)) }
 {
     all_rules_fit();
+    hard_rules_are_bookable();
     let rules = hard_rules(alloc, task, prov, &marks)?;
     let book = match Book::make(alloc, task, prov, rules) {
         Ok(book) => book,
@@ -78,53 +89,91 @@ fn lean_on(
     Ok(Some(Lean { marks, book }))
 }
 
-/// The transaction of a decision, where it found a set.
-fn taken(
+/// An answer, and the book of the rules that were made for it.
+pub struct LeanAnswer {
+    pub answered: Answered,
+    pub book: Book,
+}
+
+impl Drop for LeanAnswer {
+    fn drop(self) {
+        let LeanAnswer {
+            answered: _,
+            book: _,
+        } = self;
+    }
+}
+
+impl LeanAnswer {
+    /// Both, each by itself.
+    pub fn parts(self) -> (Answered, Book)
+        ensures answered { result.0 ≡ self.answered }
+        ensures book { result.1 ≡ self.book }
+    {
+        let LeanAnswer { answered, book } = self;
+        (answered, book)
+    }
+}
+
+/// The answer by a decision over the rules that are made, where the budget was not spent.
+fn answered_by(
     alloc: Global,
     task: &Task,
     prov: &Providers,
-    left: &[bool],
+    lean: &Lean,
     decided: Decided<'_>,
 ) -> Result<Option<Answered>, AllocError>
     requires closed { IsClosed task.now }
     requires formed { list_all (asks_in_form (catalog_of task.now)) task.now.universe.packages ≡ true }
     requires index { IsIndexOf prov.now (catalog_of task.now) }
-    requires decided { IsDecidedLean task.now left.now decided }
+    requires lean { IsLean task.now lean.now }
+    requires decided { HasDecidedLean task.now lean.now decided }
+    requires budget { decided.ledger.budget ≤ 1000000 }
     ensures good { IfOk result (λ o. IfSome o (λ a. IsAnswered task.now decided.entry.ledger.budget a.answer a.ledger)) }
-    ensures is { IfOk result (λ o. IfSome o (λ a. is_transaction a.answer ≡ true)) }
+    ensures unspent { IfOk result (λ o. IfSome o (λ a. is_spent a.answer ≡ false)) }
+    ensures told { IfOk result (λ o. IfSome o (λ a. is_transaction a.answer ≡ false → left_of a.answer ≡ lean.now.marks.left_out)) }
 {
+    let left = lean.marks.left_out.held();
     let Decided {
         verdict,
         ledger,
         phases,
-        core,
+        mut core,
     } = decided;
-    drop(core);
-    drop(phases);
     match verdict {
         Verdict::Sat(trail) => {
             let answered = solved(alloc, task, prov, left, trail, ledger)?;
             Ok(Some(answered))
         }
-        Verdict::Unsat(_) => Ok(None),
+        Verdict::Unsat(log) => {
+            let refutation = Refutation { log, ledger };
+            let (book, core) = (&lean.book, &mut core);
+            let answered = problems_of(alloc, task, left, book, &phases, core, refutation)?;
+            if answered.answer.is_spent() {
+                return Ok(None);
+            }
+            Ok(Some(answered))
+        }
         Verdict::Spent => Ok(None),
     }
 }
 
-/// The answer to a task whose clauses pass no limit, where it is a transaction that one run finds within the budget. No rules are made of what packages require
-/// that nothing can ask for, which most packages of a large repository are. Nothing where it is no transaction, or where a limit may be passed.
+/// The answer to a task whose clauses pass no limit, where the budget suffices, by the rules of what can be asked for. No rules are made of what packages require
+/// that nothing can ask for, which most packages of a large repository are. Nothing where the budget was spent, or where a limit may be passed.
 pub fn answer_lean(
     alloc: Global,
     task: &Task,
     prov: &Providers,
     budget: u32,
-) -> Result<Option<Answered>, AllocError>
+) -> Result<Option<LeanAnswer>, AllocError>
     requires closed { IsClosed task.now }
     requires formed { list_all (asks_in_form (catalog_of task.now)) task.now.universe.packages ≡ true }
     requires index { IsIndexOf prov.now (catalog_of task.now) }
     requires budget { budget ≤ 1000000 }
-    ensures good { IfOk result (λ o. IfSome o (λ a. IsAnswered task.now budget a.answer a.ledger)) }
-    ensures is { IfOk result (λ o. IfSome o (λ a. is_transaction a.answer ≡ true)) }
+    ensures good { IfOk result (λ o. IfSome o (λ a. IsAnswered task.now budget a.answered.answer a.answered.ledger)) }
+    ensures direct { IfOk result (λ o. IfSome o (λ a. IsTransactionUnlessChoicesClash task.now a.answered.answer)) }
+    ensures unspent { IfOk result (λ o. IfSome o (λ a. is_spent a.answered.answer ≡ false)) }
+    ensures rules { IfOk result (λ o. IfSome o (λ a. is_transaction a.answered.answer ≡ false → read_rules a.book.rules ≡ made_rules task.now (left_of a.answered.answer))) }
     ensures fits { IfOk result (λ o. IfSome o (λ a. first_fault (catalog_of task.now) 0 (all_rules task.now) ≡ None)) }
 {
     questions_keep_the_law();
@@ -136,5 +185,11 @@ pub fn answer_lean(
         None => return Ok(None),
     };
     let decided = decide(alloc, task, prov, &lean.marks, &lean.book, budget)?;
-    taken(alloc, task, prov, lean.marks.left_out.held(), decided)
+    match answered_by(alloc, task, prov, &lean, decided)? {
+        Some(answered) => {
+            let book = lean.into_book();
+            Ok(Some(LeanAnswer { answered, book }))
+        }
+        None => Ok(None),
+    }
 }

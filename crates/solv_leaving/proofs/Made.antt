@@ -257,3 +257,27 @@ module _ (catalog : Catalog) (flags : Flags) (jobs : List Job) (marks : Marks) (
       let counts : requirement_counts catalog whole p (m.0).dep ≡ true = (and_parts (not (marked left p)) _ f.1).1 in
       let R : HardRule → Type 0 = λ z. Has (requirement_rules catalog whole p a) z in
       subst R m.1.1 (has_mapped (λ need. req p need.dep) (counted_requirements catalog whole p a) m.0 (has_filtered (λ need. requirement_counts catalog whole p need.dep) a.requires_ m.0 f.0 counts))
+
+  -- what is in one list more than in another is so with the same behind both
+  widened : (xs ys zs : List HardRule) (x : HardRule) → (Has xs x → Has ys x) → Has (xs ++ zs) x → Has (ys ++ zs) x
+  widened xs ys zs x wide h = elim (has_split xs zs x h) [ inl k ↦ has_front ys zs x (wide k) | inr k ↦ has_back ys zs x k ]
+
+  asked_whole : (p : ℕ) (a : Package) (x : HardRule) → Has (rules_asked_by catalog some p a) x → Has (rules_asked_by catalog whole p a) x
+  asked_whole p a x =
+      let one : List HardRule = not_installable_rules catalog p in
+      let two : List HardRule = requirement_rules catalog whole p a in
+      let new : List HardRule = requirement_rules catalog some p a in
+      let begun : Has (one ++ new) x → Has (one ++ two) x = λ h. elim (has_split one new x h) [ inl k ↦ has_front one two x k | inr k ↦ has_back one two x (made_asked_whole p a x k) ] in
+      widened _ _ (same_name_rules catalog marks p) x (widened _ _ (obsoletion_rules catalog marks p a) x (widened _ _ (rich_conflict_rules catalog marks p a) x (widened _ _ (conflict_rules catalog marks p a) x begun)))
+
+  package_whole : (x : HardRule) → Has (package_rules catalog some) x → Has (package_rules catalog whole) x
+  package_whole x h =
+      let f = of_flat (rules_of_package catalog some) (packages catalog) x h in
+      let o = of_option (rules_asked_by catalog some f.0) (package_at catalog f.0) x f.1.1 in
+      has_flat (rules_of_package catalog whole) (packages catalog) f.0 x f.1.0 (has_option (rules_asked_by catalog whole f.0) (package_at catalog f.0) o.0 x o.1.0 (asked_whole f.0 o.0 x o.1.1))
+
+  -- each rule that is made is a hard rule
+  pub made_is_hard : (x : HardRule) → Has (hard_rules_by catalog flags jobs some) x → Has (hard_rules_by catalog flags jobs whole) x
+  made_is_hard x =
+      widened _ _ (best_update_rules catalog flags marks jobs) x (widened _ _ (best_job_rules catalog jobs) x (widened _ _ (job_rules catalog jobs) x
+      (widened _ _ (feature_rules catalog flags marks) x (widened _ _ (update_rules catalog flags marks jobs) x (widened _ _ (infarch_rules catalog flags) x (package_whole x))))))

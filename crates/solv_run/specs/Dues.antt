@@ -64,7 +64,7 @@ written_due script = record { status = status.Done; out = text_of_script (writte
 -- an answer in few words
 abbrev pub answer_words : Answer → List ℕ
 answer_words (Transaction trail set made ordered) = codes "transaction of " ++ (decimal (length made) ++ codes " changes")
-answer_words (Problems problems) = decimal (length problems) ++ codes " problems"
+answer_words (Problems left problems) = decimal (length problems) ++ codes " problems"
 answer_words Spent = codes "spent"
 
 -- the line on the task of a seed: its packages besides the system, its hard rules, and its answer

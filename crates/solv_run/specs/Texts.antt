@@ -4,13 +4,13 @@ use Rattle.std.specs.Fmt.{decimal}
 use Rattle.std.specs.List.{enumerate_from, list_all, zip}
 use Rattle.std.specs.Option.{option_map_or}
 use Rattle.solv_pool.specs.Catalog.{catalog_of}
-use Rattle.solv_pool.specs.HardRules.{hard_rules}
+use Rattle.solv_pool.specs.RuleMeaning.{HardRule}
 use Rattle.solv_pool.specs.Words.{when}
 use Rattle.solv_pool.specs.declared.tasks.Task.{Task}
 use Rattle.solv_script.specs.Rounds.{Turn, turns}
 use Rattle.solv_script.specs.declared.scripts.Kinds.{Kinds}
 use Rattle.solv_script.specs.declared.scripts.Script.{Script}
-use Rattle.solv_answers.specs.Answers.{is_spent}
+use Rattle.solv_answers.specs.Answers.{is_spent, made_rules}
 use Rattle.solv_answers.specs.declared.answers.Answer.{Answer}
 use Rattle.solv_answers.specs.declared.answers.Answer.TheVariants.{Transaction, Problems, Spent}
 use Rattle.solv_remedy.specs.declared.problems.Problem.{Problem}
@@ -23,18 +23,18 @@ use Rattle.solv_lines.specs.SolutionTexts.{solution_texts}
 use Rattle.solv_io.specs.Lines.{ended_lines}
 use Rattle.solv_run.specs.Checks.{false_lines}
 
-module _ (task : Task) where
-  -- the text of the hard rule that has this number
-  abbrev pub hard_rule_text : ℕ → List ℕ
-  hard_rule_text number = option_map_or (text_of_rule task) (slice_get (hard_rules task) number) []
+module _ (task : Task) (rules : List HardRule) where
+  -- the text of the rule that has this number
+  abbrev pub rule_text : ℕ → List ℕ
+  rule_text number = option_map_or (text_of_rule task) (slice_get rules number) []
 
   -- the line of a rule that the problem of a number lists
   abbrev pub info_line : ℕ → ℕ → List ℕ
-  info_line problem rule = codes "problem " ++ (decimal problem ++ (codes " info " ++ hard_rule_text rule))
+  info_line problem rule = codes "problem " ++ (decimal problem ++ (codes " info " ++ rule_text rule))
 
   -- the lines of the solution of a number, of the problem of a number: one for each thing that it does
   abbrev pub solution_lines : ℕ → ℕ → Solution → List (List ℕ)
-  solution_lines problem number solution = map (solution_line problem number) (solution_texts task (hard_rules task) solution.dropped solution.set)
+  solution_lines problem number solution = map (solution_line problem number) (solution_texts task rules solution.dropped solution.set)
 
   -- those of a problem: of the rules that it lists, and of its solutions, which are numbered from 1
   abbrev pub problem_lines : ℕ → Problem → List (List ℕ)
@@ -44,11 +44,12 @@ module _ (task : Task) where
   abbrev pub problems_lines : Kinds → List Problem → List (List ℕ)
   problems_lines kinds problems = when kinds.problems (flat_map (λ x. problem_lines x.0 x.1) (enumerate_from 1 problems))
 
-  -- the result lines of an answer, of the kinds that are asked for: those of its changes, their order, the reasons of what comes, and who needs its packages; or those of its problems
-  abbrev pub answer_lines : Kinds → Answer → List (List ℕ)
-  answer_lines kinds (Transaction trail set made ordered) = solved_lines (catalog_of task) task.jobs kinds made ordered trail.events set
-  answer_lines kinds (Problems problems) = problems_lines kinds problems
-  answer_lines kinds Spent = []
+-- the result lines of an answer, of the kinds that are asked for: those of its changes, their order, the reasons of what comes, and who needs its packages; or those of its problems,
+-- which name rules by their numbers among those that are made
+abbrev pub answer_lines : Task → Kinds → Answer → List (List ℕ)
+answer_lines task kinds (Transaction trail set made ordered) = solved_lines (catalog_of task) task.jobs kinds made ordered trail.events set
+answer_lines task kinds (Problems left problems) = problems_lines task (made_rules task left) kinds problems
+answer_lines task kinds Spent = []
 
 -- the result lines of an answer to a round, sorted by bytes, each once
 abbrev pub told_lines : Turn → Answer → List (List ℕ)

@@ -1,19 +1,17 @@
 //! What is printed for an answer.
 ghost use Rattle.std.specs.Prelude.{◌≡◌, ◌++◌, ◌∷◌, [], ◌||◌, map, true, false, length, is_none, IfOk, OnOk};
 ghost use Rattle.solv_io.specs.Lines.{ended_lines};
-ghost use Rattle.solv_pool.specs.HardRules.{hard_rules};
 ghost use Rattle.solv_pool.specs.Words.{when};
 ghost use Rattle.solv_pool.specs.TaskBelonging.{IsClosed};
 ghost use Rattle.solv_pool.specs.Catalog.{catalog_of};
 ghost use Rattle.solv_prov.specs.Index.{IsIndexOf};
 ghost use Rattle.solv_rules.specs.Books.{read_rules};
-ghost use Rattle.solv_answers.specs.Answers.{is_spent, is_transaction};
+ghost use Rattle.solv_answers.specs.Answers.{is_transaction, left_of, made_rules};
 ghost use Rattle.solv_script.specs.Inner.Turns.{first_turn};
 ghost use Rattle.solv_run.specs.Inner.Outcomes.{has_listed};
 ghost use Rattle.solv_run.specs.Texts.{problems_lines, answer_lines, told_lines, differing_lines, differences, is_as_wanted, round_lines};
 ghost use Rattle.solv_lines.specs.LineSets.{line_set};
 
-use crate::rounds::is_spent;
 use solv_answers::Answer;
 use solv_lines::{LineSet, Outcome, compare, line_set, result_lines};
 use solv_list::Bytes;
@@ -33,8 +31,7 @@ fn lines_of_problems(
 ) -> Result<LineSet, AllocError>
     requires closed { IsClosed script.now.task }
     requires index { IsIndexOf prov.now (catalog_of script.now.task) }
-    requires rules { read_rules rules.now ≡ hard_rules script.now.task }
-    ensures { IfOk result (λ lines. lines ≡ line_set (problems_lines script.now.task script.now.kinds problems.now)) }
+    ensures { IfOk result (λ lines. lines ≡ line_set (problems_lines script.now.task (read_rules rules.now) script.now.kinds problems.now)) }
 {
     let failed = Outcome::Failed(problems);
     result_lines(alloc, script.kinds, &script.task, prov, rules, &failed)
@@ -50,7 +47,7 @@ fn answer_lines(
 ) -> Result<LineSet, AllocError>
     requires closed { IsClosed script.now.task }
     requires index { IsIndexOf prov.now (catalog_of script.now.task) }
-    requires rules { is_transaction answer.now ≡ false → read_rules rules.now ≡ hard_rules script.now.task }
+    requires rules { is_transaction answer.now ≡ false → read_rules rules.now ≡ made_rules script.now.task (left_of answer.now) }
     requires listed { has_listed (length script.now.task.universe.packages) answer.now ≡ true }
     ensures { IfOk result (λ lines. lines ≡ line_set (answer_lines script.now.task script.now.kinds answer.now)) }
 {
@@ -70,7 +67,7 @@ fn answer_lines(
             };
             result_lines(alloc, script.kinds, task, prov, rules, &solved)
         }
-        Answer::Problems(problems) => {
+        Answer::Problems { problems, .. } => {
             lines_of_problems(alloc, script, prov, rules, problems.held())
         }
         Answer::Spent => {
@@ -130,7 +127,7 @@ fn differences(
     requires { given.now ≡ told_lines (first_turn script.now) answer.now }
     ensures { IfOk result (λ lines. lines.items ≡ differences (first_turn script.now) answer.now) }
 {
-    if is_spent(answer) {
+    if answer.is_spent() {
         return Ok(Vec::new(alloc));
     }
     match &script.wanted {
@@ -169,7 +166,7 @@ fn append_told(
     }
 }
 
-/// What is printed for the answer to the first round of a script. The hard rules are those of problems; a transaction has none.
+/// What is printed for the answer to the first round of a script. The rules are those that problems name; a transaction names none.
 pub(crate) fn round_said(
     alloc: Global,
     shows: bool,
@@ -180,7 +177,7 @@ pub(crate) fn round_said(
 ) -> Result<Said, AllocError>
     requires closed { IsClosed script.now.task }
     requires index { IsIndexOf prov.now (catalog_of script.now.task) }
-    requires rules { is_transaction answer.now ≡ false → read_rules rules.now ≡ hard_rules script.now.task }
+    requires rules { is_transaction answer.now ≡ false → read_rules rules.now ≡ made_rules script.now.task (left_of answer.now) }
     requires listed { has_listed (length script.now.task.universe.packages) answer.now ≡ true }
     ensures text { IfOk result (λ made. made.text.items ≡ ended_lines (round_lines shows (first_turn script.now) answer.now)) }
     ensures as_wanted { IfOk result (λ made. made.as_wanted ≡ is_as_wanted (first_turn script.now) answer.now) }

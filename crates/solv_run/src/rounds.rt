@@ -9,7 +9,7 @@ ghost use Rattle.solv_pool.specs.TaskForms.{HasForms};
 ghost use Rattle.solv_prov.specs.Index.{IsIndexOf};
 ghost use Rattle.solv_rules.specs.Books.{IsDue, first_fault, read_rules};
 ghost use Rattle.solv_rounds.specs.Inner.Fronts.{IsDueAt, IsLimitAt};
-ghost use Rattle.solv_answers.specs.Answers.{IsPrepared, first_limit, is_spent, is_transaction};
+ghost use Rattle.solv_answers.specs.Answers.{IsPrepared, first_limit, is_transaction, left_of, made_rules};
 ghost use Rattle.solv_answers.specs.Inner.Fronts.{MayGoOn};
 ghost use Rattle.solv_script.specs.Rounds.{tasks, turn_of, turns, with_jobs_of};
 ghost use Rattle.solv_script.specs.Inner.Turns.{first_turn};
@@ -42,13 +42,6 @@ pub(crate) struct Begun {
     pub(crate) left: u32,
 }
 
-/// Whether an answer is that the budget is spent.
-pub(crate) fn is_spent(answer: &Answer) -> bool
-    ensures { result ≡ is_spent answer.now }
-{
-    matches!(answer, Answer::Spent)
-}
-
 /// What an answer leaves of a budget.
 fn left_by(left: u32, answered: &Answered) -> u32
     ensures left { length answered.now.ledger.entries ≤ left → result ≡ left - length answered.now.ledger.entries }
@@ -70,7 +63,7 @@ impl Begun {
     ) -> Result<(), AllocError>
         requires closed { IsClosed script.now.task }
         requires index { IsIndexOf prov.now (catalog_of script.now.task) }
-        requires rules { is_transaction answer.now ≡ false → read_rules rules.now ≡ hard_rules script.now.task }
+        requires rules { is_transaction answer.now ≡ false → read_rules rules.now ≡ made_rules script.now.task (left_of answer.now) }
         requires listed { has_listed (length script.now.task.universe.packages) answer.now ≡ true }
         ensures { OnOk result (HasPrinted shows (first_turn script.now) answer.now self.old self.new) }
     {
@@ -85,7 +78,7 @@ impl Begun {
         ensures taken { OnOk result (HasTaken answered self.old self.new) }
         ensures left { self.new.left ≤ self.old.left }
     {
-        self.spent = is_spent(&answered.answer);
+        self.spent = answered.answer.is_spent();
         self.left = left_by(self.left, &answered);
         self.reached.push(answered)
     }

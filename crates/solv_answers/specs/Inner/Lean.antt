@@ -1,5 +1,5 @@
 -- A task with packages that are left out. Inner contracts alone speak of it.
-use Rattle.std.specs.Prelude.{◌≡◌, ◌+◌, ◌==◌, Bool, true, List, None, length}
+use Rattle.std.specs.Prelude.{◌≡◌, ◌+◌, ◌==◌, true, None, length}
 use Rattle.std.specs.List.{list_all}
 use Rattle.solv_pool.specs.Catalog.{catalog_of}
 use Rattle.solv_pool.specs.HardRules.{hard_rules}
@@ -9,11 +9,11 @@ use Rattle.solv_pool.specs.declared.tasks.Task.{Task}
 use Rattle.solv_jobs.specs.Marking.{HasMarks}
 use Rattle.solv_rules.specs.Books.{IsBook, first_fault, is_bookable, read_rules}
 use Rattle.solv_leaving.specs.Leaving.{LeavesOut, leaving}
+use Rattle.solv_core.specs.Inner.Holding.{IsHeldBy}
 use Rattle.solv_core.specs.Inner.Running.{is_spent_verdict}
-use Rattle.solv_core.specs.Cores.{CoreOf}
-use Rattle.solv_decide.specs.Inner.Deciding.{IsDecided}
+use Rattle.solv_decide.specs.Inner.Deciding.{IsAskedFor, IsDecided}
 use Rattle.solv_decide.specs.declared.deciding.Decided.{Decided}
-use Rattle.solv_answers.specs.Answers.{all_made, made_request, made_rules}
+use Rattle.solv_answers.specs.Answers.{all_made, made_core, made_request, made_rules}
 use Rattle.solv_answers.specs.Inner.Beginnings.{HasBegun}
 use Rattle.solv_answers.specs.declared.lean.Lean.{Lean}
 
@@ -22,7 +22,7 @@ pub record HasLeft (task : Task) (marks : Marks) : Type 0 where
   pub marks_are : marks ≡ leaving (marks_of task) marks.left_out
   pub out : LeavesOut (catalog_of task) task.flags task.jobs (marks_of task) marks.left_out
 
--- with the book of the rules that are made; neither they nor all hard rules pass a limit
+-- with the book of the rules that are made; of all hard rules a book can be made, and neither they nor those that are made pass a limit
 pub record IsLean (task : Task) (lean : Lean) : Type 0 where
   pub left : HasLeft task lean.marks
   pub each : HasMarks (length task.universe.packages) lean.marks
@@ -30,13 +30,14 @@ pub record IsLean (task : Task) (lean : Lean) : Type 0 where
   pub rules : read_rules lean.book.rules ≡ made_rules task lean.marks.left_out
   pub bookable : list_all (is_bookable (catalog_of task)) (made_rules task lean.marks.left_out) ≡ true
   pub fits : first_fault (catalog_of task) 0 (made_rules task lean.marks.left_out) ≡ None
+  pub all_bookable : list_all (is_bookable (catalog_of task)) (hard_rules task) ≡ true
   pub all_fit : first_fault (catalog_of task) 0 (hard_rules task) ≡ None
 
--- what one run with every rule enabled decided, where these packages are left out
-pub record IsDecidedLean (task : Task) (left : List Bool) (decided : Decided) : Type 0 where
-  pub out : LeavesOut (catalog_of task) task.flags task.jobs (marks_of task) left
-  pub bookable : list_all (is_bookable (catalog_of task)) (made_rules task left) ≡ true
-  pub begun : HasBegun task left decided.ledger
+-- what one run over them with every rule enabled decided
+pub record HasDecidedLean (task : Task) (lean : Lean) (decided : Decided) : Type 0 where
+  pub begun : HasBegun task lean.marks.left_out decided.ledger
+  pub asked : IsAskedFor (made_request task lean.marks.left_out) decided.phases decided.core.made
+  pub held : IsHeldBy decided.core decided.ledger
+  pub core : decided.core.made ≡ made_core task lean.marks.left_out
   pub spent : is_spent_verdict decided.verdict ≡ (length decided.ledger.entries == decided.ledger.budget + 1)
-  pub core : CoreOf
-  pub decided_so : IsDecided (made_request task left) (all_made task left) core decided.verdict
+  pub decided_so : IsDecided (made_request task lean.marks.left_out) (all_made task lean.marks.left_out) (made_core task lean.marks.left_out) decided.verdict

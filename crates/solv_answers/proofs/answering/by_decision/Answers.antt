@@ -24,7 +24,7 @@ solved-requires-clause-unspent c =
 
 pub returns-in_ok-answered-in-Sat-clause-left : goal.returns-in_ok-answered-in-Sat-clause-left
 returns-in_ok-answered-in-Sat-clause-left c =
-    c.left_of-left.ensures c.args.task.now c.args.decided.core.made
+    c.left_for_next-left.ensures c.args.task.now c.args.decided.core.made
     (subst (λ (m : Marks). IsAskedFor (request_of c.args.task.now m) c.args.decided.phases c.args.decided.core.made) c.requires.prepared.marks c.requires.decided.asked)
 
 pub refuted-requires-clause-begun : goal.refuted-requires-clause-begun

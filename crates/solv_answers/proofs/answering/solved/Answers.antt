@@ -7,7 +7,7 @@ pub returns-clause-good : goal.returns-clause-good
 returns-clause-good c = record {
   left = c.args.left.now;
   out = c.requires.out;
-  whole = λ e. absurd (false≢true (sym e ∙ c.in_ok-answer.ensures.is));
+  told = λ e. absurd (false≢true (sym e ∙ c.in_ok-answer.ensures.is));
   is = c.in_ok-answer.ensures.good;
   learnt = learnt_solved c.args.task.now c.args.left.now c.in_ok-answer.answer c.args.ledger c.requires.begun c.in_ok-answer.ensures.is c.requires.unspent;
 }

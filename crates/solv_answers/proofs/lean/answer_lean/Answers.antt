@@ -1,15 +1,27 @@
-use Rattle.std.proofs.Common.{Bool, List, Option, subst, sym}
+use Rattle.std.proofs.Common.{Option, subst}
 use Rattle.std.specs.Prelude.{IfSome}
-use Rattle.solv_answers.specs.Inner.Lean.{IsDecidedLean, IsLean}
+use Rattle.solv_answers.specs.Inner.Lean.{IsLean}
+use Rattle.solv_answers.specs.Answers.{IsAnswered}
+use Rattle.solv_answers.specs.declared.answers.Answered.{Answered}
 use Rattle.solv_answers.specs.declared.lean.Lean.{Lean}
 use Rattle.solv_answers.proofs.LeanDecided.{decided_lean}
+use Rattle.solv_answers.proofs.Solved.{solved}
 use Rattle.solv_answers.proofs.lean.answer_lean.Goals as goal
 
-pub taken-requires-clause-decided : goal.taken-requires-clause-decided
-taken-requires-clause-decided c =
+pub answered_by-requires-clause-decided : goal.answered_by-requires-clause-decided
+answered_by-requires-clause-decided c =
     let task = c.args.task.now in
     let lean = c.in-Some.lean in
     let I : Option Lean → Type 0 = λ o. IfSome o (IsLean task) in
-    let D : List Bool → Type 0 = λ l. IsDecidedLean task l c.in_ok-decided.decided in
     let e = c.in_ok-decided.ensures in
-    subst D (sym c.held.ensures) (decided_lean task lean (subst I c.in-Some.is c.in_ok-lean.ensures) c.args.budget c.in_ok-decided.decided e.budget e.few e.run e.good e.spent e.decided)
+    decided_lean task lean (subst I c.in-Some.is c.in_ok-lean.ensures) c.args.budget c.in_ok-decided.decided e.budget e.few e.asked e.held e.core e.run e.good e.spent e.decided
+
+pub returns-in-Some-2-clause-direct : goal.returns-in-Some-2-clause-direct
+returns-in-Some-2-clause-direct c =
+    let task = c.args.task.now in
+    let I : Option Lean → Type 0 = λ o. IfSome o (IsLean task) in
+    let is : IsLean task c.in-Some.lean = subst I c.in-Some.is c.in_ok-lean.ensures in
+    let answered = c.in-Some-2.answered in
+    let A : Option Answered → Type 0 = λ o. IfSome o (λ a. IsAnswered task c.in_ok-decided.decided.ledger.budget a.answer a.ledger) in
+    solved task c.questions_keep_the_law.ensures c.clauses_name_packages.ensures c.clauses_say_the_rule.ensures c.requires.formed is.all_bookable
+    c.in_ok-decided.decided.ledger.budget answered.answer answered.ledger (subst A c.in-Some-2.is c.in_ok-answered.ensures.good)

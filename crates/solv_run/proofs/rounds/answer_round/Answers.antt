@@ -16,10 +16,10 @@ pub returns-then-not-prints_lines-clause-one_more : goal.returns-then-not-prints
 returns-then-not-prints_lines-clause-one_more c =
     let answered = c.in_ok-answered.answered in
     let good : IsGoodAnswer c.args.script.now.task c.args.begun.now.left answered.answer answered.ledger = record { is = c.in_ok-answered.ensures.good; direct = c.in_ok-answered.ensures.direct } in
-    taken_alone c.args.command.now (first_turn c.args.script.now) answered c.take.result c.args.begun.now c.take.new.self (sym c.prints_lines.ensures ∙ c.if-not-prints_lines.true) good c.take.ensures.taken
+    taken_alone c.args.command.now (first_turn c.args.script.now) answered c.take.result c.args.begun.now c.take.new.self (sym c.prints_lines.ensures ∙ c.if-not-prints_lines.true) good c.in_ok-answered.ensures.whole c.take.ensures.taken
 
 pub returns-clause-one_more : goal.returns-clause-one_more
 returns-clause-one_more c =
     let answered = c.in_ok-answered.answered in
     let good : IsGoodAnswer c.args.script.now.task c.args.begun.now.left answered.answer answered.ledger = record { is = c.in_ok-answered.ensures.good; direct = c.in_ok-answered.ensures.direct } in
-    taken_behind c.args.command.now (first_turn c.args.script.now) answered c.take-2.result c.args.begun.now c.print.new.self c.take-2.new.self good c.in_ok-print.ensures c.take-2.ensures.taken
+    taken_behind c.args.command.now (first_turn c.args.script.now) answered c.take-2.result c.args.begun.now c.print.new.self c.take-2.new.self (sym c.prints_lines.ensures ∙ c.if-not-prints_lines.false) good c.in_ok-print.ensures c.take-2.ensures.taken

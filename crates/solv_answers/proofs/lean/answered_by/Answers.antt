@@ -1,0 +1,39 @@
+use Rattle.std.proofs.Common.{Bool, List, subst, sym}
+use Rattle.solv_pool.specs.Catalog.{catalog_of}
+use Rattle.solv_pool.specs.JobMarks.{marks_of}
+use Rattle.solv_decide.specs.Deciding.{IsRefuted, IsSolution}
+use Rattle.solv_leaving.specs.Leaving.{LeavesOut}
+use Rattle.solv_remedy.specs.Inner.Remedies.{IsMadeFor}
+use Rattle.solv_answers.specs.Answers.{all_made, made_core, made_request}
+use Rattle.solv_answers.proofs.LeanDecided.{found, made_for, refuted}
+use Rattle.solv_answers.proofs.lean.answered_by.Goals as goal
+
+pub solved-requires-clause-out : goal.solved-requires-clause-out
+solved-requires-clause-out c =
+    let task = c.args.task.now in
+    let L : List Bool → Type 0 = λ l. LeavesOut (catalog_of task) task.flags task.jobs (marks_of task) l in
+    subst L (sym c.held-left.ensures) c.requires.lean.left.out
+
+pub solved-requires-clause-found : goal.solved-requires-clause-found
+solved-requires-clause-found c =
+    let task = c.args.task.now in
+    let S : List Bool → Type 0 = λ l. IsSolution (made_request task l) (all_made task l) c.in-Sat.trail in
+    subst S (sym c.held-left.ensures) (found task c.args.lean.now c.requires.lean c.args.decided c.in-Sat.trail c.requires.decided c.in-Sat.is)
+
+pub problems_of-requires-clause-out : goal.problems_of-requires-clause-out
+problems_of-requires-clause-out c =
+    let task = c.args.task.now in
+    let L : List Bool → Type 0 = λ l. LeavesOut (catalog_of task) task.flags task.jobs (marks_of task) l in
+    subst L (sym c.held-left.ensures) c.requires.lean.left.out
+
+pub problems_of-requires-clause-made : goal.problems_of-requires-clause-made
+problems_of-requires-clause-made c =
+    let task = c.args.task.now in
+    let M : List Bool → Type 0 = λ l. IsMadeFor (made_request task l) c.args.decided.phases c.args.decided.core.made c.args.lean.now.book in
+    subst M (sym c.held-left.ensures) (made_for task c.args.lean.now c.requires.lean c.args.decided c.requires.decided)
+
+pub problems_of-requires-clause-refuted : goal.problems_of-requires-clause-refuted
+problems_of-requires-clause-refuted c =
+    let task = c.args.task.now in
+    let R : List Bool → Type 0 = λ l. IsRefuted (made_request task l) (all_made task l) (made_core task l) c.in-Unsat.log in
+    subst R (sym c.held-left.ensures) (refuted task c.args.lean.now c.requires.lean c.args.decided c.in-Unsat.log c.requires.decided c.in-Unsat.is)
