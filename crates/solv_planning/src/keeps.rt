@@ -15,7 +15,7 @@ ghost use Rattle.solv_plan.specs.Inner.PlanOf.{numbered, keeps_of};
 ghost use Rattle.solv_jobs.specs.Marking.{HasMarks};
 ghost use Rattle.solv_policy.specs.Inner.Candidates.{IsPlace};
 ghost use Rattle.solv_planning.specs.Inner.Filling.{filled, entered};
-ghost use Rattle.solv_planning.specs.Inner.Readiness.{IsReady, asks_for_packages};
+ghost use Rattle.solv_planning.specs.Inner.Readiness.{asks_for_packages};
 ghost use Rattle.solv_planning.specs.Inner.Rows.{no_rules, add_to_pack, keep_with, is_marked, is_other};
 
 use crate::appending::append;
@@ -25,10 +25,9 @@ use solv_jobs::is_to_move;
 use solv_list::Items;
 use solv_plan::{Demand, Keep};
 use solv_policy::Asked;
-use solv_pool::{JobNo, Marks, PackNo, Rule, Rules, Task};
-use solv_prov::Providers;
+use solv_pool::{JobNo, PackNo, Rule, Rules, Task};
 use solv_trail::Question;
-use solv_updates::{feature_candidates, successors};
+use solv_updates::{Ready, feature_candidates, successors};
 use std::alloc::{AllocError, Global};
 use std::collections::BTreeSet;
 
@@ -66,24 +65,21 @@ fn push_feature(row: &mut PackRules, rule: usize) -> Result<(), AllocError>
 /// Enters a rule that a job is to have the best update of a package into the table of packages.
 fn enter_best(
     alloc: Global,
-    task: &Task,
-    prov: &Providers,
-    marks: &Marks,
+    ready: &Ready<'_>,
     number: usize,
     job: JobNo,
     pack: PackNo,
     packs: &[PackNo],
     table: &mut [PackRules],
 ) -> Result<(), AllocError>
-    requires ready { IsReady task.now prov.now marks.now }
-    requires within { list_all (is_pack (length task.now.universe.packages)) packs.now ≡ true }
-    ensures { OnOk result (table.new ≡ entered (add_to_pack (request_of task.now marks.now)) 0 (number, best_update job pack packs.now) table.old) }
+    requires within { list_all (is_pack (length ready.now.task.now.universe.packages)) packs.now ≡ true }
+    ensures { OnOk result (table.new ≡ entered (add_to_pack (request_of ready.now.task.now ready.now.marks.now)) 0 (number, best_update job pack packs.now) table.old) }
 {
     if pack.0 as usize >= table.len() {
         return Ok(());
     }
     let question = Question::BestUpdate(job, pack);
-    let asked = demand(alloc, task, prov, marks, number, question, packs)?;
+    let asked = demand(alloc, ready, number, question, packs)?;
     push_best(&mut table[pack.0 as usize], asked)
 }
 
@@ -111,24 +107,21 @@ fn enter_feature(number: usize, pack: PackNo, table: &mut [PackRules]) -> Result
 /// Enters a rule into the table of packages.
 fn enter(
     alloc: Global,
-    task: &Task,
-    prov: &Providers,
-    marks: &Marks,
+    ready: &Ready<'_>,
     sets: &[Items<PackNo>],
     number: usize,
     rule: &Rule,
     table: &mut [PackRules],
 ) -> Result<(), AllocError>
-    requires ready { IsReady task.now prov.now marks.now }
-    requires packages { asks_for_packages (length task.now.universe.packages) (rule_with sets.now rule.now) ≡ true }
-    ensures { OnOk result (table.new ≡ entered (add_to_pack (request_of task.now marks.now)) 0 (number, rule_with sets.now rule.now) table.old) }
+    requires packages { asks_for_packages (length ready.now.task.now.universe.packages) (rule_with sets.now rule.now) ≡ true }
+    ensures { OnOk result (table.new ≡ entered (add_to_pack (request_of ready.now.task.now ready.now.marks.now)) 0 (number, rule_with sets.now rule.now) table.old) }
 {
     match *rule {
         Rule::Update(pack, _) | Rule::Dup(pack, _) => enter_update(number, pack, table),
         Rule::Feature(pack, _) => enter_feature(number, pack, table),
         Rule::BestUpdate(job, pack, set) => {
             let packs = set_at(sets, set);
-            enter_best(alloc, task, prov, marks, number, job, pack, packs, table)
+            enter_best(alloc, ready, number, job, pack, packs, table)
         }
         _ => Ok(()),
     }
@@ -173,19 +166,16 @@ fn pack_table(alloc: Global, last: u32) -> Result<Vec<PackRules>, AllocError>
 /// Enters all rules into the table of packages.
 fn enter_all(
     alloc: Global,
-    task: &Task,
-    prov: &Providers,
-    marks: &Marks,
+    ready: &Ready<'_>,
     rules: &Rules,
     table: &mut [PackRules],
 ) -> Result<(), AllocError>
-    requires ready { IsReady task.now prov.now marks.now }
-    requires packages { list_all (asks_for_packages (length task.now.universe.packages)) (read_rules rules.now) ≡ true }
-    ensures { OnOk result (table.new ≡ filled (add_to_pack (request_of task.now marks.now)) 0 (numbered (read_rules rules.now)) table.old) }
+    requires packages { list_all (asks_for_packages (length ready.now.task.now.universe.packages)) (read_rules rules.now) ≡ true }
+    ensures { OnOk result (table.new ≡ filled (add_to_pack (request_of ready.now.task.now ready.now.marks.now)) 0 (numbered (read_rules rules.now)) table.old) }
 {
     let sets = rules.sets.held();
     for (number, rule) in rules.list.held().iter().enumerate() {
-        enter(alloc, task, prov, marks, sets, number, rule, table)?;
+        enter(alloc, ready, sets, number, rule, table)?;
     }
     Ok(())
 }
@@ -193,18 +183,15 @@ fn enter_all(
 /// The table of packages up to one with all rules.
 fn filled_table(
     alloc: Global,
-    task: &Task,
-    prov: &Providers,
-    marks: &Marks,
+    ready: &Ready<'_>,
     rules: &Rules,
     last: u32,
 ) -> Result<Vec<PackRules>, AllocError>
-    requires ready { IsReady task.now prov.now marks.now }
-    requires packages { list_all (asks_for_packages (length task.now.universe.packages)) (read_rules rules.now) ≡ true }
-    ensures { IfOk result (λ table. table.items ≡ filled (add_to_pack (request_of task.now marks.now)) 0 (numbered (read_rules rules.now)) (map no_rules (range_with_len 0 (last + 1)))) }
+    requires packages { list_all (asks_for_packages (length ready.now.task.now.universe.packages)) (read_rules rules.now) ≡ true }
+    ensures { IfOk result (λ table. table.items ≡ filled (add_to_pack (request_of ready.now.task.now ready.now.marks.now)) 0 (numbered (read_rules rules.now)) (map no_rules (range_with_len 0 (last + 1)))) }
 {
     let mut table = pack_table(alloc, last)?;
-    enter_all(alloc, task, prov, marks, rules, &mut table)?;
+    enter_all(alloc, ready, rules, &mut table)?;
     Ok(table)
 }
 
@@ -282,20 +269,17 @@ fn without_those(
 /// The rest of a package and what may take its place were every change allowed, in the order in which they are tried.
 fn far_candidates(
     alloc: Global,
-    task: &Task,
-    prov: &Providers,
-    marks: &Marks,
+    ready: &Ready<'_>,
     pack: PackNo,
     close: &[PackNo],
 ) -> Result<Items<PackNo>, AllocError>
-    requires ready { IsReady task.now prov.now marks.now }
-    requires pack { IsPlace task.now pack }
-    requires exact { close.now ≡ successors (catalog_of task.now) task.now.flags marks.now pack }
-    ensures { IfOk result (λ made. made ≡ far_candidates (catalog_of task.now) task.now.flags marks.now pack) }
+    requires pack { IsPlace ready.now.task.now pack }
+    requires exact { close.now ≡ successors (catalog_of ready.now.task.now) ready.now.task.now.flags ready.now.marks.now pack }
+    ensures { IfOk result (λ made. made ≡ far_candidates (catalog_of ready.now.task.now) ready.now.task.now.flags ready.now.marks.now pack) }
 {
-    let features = feature_candidates(alloc, task, prov, marks, pack)?;
+    let features = feature_candidates(alloc, ready.task, ready.prov, ready.marks, pack)?;
     let rest = without_those(alloc, close, &features)?;
-    in_order(alloc, task, prov, marks, Asked::Kept(pack), &rest)
+    in_order(alloc, ready, Asked::Kept(pack), &rest)
 }
 
 /// What may stand in a package's place, in the order in which they are tried: its successors, and the rest of itself and what
@@ -307,42 +291,28 @@ struct Successors {
 }
 
 /// Those of a package.
-fn find_successors(
-    alloc: Global,
-    task: &Task,
-    prov: &Providers,
-    marks: &Marks,
-    pack: PackNo,
-) -> Result<Successors, AllocError>
-    requires ready { IsReady task.now prov.now marks.now }
-    requires pack { IsPlace task.now pack }
-    ensures { IfOk result (λ made. made ≡ record { close = close_candidates (catalog_of task.now) task.now.flags marks.now pack; far = far_candidates (catalog_of task.now) task.now.flags marks.now pack }) }
+fn find_successors(alloc: Global, ready: &Ready<'_>, pack: PackNo) -> Result<Successors, AllocError>
+    requires pack { IsPlace ready.now.task.now pack }
+    ensures { IfOk result (λ made. made ≡ record { close = close_candidates (catalog_of ready.now.task.now) ready.now.task.now.flags ready.now.marks.now pack; far = far_candidates (catalog_of ready.now.task.now) ready.now.task.now.flags ready.now.marks.now pack }) }
 {
-    let held = successors(alloc, task, prov, marks, pack)?;
-    let close = in_order(alloc, task, prov, marks, Asked::Kept(pack), &held)?;
-    let far = far_candidates(alloc, task, prov, marks, pack, &held)?;
+    let held = successors(alloc, ready.task, ready.prov, ready.marks, pack)?;
+    let close = in_order(alloc, ready, Asked::Kept(pack), &held)?;
+    let far = far_candidates(alloc, ready, pack, &held)?;
     Ok(Successors { close, far })
 }
 
 /// What is asked of a package with these rules on it.
-fn keep(
-    alloc: Global,
-    task: &Task,
-    prov: &Providers,
-    marks: &Marks,
-    row: PackRules,
-) -> Result<Keep, AllocError>
-    requires ready { IsReady task.now prov.now marks.now }
-    requires pack { IsPlace task.now row.pack }
-    ensures { IfOk result (λ made. made ≡ keep_with (request_of task.now marks.now) row) }
+fn keep(alloc: Global, ready: &Ready<'_>, row: PackRules) -> Result<Keep, AllocError>
+    requires pack { IsPlace ready.now.task.now row.pack }
+    ensures { IfOk result (λ made. made ≡ keep_with (request_of ready.now.task.now ready.now.marks.now) row) }
 {
     let pack = row.pack;
-    let found = find_successors(alloc, task, prov, marks, pack)?;
+    let found = find_successors(alloc, ready, pack)?;
     Ok(Keep {
         pack,
         best: row.best,
-        is_asked: !marks.erased.held()[pack.0 as usize],
-        dup: marks.dup.held()[pack.0 as usize],
+        is_asked: !ready.marks.erased.held()[pack.0 as usize],
+        dup: ready.marks.dup.held()[pack.0 as usize],
         updates: row.updates,
         features: row.features,
         close: found.close,
@@ -360,22 +330,19 @@ struct Installed {
 /// Appends what is asked of a package of its kind, where it is installed.
 fn put_keep(
     alloc: Global,
-    task: &Task,
-    prov: &Providers,
-    marks: &Marks,
+    ready: &Ready<'_>,
     row: PackRules,
     made: &mut Installed,
 ) -> Result<(), AllocError>
-    requires ready { IsReady task.now prov.now marks.now }
-    requires within { row.pack ≤ length task.now.universe.packages }
-    ensures marked { OnOk result (made.new.marked ≡ made.old.marked ++ when (is_marked (request_of task.now marks.now) row.pack) (keep_with (request_of task.now marks.now) row ∷ [])) }
-    ensures others { OnOk result (made.new.others ≡ made.old.others ++ when (is_other (request_of task.now marks.now) row.pack) (keep_with (request_of task.now marks.now) row ∷ [])) }
+    requires within { row.pack ≤ length ready.now.task.now.universe.packages }
+    ensures marked { OnOk result (made.new.marked ≡ made.old.marked ++ when (is_marked (request_of ready.now.task.now ready.now.marks.now) row.pack) (keep_with (request_of ready.now.task.now ready.now.marks.now) row ∷ [])) }
+    ensures others { OnOk result (made.new.others ≡ made.old.others ++ when (is_other (request_of ready.now.task.now ready.now.marks.now) row.pack) (keep_with (request_of ready.now.task.now ready.now.marks.now) row ∷ [])) }
 {
-    if !task.universe.installed(row.pack) {
+    if !ready.task.universe.installed(row.pack) {
         return Ok(());
     }
-    let moves = is_to_move(task, marks, row.pack);
-    let asked = keep(alloc, task, prov, marks, row)?;
+    let moves = is_to_move(ready.task, ready.marks, row.pack);
+    let asked = keep(alloc, ready, row)?;
     if moves {
         made.marked.push(asked)
     } else {
@@ -386,22 +353,19 @@ fn put_keep(
 /// What is asked of the installed packages among these, of each kind.
 fn installed_of(
     alloc: Global,
-    task: &Task,
-    prov: &Providers,
-    marks: &Marks,
+    ready: &Ready<'_>,
     table: Vec<PackRules>,
 ) -> Result<Installed, AllocError>
-    requires ready { IsReady task.now prov.now marks.now }
-    requires within { list_all (λ row. nat_le row.pack (length task.now.universe.packages)) table.items ≡ true }
-    ensures marked { IfOk result (λ made. made.marked ≡ map (keep_with (request_of task.now marks.now)) (filter (λ row. is_marked (request_of task.now marks.now) row.pack) table.items)) }
-    ensures others { IfOk result (λ made. made.others ≡ map (keep_with (request_of task.now marks.now)) (filter (λ row. is_other (request_of task.now marks.now) row.pack) table.items)) }
+    requires within { list_all (λ row. nat_le row.pack (length ready.now.task.now.universe.packages)) table.items ≡ true }
+    ensures marked { IfOk result (λ made. made.marked ≡ map (keep_with (request_of ready.now.task.now ready.now.marks.now)) (filter (λ row. is_marked (request_of ready.now.task.now ready.now.marks.now) row.pack) table.items)) }
+    ensures others { IfOk result (λ made. made.others ≡ map (keep_with (request_of ready.now.task.now ready.now.marks.now)) (filter (λ row. is_other (request_of ready.now.task.now ready.now.marks.now) row.pack) table.items)) }
 {
     let mut made = Installed {
         marked: Items::wrap(Vec::new(alloc)),
         others: Items::wrap(Vec::new(alloc)),
     };
     for row in table {
-        put_keep(alloc, task, prov, marks, row, &mut made)?;
+        put_keep(alloc, ready, row, &mut made)?;
     }
     Ok(made)
 }
@@ -409,16 +373,13 @@ fn installed_of(
 /// What is asked of the installed packages among these.
 fn keeps_of(
     alloc: Global,
-    task: &Task,
-    prov: &Providers,
-    marks: &Marks,
+    ready: &Ready<'_>,
     table: Vec<PackRules>,
 ) -> Result<Items<Keep>, AllocError>
-    requires ready { IsReady task.now prov.now marks.now }
-    requires within { list_all (λ row. nat_le row.pack (length task.now.universe.packages)) table.items ≡ true }
-    ensures { IfOk result (λ made. made ≡ map (keep_with (request_of task.now marks.now)) (filter (λ row. is_marked (request_of task.now marks.now) row.pack) table.items) ++ map (keep_with (request_of task.now marks.now)) (filter (λ row. is_other (request_of task.now marks.now) row.pack) table.items)) }
+    requires within { list_all (λ row. nat_le row.pack (length ready.now.task.now.universe.packages)) table.items ≡ true }
+    ensures { IfOk result (λ made. made ≡ map (keep_with (request_of ready.now.task.now ready.now.marks.now)) (filter (λ row. is_marked (request_of ready.now.task.now ready.now.marks.now) row.pack) table.items) ++ map (keep_with (request_of ready.now.task.now ready.now.marks.now)) (filter (λ row. is_other (request_of ready.now.task.now ready.now.marks.now) row.pack) table.items)) }
 {
-    let made = installed_of(alloc, task, prov, marks, table)?;
+    let made = installed_of(alloc, ready, table)?;
     let Installed { mut marked, others } = made;
     append(others, &mut marked)?;
     Ok(marked)
@@ -427,15 +388,12 @@ fn keeps_of(
 /// What is asked of the installed packages that are marked to move, and then of the other installed ones.
 pub(crate) fn keeps(
     alloc: Global,
-    task: &Task,
-    prov: &Providers,
-    marks: &Marks,
+    ready: &Ready<'_>,
     rules: &Rules,
 ) -> Result<Items<Keep>, AllocError>
-    requires ready { IsReady task.now prov.now marks.now }
-    requires packages { list_all (asks_for_packages (length task.now.universe.packages)) (read_rules rules.now) ≡ true }
-    ensures { IfOk result (λ made. made ≡ keeps_of (request_of task.now marks.now) (numbered (read_rules rules.now))) }
+    requires packages { list_all (asks_for_packages (length ready.now.task.now.universe.packages)) (read_rules rules.now) ≡ true }
+    ensures { IfOk result (λ made. made ≡ keeps_of (request_of ready.now.task.now ready.now.marks.now) (numbered (read_rules rules.now))) }
 {
-    let table = filled_table(alloc, task, prov, marks, rules, last_installed(task))?;
-    keeps_of(alloc, task, prov, marks, table)
+    let table = filled_table(alloc, ready, rules, last_installed(ready.task))?;
+    keeps_of(alloc, ready, table)
 }

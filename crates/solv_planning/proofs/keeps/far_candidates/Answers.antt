@@ -11,7 +11,7 @@ use Rattle.solv_pool.proofs.Placed.{packs_of}
 
 pub in_order-requires-clause-within : goal.in_order-requires-clause-within
 in_order-requires-clause-within c =
-    ap (λ t. list_all (is_pack (length c.args.task.now.universe.packages)) t) (c.deref-2.ensures.value ∙ c.in_ok-rest.ensures)
-    ∙ list_all_filter (is_pack (length c.args.task.now.universe.packages)) (λ q. not (is_among c.args.close.now q)) c.deref.result.now
-    (ap (λ t. list_all (is_pack (length c.args.task.now.universe.packages)) t) (c.deref.ensures.value ∙ c.in_ok-features.ensures)
-    ∙ packs_of (catalog_of c.args.task.now) (λ q. (q == c.args.pack) || is_feature (catalog_of c.args.task.now) c.args.marks.now c.args.pack q))
+    ap (λ t. list_all (is_pack (length c.args.ready.now.task.now.universe.packages)) t) (c.deref-2.ensures.value ∙ c.in_ok-rest.ensures)
+    ∙ list_all_filter (is_pack (length c.args.ready.now.task.now.universe.packages)) (λ q. not (is_among c.args.close.now q)) c.deref.result.now
+    (ap (λ t. list_all (is_pack (length c.args.ready.now.task.now.universe.packages)) t) (c.deref.ensures.value ∙ c.in_ok-features.ensures)
+    ∙ packs_of (catalog_of c.args.ready.now.task.now) (λ q. (q == c.args.pack) || is_feature (catalog_of c.args.ready.now.task.now) c.args.ready.now.marks.now c.args.pack q))

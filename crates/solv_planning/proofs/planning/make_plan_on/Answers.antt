@@ -8,11 +8,11 @@ use Rattle.solv_planning.specs.Inner.Readiness.{asks_for_packages}
 use Rattle.solv_planning.proofs.Requirements.{rules_ask}
 use Rattle.solv_planning.proofs.planning.make_plan_on.Goals as goal
 
-pub demands-requires-clause-packages : goal.demands-requires-clause-packages
-demands-requires-clause-packages c = ap (λ t. list_all (asks_for_packages (length c.args.task.now.universe.packages)) t) c.requires.rules ∙ rules_ask (request_of c.args.task.now c.args.marks.now)
+pub demands-requires : goal.demands-requires
+demands-requires c = record { packages = ap (λ t. list_all (asks_for_packages (length c.args.task.now.universe.packages)) t) c.requires.rules ∙ rules_ask (request_of c.args.task.now c.args.marks.now) }
 
-pub keeps-requires-clause-packages : goal.keeps-requires-clause-packages
-keeps-requires-clause-packages c = ap (λ t. list_all (asks_for_packages (length c.args.task.now.universe.packages)) t) c.requires.rules ∙ rules_ask (request_of c.args.task.now c.args.marks.now)
+pub keeps-requires : goal.keeps-requires
+keeps-requires c = record { packages = ap (λ t. list_all (asks_for_packages (length c.args.task.now.universe.packages)) t) c.requires.rules ∙ rules_ask (request_of c.args.task.now c.args.marks.now) }
 
 pub returns : goal.returns
 returns c =

@@ -10,16 +10,16 @@ use Rattle.solv_planning.proofs.planning.rest_with_trees.Goals as goal
 
 pub new-requires : goal.new-requires
 new-requires c =
-    let r = request_of c.args.task.now c.args.marks.now in
-    ap is_rising (c.in_ok-list.ensures (catalog_of c.args.task.now) c.requires.trees ∙ ap (flat_map (wants_of (catalog_of c.args.task.now))) c.requires.rules ∙ required_are r) ∙ required_rise r
+    let r = request_of c.args.ready.now.task.now c.args.ready.now.marks.now in
+    ap is_rising (c.in_ok-list.ensures (catalog_of c.args.ready.now.task.now) c.requires.trees ∙ ap (flat_map (wants_of (catalog_of c.args.ready.now.task.now))) c.requires.rules ∙ required_are r) ∙ required_rise r
 
 pub new-requires-2 : goal.new-requires-2
 new-requires-2 c =
-    let r = request_of c.args.task.now c.args.marks.now in
-    ap is_rising (c.in_ok-listed.ensures c.args.marks.now) ∙ recommended_rise r (not c.args.task.now.flags.ignore_recommended)
+    let r = request_of c.args.ready.now.task.now c.args.ready.now.marks.now in
+    ap is_rising (c.in_ok-listed.ensures c.args.ready.now.marks.now) ∙ recommended_rise r (not c.args.ready.now.task.now.flags.ignore_recommended)
 
 pub returns : goal.returns
 returns c =
-    let r = request_of c.args.task.now c.args.marks.now in
-    let required = c.in_ok-required.ensures ∙ c.in_ok-list.ensures (catalog_of c.args.task.now) c.requires.trees ∙ ap (flat_map (wants_of (catalog_of c.args.task.now))) c.requires.rules ∙ required_are r in
-    rw (c.in_ok-read.ensures.relations, required, c.in_ok-recommended.ensures ∙ c.in_ok-listed.ensures c.args.marks.now, c.in_ok-read.ensures.names) refl
+    let r = request_of c.args.ready.now.task.now c.args.ready.now.marks.now in
+    let required = c.in_ok-required.ensures ∙ c.in_ok-list.ensures (catalog_of c.args.ready.now.task.now) c.requires.trees ∙ ap (flat_map (wants_of (catalog_of c.args.ready.now.task.now))) c.requires.rules ∙ required_are r in
+    rw (c.in_ok-read.ensures.relations, required, c.in_ok-recommended.ensures ∙ c.in_ok-listed.ensures c.args.ready.now.marks.now, c.in_ok-read.ensures.names) refl
