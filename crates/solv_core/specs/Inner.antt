@@ -6,6 +6,7 @@ pub mod Holding
 pub mod Learnings
 pub mod Ledgers
 pub mod Looking
+pub mod Meeting
 pub mod Numbered
 pub mod NumberedLaw
 pub mod Running

@@ -2,6 +2,9 @@
 ghost use Rattle.std.specs.Prelude.{◌≡◌, ◌^◌, ◌≤◌, ◌+◌, ◌*◌, ◌==◌, ◌++◌, ◌∷◌, [], true, List, length, take, nat_lt, IfOk, OnOk, OnErr};
 ghost use Rattle.std.specs.List.{list_all};
 ghost use Rattle.solv_derive.specs.Range.{are_over};
+ghost use Rattle.solv_pool.specs.Clauses.{all_true};
+ghost use Rattle.solv_trail.specs.Asked.{enabled_clauses};
+ghost use Rattle.solv_core.specs.Inner.Meeting.{set_by};
 ghost use Rattle.solv_trail.specs.Propagated.{in_use};
 ghost use Rattle.solv_watch.specs.Inner.Watching.{AreChained, AreHeads, AreNarrow};
 ghost use Rattle.solv_core.specs.Inner.Cores.{none_in_use, numbers_in_use};
@@ -20,6 +23,7 @@ use crate::flags::Flags;
 use crate::forgetful::Forgetful;
 use crate::keeping::{flags_of, kept_of};
 use crate::ledger::{Ledger, Run};
+use crate::meeting::are_met;
 use crate::parts::{Numbers, Parts, Used};
 use crate::refutation::log_of;
 use crate::refuting::{Contradiction, refuted_at_end, refuted_over};
@@ -335,6 +339,14 @@ impl<'a> Core<'a> {
             run,
             clauses,
         )
+    }
+
+    /// Whether the set of the system and the packages that a table marks makes each clause of the enabled owners true. It is no run.
+    pub fn is_met_by(&self, enabled: &[bool], inside: &[bool]) -> bool
+        requires { list_all (λ o. nat_lt o (length enabled.now)) self.now.made.owners ≡ true }
+        ensures { result ≡ all_true (set_by inside.now) (enabled_clauses enabled.now self.now.made.clauses self.now.made.owners) }
+    {
+        are_met(self.book, self.owners, enabled, inside)
     }
 
     /// What the clauses of enabled owners refute where nothing is chosen: each other, or some of the owners of these clauses,

@@ -1,11 +1,11 @@
 -- What a run answers, said of the questions of a task.
-use Rattle.std.proofs.Common.{◌≡◌, ℕ, Bool, true, ◌&&◌, List, Option, Some, None, refl, sym, ap, ◌∙◌, subst}
+use Rattle.std.proofs.Common.{◌≡◌, ℕ, Bool, true, false, ◌&&◌, List, Option, Some, None, refl, sym, ap, ◌∙◌, subst}
 use Rattle.std.proofs.Math.Path.{fun_ext}
 use Rattle.std.specs.Prelude.{ℤ, flat_map, length, slice_get, nat_lt, Result, Ok, Err, IfOk}
 use Rattle.std.specs.declared.alloc.AllocError.{AllocError}
 use Rattle.std.specs.List.{list_all}
 use Rattle.std.proofs.lemmas.Bool.{and_parts, false≢true}
-use Rattle.solv_pool.specs.Clauses.{rule_clauses, clause_true}
+use Rattle.solv_pool.specs.Clauses.{rule_clauses, clause_true, all_true}
 use Rattle.solv_pool.specs.Laws.{ClausesSayTheRule}
 use Rattle.solv_pool.specs.Propagation.{is_fact}
 use Rattle.solv_pool.specs.RuleMeaning.{HardRule, meets_rule}
@@ -80,6 +80,15 @@ module _ (r : Request) (asker : Asker) (core : CoreOf) (asked : IsAskedFor r ask
     clauses_met set zero all c h =
         let f = of_flat (rule_clauses r.catalog) (rules_on r enabled) c h in
         all_at (clause_true set) (rule_clauses r.catalog f.0) c (well_placed f.0 f.1.0 set zero ∙ all_at (λ x. meets_rule r.catalog x set) (rules_on r enabled) f.0 all f.1.0) f.1.1
+
+    -- the same, said of a set that is given
+    pub met_alike : (set : ℕ → Bool) → set 0 ≡ true → all_true set (enabled_clauses enabled core.clauses core.owners) ≡ meets_all r enabled set
+    met_alike set zero = ap (list_all (clause_true set)) (clauses_alike enabled) ∙ both (list_all (clause_true set) (clauses_on r enabled)) (meets_all r enabled set) (rules_met set zero) (λ all. all_by (clause_true set) (clauses_on r enabled) (clauses_met set zero all))
+      where
+        both : (a b : Bool) → (a ≡ true → b ≡ true) → (b ≡ true → a ≡ true) → a ≡ b
+        both true b there back = sym (there refl)
+        both false true there back = absurd (false≢true (back refl))
+        both false false there back = refl
 
     solution : (trail : Trail) → IsGoodTrail core.packages (enabled_clauses enabled core.clauses core.owners) (λ known. plan_asks asker.plan known enabled) trail.events → IsSolution r enabled trail
     solution trail good =

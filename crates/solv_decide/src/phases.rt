@@ -94,6 +94,13 @@ impl Phases {
         })
     }
 
+    /// How many packages there are besides the system.
+    pub fn packages(&self) -> u32
+        ensures { result ≡ self.now.packages }
+    {
+        self.packages
+    }
+
     /// What stands in the plan behind its demands and its installed packages.
     pub fn into_rest(self) -> Rest
         ensures { result ≡ rest_in self.plan }

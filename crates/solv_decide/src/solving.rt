@@ -8,7 +8,9 @@ ghost use Rattle.solv_core.specs.Ledgers.{IsGoodLedger};
 ghost use Rattle.solv_core.specs.Inner.Looking.{AreRefutedBeside, verdict_of};
 ghost use Rattle.solv_core.specs.Inner.Running.{is_log_over, is_spent_verdict};
 ghost use Rattle.solv_questions.specs.Questions.{Request, asks};
-ghost use Rattle.solv_decide.specs.Inner.Deciding.{IsAskedFor, IsDecided};
+ghost use Rattle.solv_core.specs.Inner.Meeting.{set_by};
+ghost use Rattle.solv_decide.specs.Deciding.{meets_all};
+ghost use Rattle.solv_decide.specs.Inner.Deciding.{Asker, IsAskedFor, IsDecided};
 
 use crate::phases::Phases;
 use crate::recalling::run_looking;
@@ -49,6 +51,16 @@ pub fn solve(
 {
     let looked = solve_looking(phases, core, enabled, ledger, &[])?;
     Ok(looked.into_verdict())
+}
+
+/// Whether the set of the system and the packages that a table marks meets each enabled rule. It takes no run, and nothing is asked.
+pub fn is_met_by(core: &Core<'_>, enabled: &[bool], inside: &[bool]) -> bool
+    requires { list_all (λ o. nat_lt o (length enabled.now)) core.now.made.owners ≡ true }
+    ensures { (r : Request) (asker : Asker) → IsAskedFor r asker core.now.made → result ≡ meets_all r enabled.now (set_by inside.now) }
+{
+    clauses_say_the_rule();
+    plans_ask_the_questions();
+    core.is_met_by(enabled, inside)
 }
 
 /// As `solve`, and where a set is found, some of the rules of these clauses are named, each with a derivation that the enabled ones refute it, whatever
