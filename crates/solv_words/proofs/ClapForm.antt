@@ -16,7 +16,8 @@ use Rattle.clap.specs.Simple as simple
 use Rattle.clap.specs.declared.builder.value_parser.Reading.TheVariants.{AsWritten}
 use Rattle.clap.specs.declared.parser.matches.ValueSource.TheVariants.{DefaultValue}
 use Rattle.clap.proofs.FaultLemmas.{leaf_fault}
-use Rattle.solv_words.specs.CommandLine.{Argument, Kind, argument, arguments_from, budget, command_by, command_for, command_from, command_if_accepted, command_of, file, is_accepted, is_each_once, is_given, is_in_range, is_same, lines, number_by, number_of, output_of, proofs, seed, source_of, value_of, written}
+use Rattle.solv_words.specs.CommandLine.{Argument, Kind, argument, arguments_from, budget, command_by, command_from, command_of, file, is_each_once, is_given, is_in_range, is_same, lines, number_by, number_of, output_of, proofs, seed, source_of, value_of, written}
+use Rattle.solv_words.specs.Inner.Accepted.{command_for, command_if_accepted, is_accepted}
 use Rattle.solv_words.specs.Inner.Clap.{form, id_of, rows_by, rows_with_flags, rules}
 use Rattle.std.proofs.lemmas.Bool.{leb-true}
 use Rattle.solv_words.specs.declared.command_line.Command.{Command}

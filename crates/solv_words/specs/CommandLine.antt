@@ -12,12 +12,7 @@ use Rattle.solv_words.specs.declared.command_line.Source.TheVariants.{File, Seed
 
 -- what an argument gives: `-r` asks for the result lines, `--proof` for proofs and `--write` for the script; `--budget N` and `--grow SEED` have a number; FILE names a script
 pub data Kind : Type 0 where
-  lines : Kind
-  budget : Kind
-  proofs : Kind
-  written : Kind
-  seed : Kind
-  file : Kind
+  lines budget proofs written seed file : Kind
 
 abbrev pub is_same : Kind → Kind → Bool
 is_same lines lines = true
@@ -36,27 +31,15 @@ pub record Argument : Type 0 where
 abbrev pub argument : Kind → List ℕ → Argument
 argument kind value = record { kind = kind; value = value }
 
--- what a word is, where no option waits for its value: an argument; an option whose value is the next word; `--`, behind which each word is a FILE; or nothing
--- that is known
+-- what a word is, where no option waits for its value: an argument; an option whose value is the next word; `--`, behind which each word is a FILE; or unknown
 pub data Word : Type 0 where
   whole : Argument → Word
   option : Kind → Word
-  end_of_options : Word
-  unknown : Word
+  end_of_options unknown : Word
 
 -- a word that may be a value or a FILE: it does not begin with `-`, or is `-`
 abbrev pub is_value : List ℕ → Bool
 is_value word = not (bytes_eq (take 1 word) (codes "-")) || bytes_eq word (codes "-")
-
-abbrev pub value_or_unknown : List ℕ → Word
-value_or_unknown word = if is_value word then whole (argument file word) else unknown
-
--- `--budget=N` and `--grow=SEED`
-abbrev pub with_attached : List ℕ → Word
-with_attached word =
-    if bytes_eq (take 9 word) (codes "--budget=") then whole (argument budget (drop 9 word))
-    else (if bytes_eq (take 7 word) (codes "--grow=") then whole (argument seed (drop 7 word))
-    else value_or_unknown word)
 
 abbrev pub word_of : List ℕ → Word
 word_of word =
@@ -66,18 +49,17 @@ word_of word =
     else (if bytes_eq word (codes "--write") then whole (argument written [])
     else (if bytes_eq word (codes "--budget") then option budget
     else (if bytes_eq word (codes "--grow") then option seed
-    else with_attached word)))))
-
-abbrev pub with_argument : Argument → Option (List Argument) → Option (List Argument)
-with_argument a = option_map (λ behind. a ∷ behind)
+    else (if bytes_eq (take 9 word) (codes "--budget=") then whole (argument budget (drop 9 word))
+    else (if bytes_eq (take 7 word) (codes "--grow=") then whole (argument seed (drop 7 word))
+    else (if is_value word then whole (argument file word) else unknown))))))))
 
 -- the arguments that words are, the first of which may be the value that an option waits for; none where some word is unknown or a value is missing
 abbrev pub arguments_from : Option Kind → List (List ℕ) → Option (List Argument)
 arguments_from None [] = Some []
 arguments_from (Some kind) [] = None
-arguments_from (Some kind) (word ∷ words) = if is_value word then with_argument (argument kind word) (arguments_from None words) else None
+arguments_from (Some kind) (word ∷ words) = if is_value word then option_map (λ behind. argument kind word ∷ behind) (arguments_from None words) else None
 arguments_from None (word ∷ words) = elim (word_of word) [
-  | whole a ↦ with_argument a (arguments_from None words)
+  | whole a ↦ option_map (λ behind. a ∷ behind) (arguments_from None words)
   | option kind ↦ arguments_from (Some kind) words
   | end_of_options ↦ Some (map (argument file) words)
   | unknown ↦ None
@@ -94,15 +76,9 @@ are_digits text = nat_lt 0 (length text) && list_all (λ d. nat_lt (digit_value 
 abbrev pub is_number : ℕ → List ℕ → Bool
 is_number most text = are_digits (without_leading_sign text) && (nat_le (number_of text) most && (not (starts_with_minus text) || number_of text == 0))
 
+-- the value of `--budget` and that of `--grow` are numbers in their ranges
 abbrev pub is_in_range : Argument → Bool
-is_in_range a = elim a.kind [
-  | lines ↦ true
-  | budget ↦ is_number 1000000 a.value
-  | proofs ↦ true
-  | written ↦ true
-  | seed ↦ is_number 4294967295 a.value
-  | file ↦ true
-]
+is_in_range a = elim a.kind [ budget ↦ is_number 1000000 a.value | seed ↦ is_number 4294967295 a.value | other ↦ true ]
 
 -- no two arguments give the same
 abbrev pub is_each_once : List Argument → Bool
@@ -133,10 +109,7 @@ is_given kind arguments = is_some (value_of kind arguments)
 abbrev pub number_by : Kind → List Argument → Option ℕ
 number_by kind arguments = option_map number_of (value_of kind arguments)
 
-abbrev pub is_accepted : List Argument → Bool
-is_accepted arguments = is_each_once arguments && list_all is_in_range arguments
-
--- the command of arguments that ask for this output and name this source
+-- the command of arguments that ask for this output, from this source
 abbrev pub command_from : List Argument → Output → Source → Command
 command_from arguments output source = record {
   shows = is_given lines arguments;
@@ -145,17 +118,14 @@ command_from arguments output source = record {
   source = source;
 }
 
--- the command of arguments that ask for this output
-abbrev pub command_for : List Argument → Output → Option Command
-command_for arguments output = option_map (command_from arguments output) (source_of output (value_of file arguments) (number_by seed arguments))
-
+-- the command of arguments, where they ask for one output and name one source
 abbrev pub command_by : List Argument → Option Command
-command_by arguments = option_and_then (command_for arguments) (output_of (is_given proofs arguments) (is_given written arguments))
-
-abbrev pub command_if_accepted : List Argument → Option Command
-command_if_accepted arguments = if is_accepted arguments then command_by arguments else None
+command_by arguments =
+    option_and_then (λ output. option_map (command_from arguments output) (source_of output (value_of file arguments) (number_by seed arguments)))
+    (output_of (is_given proofs arguments) (is_given written arguments))
 
 -- What the words say, the first of which is the program's name. Each argument is given at most once, in any order, with a number in its range; and either FILE
 -- or a seed. Of `--proof`, `--write` and a seed only one stands. Without `--budget` the budget is 100000.
 abbrev pub command_of : List (List ℕ) → Option Command
-command_of words = option_and_then command_if_accepted (arguments_from None (drop 1 words))
+command_of words =
+    option_and_then (λ arguments. if is_each_once arguments && list_all is_in_range arguments then command_by arguments else None) (arguments_from None (drop 1 words))

@@ -1,2 +1,3 @@
 -- Words of inner contracts.
+pub mod Accepted
 pub mod Clap
