@@ -1,5 +1,5 @@
 -- Lines of scripts as commands: what the words of a line say by themselves, or the first cause for which they say nothing.
-use Rattle.std.specs.Prelude.{ℕ, ℤ, ◌-◌, ◌==◌, not, ◌&&◌, ◌||◌, Bool, true, false, List, [], ◌∷◌, ◌++◌, codes, length, take, drop, nat_le, Option, Some, None, Result, Ok, Err, if◌then◌else◌}
+use Rattle.std.specs.Prelude.{ℕ, ℤ, ◌-◌, ◌==◌, not, ◌&&◌, ◌||◌, Bool, true, false, List, [], ◌∷◌, codes, length, take, drop, nat_le, Option, Some, None, ok_or, Result, Ok, Err, if◌then◌else◌}
 use Rattle.std.specs.List.{list_any}
 use Rattle.std.specs.Str.{bytes_eq}
 use Rattle.solv_io.specs.JoinedWords.{joined}
@@ -32,38 +32,26 @@ pub data Command : Type 0 where
   job : Action → Asked → JobFlags → List ℕ → Command
   next_round : Command
 
-abbrev pub and_then : {A B : Type 0} → Result A Cause → (A → Result B Cause) → Result B Cause
+-- what follows where there is no cause
+abbrev pub and_then : {A B E : Type 0} → Result A E → (A → Result B E) → Result B E
 and_then (Ok x) next = next x
 and_then (Err cause) next = Err cause
 
--- what is there, or the cause where it is not
-abbrev pub or_cause : {A : Type 0} → Cause → Option A → Result A Cause
-or_cause cause None = Err cause
-or_cause cause (Some x) = Ok x
-
 -- may so many words stand behind the type of a repository?
 abbrev pub fits_type : List ℕ → ℕ → Bool
-fits_type type n =
-    if bytes_eq type (codes "empty") then n == 0
-    else (if bytes_eq type (codes "testtags") then n == 1
-    else nat_le n 1)
-
-abbrev pub first_of : List (List ℕ) → Option (List ℕ)
-first_of [] = None
-first_of (word ∷ others) = Some word
+fits_type type n = if bytes_eq type (codes "empty") then n == 0 else (if bytes_eq type (codes "testtags") then n == 1 else nat_le n 1)
 
 -- the file behind the type of a repository: none where it is empty
 abbrev pub file_of : List ℕ → List (List ℕ) → Result (Option (List ℕ)) Cause
 file_of type words =
     if bytes_eq type (codes "empty") then Ok None
-    else (if bytes_eq type (codes "testtags") then Ok (first_of words)
-    else Err BadRepoType)
+    else (if bytes_eq type (codes "testtags") then Ok (elim words [ [] ↦ None | word ∷ others ↦ Some word ]) else Err BadRepoType)
 
 -- `repo NAME PRIORITY testtags FILE`, `repo NAME PRIORITY empty`
 abbrev pub repo_line : List (List ℕ) → Result Command Cause
 repo_line (name ∷ number ∷ type ∷ words) =
     if fits_type type (length words)
-    then and_then (or_cause BadNumber (priority number)) (λ p. and_then (file_of type words) (λ file. Ok (repo name p file)))
+    then and_then (ok_or (priority number) BadNumber) (λ p. and_then (file_of type words) (λ file. Ok (repo name p file)))
     else Err BadWords
 repo_line words = Err BadWords
 
@@ -85,7 +73,7 @@ disable_line words = Err BadWords
 
 -- `evrcmp EVR COMPARISON EVR`
 abbrev pub evrcmp_line : List (List ℕ) → Result Command Cause
-evrcmp_line (left ∷ sign ∷ right ∷ []) = and_then (or_cause BadOperator (comparison sign)) (λ c. Ok (evrcmp left c right))
+evrcmp_line (left ∷ sign ∷ right ∷ []) = and_then (ok_or (comparison sign) BadOperator) (λ c. Ok (evrcmp left c right))
 evrcmp_line words = Err BadWords
 
 -- `result KIND,.. FILE`
@@ -152,17 +140,6 @@ abbrev pub job_flags : Option (List ℕ) → Result JobFlags Cause
 job_flags None = Ok no_job_flags
 job_flags (Some word) = with_job_flags (between_commas (in_brackets word)) no_job_flags
 
--- may the best be forced for this action?
-abbrev pub takes_forcebest : Action → Bool
-takes_forcebest Install = true
-takes_forcebest Update = true
-takes_forcebest other = false
-
--- what one word behind `pkg` says
-abbrev pub one_package : List (List ℕ) → Result Asked Cause
-one_package (package_text ∷ []) = Ok (pkg package_text)
-one_package words = Err BadWords
-
 -- words, one at least
 abbrev pub some_words : (List (List ℕ) → Asked) → List (List ℕ) → Result Asked Cause
 some_words asked [] = Err BadWords
@@ -176,7 +153,7 @@ all_packages words = Err BadWords
 -- a selection: `pkg PACKAGE`, `name DEPENDENCY`, `provides DEPENDENCY`, `oneof PACKAGE ..`, `all packages`
 abbrev pub selection : List ℕ → List (List ℕ) → Result Asked Cause
 selection kind words =
-    if bytes_eq kind (codes "pkg") then one_package words
+    if bytes_eq kind (codes "pkg") then (elim words [ package_text ∷ [] ↦ Ok (pkg package_text) | others ↦ Err BadWords ])
     else (if bytes_eq kind (codes "name") then some_words by_name words
     else (if bytes_eq kind (codes "provides") then some_words by_provides words
     else (if bytes_eq kind (codes "oneof") then some_words one_of words
@@ -196,7 +173,7 @@ has_job_words word (next ∷ others) = true
 
 -- may these flags stand at this action? The best may be forced where something comes, and only an erase job cleans
 abbrev pub fits_flags : Action → JobFlags → Bool
-fits_flags action flags = (not flags.forcebest || takes_forcebest action) && (not flags.cleandeps || is_erase action)
+fits_flags action flags = (not flags.forcebest || (elim action [ Install ↦ true | Update ↦ true | other ↦ false ])) && (not flags.cleandeps || is_erase action)
 
 -- `job ACTION SELECTION [FLAG,..]`
 abbrev pub job_line : List (List ℕ) → Result Command Cause
@@ -204,9 +181,7 @@ job_line [] = Err BadWords
 job_line (word ∷ words) =
     if has_job_words word words
     then and_then (action word) (λ a. and_then (job_flags (flag_word words)) (λ flags.
-    if fits_flags a flags
-    then and_then (asked a (before_flags words)) (λ s. Ok (job a s flags (joined (word ∷ words))))
-    else Err FlagNotHere))
+    if fits_flags a flags then and_then (asked a (before_flags words)) (λ s. Ok (job a s flags (joined (word ∷ words)))) else Err FlagNotHere))
     else Err BadWords
 
 -- `nextjob`
