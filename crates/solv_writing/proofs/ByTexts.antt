@@ -21,7 +21,9 @@ use Rattle.solv_script.specs.declared.scripts.EvrCheck.{EvrCheck}
 use Rattle.solv_script.specs.declared.scripts.Round.{Round}
 use Rattle.solv_writing.specs.Inner.ByIds.{disable_text, disabled_texts, installed_texts, namespace_text, system_text}
 use Rattle.solv_writing.specs.Inner.RoundTexts.{later_text, round_text}
-use Rattle.solv_writing.specs.ScriptTexts.{arch_text, check_line, disabled_lines, flag_words, installed_words, job_line, later_lines, namespace_line, result_lines, round_lines, system_lines}
+use Rattle.solv_writing.specs.ScriptTexts.{arch_text, disabled_lines, flag_words, installed_words, result_lines, round_lines, system_lines}
+use Rattle.solv_writing.specs.Inner.LineNames.{namespace_line}
+use Rattle.solv_writing.specs.Inner.LineNames.{check_line, job_line, later_lines}
 
 -- a repository that is not there has no name
 pub no_repo_text : (pool : Held) (contents : Contents) (place : ℕ) → length contents.repos ≤ place → repo_text pool contents place ≡ []

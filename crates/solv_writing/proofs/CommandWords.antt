@@ -1,13 +1,13 @@
 -- What the words of a line say is made of these words.
 use Rattle.std.proofs.Common.{◌≡◌, ℕ, Bool, true, false, List, [], ◌∷◌, length, Option, Some, None, Result, Ok, Err, refl, ap, subst}
-use Rattle.std.specs.Prelude.{codes, IfOk, option_to_list, if◌then◌else◌}
+use Rattle.std.specs.Prelude.{codes, IfOk, ok_or, option_to_list, if◌then◌else◌}
 use Rattle.std.specs.List.{list_all}
 use Rattle.std.specs.Str.{bytes_eq}
 use Rattle.solv_base.specs.declared.comparison.Cmp.{Cmp}
 use Rattle.solv_deps.specs.Canonical.{comparison_text}
 use Rattle.solv_deps.specs.Grammar.{comparison, is_namespace}
 use Rattle.solv_io.specs.JoinedWords.{joined, is_word}
-use Rattle.solv_commands.specs.Commands.{Command, repo, system, solverflags, namespace, disable, evrcmp, results, job, next_round, and_then, or_cause, fits_type, file_of, repo_line, system_line, namespace_line, disable_line, evrcmp_line, result_line, has_job_words, action, flag_word, job_flags, fits_flags, asked, before_flags, job_line, next_line, command}
+use Rattle.solv_commands.specs.Commands.{Command, repo, system, solverflags, namespace, disable, evrcmp, results, job, next_round, and_then, fits_type, file_of, repo_line, system_line, namespace_line, disable_line, evrcmp_line, result_line, has_job_words, action, flag_word, job_flags, fits_flags, asked, before_flags, job_line, next_line, command}
 use Rattle.solv_commands.specs.Numbers.{priority}
 use Rattle.solv_commands.specs.declared.causes.Cause.{Cause}
 use Rattle.solv_commands.specs.declared.causes.Cause.TheVariants.{BadNumber, BadOperator, BadWords, BadNamespace, FlagNotHere, UnknownLine}
@@ -48,13 +48,13 @@ pub either_if : {B : Type 0} (P : B → Type 0) (b : Bool) (q r : Result B Cause
 either_if P true q r h k = h refl
 either_if P false q r h k = k refl
 
-or_some : {A : Type 0} (c : Cause) (o : Option A) (x : A) → or_cause c o ≡ Ok x → o ≡ Some x
+or_some : {A : Type 0} (c : Cause) (o : Option A) (x : A) → ok_or o c ≡ Ok x → o ≡ Some x
 or_some c None x h = absurd (cc)
 or_some c (Some y) x h = let e : y ≡ x = cc in ap Some e
 
 repo_of : (words : List (List ℕ)) → list_all is_word words ≡ true → IfOk (repo_line words) IsOfWords
 repo_of (name ∷ number ∷ type ∷ words) h =
-    either_if IsOfWords (fits_type type (length words)) _ (Err BadWords) (λ f. then_if IsOfWords (or_cause BadNumber (priority number)) _
+    either_if IsOfWords (fits_type type (length words)) _ (Err BadWords) (λ f. then_if IsOfWords (ok_or (priority number) BadNumber) _
     (λ p e. then_if IsOfWords (file_of type words) _ (λ file g. (first_of_both (is_word name) _ h, priority_again number p (or_some BadNumber (priority number) p e)))))
     (λ f. tt)
 repo_of [] h = tt
@@ -105,7 +105,7 @@ comparison_again w c e = find (bytes_eq (codes "<") w) (bytes_eq (codes "<=") w)
 
 evrcmp_of : (words : List (List ℕ)) → list_all is_word words ≡ true → IfOk (evrcmp_line words) IsOfWords
 evrcmp_of (left ∷ sign ∷ right ∷ []) h =
-    then_if IsOfWords (or_cause BadOperator (comparison sign)) _ (λ c e.
+    then_if IsOfWords (ok_or (comparison sign) BadOperator) _ (λ c e.
     let k = comparison_again sign c (or_some BadOperator (comparison sign) c e) in
     (first_of_both (is_word left) _ h, first_of_both (is_word right) true (second_of_both (is_word sign) _ (second_of_both (is_word left) _ h)), k.0, k.1))
 evrcmp_of [] h = tt

@@ -13,7 +13,8 @@ use Rattle.solv_list.proofs.Booleans.{first_of_both, second_of_both}
 use Rattle.solv_list.proofs.Lists.{all_left, all_right, same_bytes}
 use Rattle.solv_list.proofs.Numbers.{same_number, equal_to_itself}
 use Rattle.solv_io.specs.JoinedWords.{is_solid, is_word}
-use Rattle.solv_writing.specs.TagLines.{is_parted, evr_words}
+use Rattle.solv_writing.specs.TagLines.{evr_words}
+use Rattle.solv_writing.specs.Inner.LineNames.{is_parted}
 use Rattle.solv_io.proofs.WordsAgain.{solid_word}
 
 abbrev pub other : ℕ → Bool

@@ -5,7 +5,8 @@ use Rattle.std.proofs.lemmas.List.Elements.{All-push}
 use Rattle.solv_base.specs.Pool.{Held}
 use Rattle.solv_pool.specs.Written.{WrittenPackage}
 use Rattle.solv_script.specs.Reads.{WrittenRound}
-use Rattle.solv_script.specs.States.{State, in_hand, with_rounds, script_given}
+use Rattle.solv_script.specs.States.{State, with_rounds, script_given}
+use Rattle.solv_script.specs.Inner.LineParts.{in_hand}
 use Rattle.solv_writing.specs.Inner.ReadScripts.{IsReadJob, IsReadCheck, AreReadKinds, IsReadRound, view_of, IsReadUniverse, universe_of, IsReadScript}
 
 -- each package is of a repository below this number

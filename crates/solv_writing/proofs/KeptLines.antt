@@ -22,7 +22,8 @@ use Rattle.solv_commands.specs.declared.causes.Cause.TheVariants.{AfterNextjob, 
 use Rattle.solv_script.specs.FileNames.{is_compressed, fetched_name}
 use Rattle.solv_script.specs.Grammar.{Bad, Row, done, asks, Named, Purpose, of_packages, of_result, counted, repository_given, with_lines, file_named, inline, next_bytes, answered, fetched_behind, then_row, at_line, fetched_given, file_row, lines_row, said_row, words_row, row, most_file, most_script, lines_given, script_read}
 use Rattle.solv_script.specs.Results.{expected}
-use Rattle.solv_script.specs.Rows.{and_then, is_too_late, plain_row, with_repo}
+use Rattle.solv_script.specs.Rows.{is_too_late, plain_row, with_repo}
+use Rattle.solv_commands.specs.Commands.{and_then}
 use Rattle.solv_script.specs.ScriptLines.{ScriptLine, is_inline, inline_lines, script_lines, own_words}
 use Rattle.solv_script.specs.States.{State, no_line, repo_place}
 use Rattle.solv_list.proofs.Booleans.{first_of_both, second_of_both}

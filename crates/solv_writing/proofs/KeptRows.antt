@@ -25,7 +25,10 @@ use Rattle.solv_commands.specs.declared.causes.Cause.{Cause}
 use Rattle.solv_commands.specs.declared.causes.Cause.TheVariants.{UnknownFlag, DuplicateSystem, BadArch, BadDisttype, UnknownRepo, UnknownPackage, DuplicateResult, SystemInJob}
 use Rattle.solv_script.specs.Reads.{default_kinds}
 use Rattle.solv_script.specs.Results.{no_kinds, with_kind, with_kinds, kinds_named}
-use Rattle.solv_script.specs.Rows.{and_then, or_cause, arch_named, installed_row, system_row, package_numbers, with_namespace, namespace_row, disabled, disable_row, evrcmp_row, result_row, no_system, one_package, chosen, job_row, flags_row}
+use Rattle.solv_script.specs.Rows.{arch_named, installed_row, system_row, package_numbers, with_namespace, namespace_row, disabled, result_row, no_system, one_package, chosen, job_row}
+use Rattle.solv_script.specs.Inner.LineParts.{disable_row, evrcmp_row, flags_row}
+use Rattle.solv_commands.specs.Commands.{and_then}
+use Rattle.solv_script.specs.Inner.LineParts.{or_cause}
 use Rattle.solv_script.specs.States.{State, rounds_given, repo_place, repo_name, text_of, text_of_number, package_number}
 use Rattle.solv_script.specs.declared.scripts.Kinds.{Kinds}
 use Rattle.solv_list.proofs.Booleans.{first_of_both, second_of_both}

@@ -17,7 +17,8 @@ use Rattle.solv_pool.specs.declared.universes.Arch.{Arch}
 use Rattle.solv_script.specs.Grammar.{Bad, begun, most_file, most_script, script_read}
 use Rattle.solv_script.specs.Reads.{WrittenScript, WrittenCheck, WrittenRound, first_flags, default_kinds}
 use Rattle.solv_script.specs.ScriptLines.{script_lines}
-use Rattle.solv_script.specs.States.{State, no_line, in_hand, with_rounds, script_given}
+use Rattle.solv_script.specs.States.{State, no_line, with_rounds, script_given}
+use Rattle.solv_script.specs.Inner.LineParts.{in_hand}
 use Rattle.solv_script.specs.declared.scripts.Kinds.{Kinds}
 use Rattle.solv_list.proofs.Booleans.{first_of_both, second_of_both, false_of_not}
 use Rattle.solv_list.proofs.Numbers.{same_number, not_below_itself}
@@ -25,7 +26,9 @@ use Rattle.solv_io.specs.JoinedWords.{is_line, joined}
 use Rattle.solv_deps.specs.Parts.{IsPart}
 use Rattle.solv_writing.specs.Inner.ReadPackages.{are_apart, IsReadPackage, HoldsText, HoldsPackage}
 use Rattle.solv_writing.specs.Inner.ReadScripts.{IsReadJob, HoldsChoice, IsReadCheck, AreReadKinds, IsReadRound, IsReadRepo, IsReadNamespace, packages_from, IsReadSystem, view_of, IsReadScript, HoldsScript}
-use Rattle.solv_writing.specs.ScriptTexts.{packages_of, repositories_from, system_lines, disabled_lines, namespace_line, check_line, job_line, result_lines, repository_lines, arch_text, installed_words, round_lines, later_lines, first_round, lines_of_script, text_of_script}
+use Rattle.solv_writing.specs.ScriptTexts.{packages_of, repositories_from, system_lines, disabled_lines, result_lines, repository_lines, arch_text, installed_words, round_lines, first_round, lines_of_script, text_of_script}
+use Rattle.solv_writing.specs.Inner.LineNames.{namespace_line}
+use Rattle.solv_writing.specs.Inner.LineNames.{check_line, job_line, later_lines}
 use Rattle.solv_writing.specs.WrittenBack.{IsReadBack}
 use Rattle.solv_writing.proofs.ResultLines.{result_leads}
 use Rattle.solv_writing.proofs.ScriptLines.{SoFar, so_far, hand_of, Reads, Goes, Leads, at_end, check_leads, flags_leads, job_leads, nextjob_leads}

@@ -19,13 +19,15 @@ use Rattle.solv_commands.specs.SolverFlags.{with_settings, with_words}
 use Rattle.solv_commands.specs.declared.causes.Cause.{Cause}
 use Rattle.solv_script.specs.Grammar.{done, Named, file_named, row, words_row, said_row, command_row, lines_row, lines_given, lines_due}
 use Rattle.solv_script.specs.Reads.{WrittenCheck, WrittenRound, default_kinds}
-use Rattle.solv_script.specs.Rows.{plain_row, chosen, is_of_packages, is_too_late}
+use Rattle.solv_script.specs.Rows.{plain_row, chosen, is_too_late}
+use Rattle.solv_script.specs.Inner.LineParts.{is_of_packages}
 use Rattle.solv_script.specs.ScriptLines.{ScriptLine, inline_lines, script_lines, own_words}
 use Rattle.solv_script.specs.States.{State}
 use Rattle.solv_script.specs.declared.scripts.Kinds.{Kinds}
 use Rattle.solv_deps.specs.Parts.{HoldsTree, IsPart, IsEnteredTree}
 use Rattle.solv_writing.specs.Inner.ReadScripts.{Chooses, IsReadJob, HoldsChoice, IsReadCheck}
-use Rattle.solv_writing.specs.ScriptTexts.{inlined, check_line, flag_word, flag_words, job_line}
+use Rattle.solv_writing.specs.ScriptTexts.{inlined, flag_word, flag_words}
+use Rattle.solv_writing.specs.Inner.LineNames.{check_line, job_line}
 use Rattle.solv_deps.proofs.PartEntered.{trees_entered}
 use Rattle.solv_io.proofs.WordsAgain.{words_again}
 use Rattle.solv_script.proofs.GrownScripts.{texts_then, rows_then}

@@ -10,7 +10,9 @@ use Rattle.solv_pool.specs.Written.{WrittenTask, WrittenRepo, WrittenPackage}
 use Rattle.solv_script.specs.States.{text_of, text_of_number, package_number}
 use Rattle.solv_commands.specs.declared.causes.Cause.{Cause}
 use Rattle.solv_commands.specs.declared.causes.Cause.TheVariants.{UnknownPackage}
-use Rattle.solv_script.specs.Rows.{and_then, or_cause, package_numbers}
+use Rattle.solv_script.specs.Rows.{package_numbers}
+use Rattle.solv_commands.specs.Commands.{and_then}
+use Rattle.solv_script.specs.Inner.LineParts.{or_cause}
 use Rattle.solv_list.proofs.Lists.{all_at, get_front, some_there}
 use Rattle.solv_io.specs.JoinedWords.{is_word}
 use Rattle.solv_writing.specs.Inner.ReadScripts.{IsToldByText, view}

@@ -25,7 +25,8 @@ use Rattle.solv_io.specs.JoinedWords.{is_word, joined}
 use Rattle.solv_deps.specs.Parts.{IsEnteredText}
 use Rattle.solv_writing.specs.Inner.ReadPackages.{HoldsText}
 use Rattle.solv_writing.specs.Inner.ReadScripts.{IsReadRepo, IsToldByName, IsToldByText, IsReadNamespace, AreDisabledTold}
-use Rattle.solv_writing.specs.ScriptTexts.{repository_lines, arch_text, disable_line, disabled_lines, namespace_line}
+use Rattle.solv_writing.specs.ScriptTexts.{repository_lines, arch_text, disabled_lines}
+use Rattle.solv_writing.specs.Inner.LineNames.{disable_line, namespace_line}
 use Rattle.solv_writing.specs.TagLines.{tag_lines}
 use Rattle.solv_deps.proofs.PartEntered.{texts_entered}
 use Rattle.solv_writing.proofs.ResultLines.{block_leads}

@@ -12,7 +12,8 @@ use Rattle.solv_script.specs.declared.scripts.EvrCheck.{EvrCheck}
 use Rattle.solv_script.specs.declared.scripts.Script.{Script}
 use Rattle.solv_writing.specs.Inner.ByIds.{disabled_texts, namespace_text, system_text}
 use Rattle.solv_writing.specs.Inner.RoundTexts.{later_text, round_text}
-use Rattle.solv_writing.specs.ScriptTexts.{check_line, first_round, later_lines, repositories_from, round_lines, text_of_script, universe_lines}
+use Rattle.solv_writing.specs.ScriptTexts.{first_round, repositories_from, round_lines, text_of_script, universe_lines}
+use Rattle.solv_writing.specs.Inner.LineNames.{check_line, later_lines}
 use Rattle.solv_writing.proofs.ByTexts.{checks_are, disabled_are, later_are, namespaces_are, round_is, system_is}
 use Rattle.solv_io.proofs.WrittenLines.{ended_lines-append}
 

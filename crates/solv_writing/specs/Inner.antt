@@ -6,3 +6,4 @@ pub mod KindWords
 pub mod Spans
 pub mod ByIds
 pub mod RoundTexts
+pub mod LineNames

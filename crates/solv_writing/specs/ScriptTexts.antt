@@ -3,12 +3,12 @@ use Rattle.std.specs.Prelude.{ℕ, ◌+◌, ◌==◌, Bool, true, false, List, [
 use Rattle.std.specs.Fmt.{signed_decimal}
 use Rattle.solv_io.specs.Lines.{ended_lines}
 use Rattle.solv_deps.specs.Canonical.{comparison_text}
-use Rattle.solv_pool.specs.Written.{WrittenTask, WrittenRepo, WrittenPackage, WrittenJob}
+use Rattle.solv_pool.specs.Written.{WrittenTask, WrittenRepo, WrittenPackage}
 use Rattle.solv_pool.specs.declared.tasks.Flags.{Flags}
 use Rattle.solv_pool.specs.declared.universes.Arch.{Arch}
 use Rattle.solv_pool.specs.declared.universes.Arch.TheVariants.{X86_64, I686, Aarch64}
 use Rattle.solv_script.specs.Grammar.{inline}
-use Rattle.solv_script.specs.Reads.{WrittenScript, WrittenCheck, WrittenRound}
+use Rattle.solv_script.specs.Reads.{WrittenScript, WrittenRound}
 use Rattle.solv_script.specs.States.{repo_name, text_of, text_of_number}
 use Rattle.solv_script.specs.declared.scripts.Kinds.{Kinds}
 use Rattle.solv_io.specs.JoinedWords.{joined}
@@ -50,17 +50,11 @@ module _ (task : WrittenTask) where
   system_lines None = []
   system_lines (Some arch) = joined (codes "system" ∷ arch_text arch ∷ codes "rpm" ∷ installed_words task.installed) ∷ []
 
-  abbrev pub disable_line : WrittenPackage → List ℕ
-  disable_line a = joined (codes "disable" ∷ codes "pkg" ∷ text_of task a ∷ [])
-
   -- the packages that are disabled, by whether each is
   abbrev pub disabled_lines : List WrittenPackage → List Bool → List (List ℕ)
-  disabled_lines (a ∷ packages) (true ∷ others) = disable_line a ∷ disabled_lines packages others
+  disabled_lines (a ∷ packages) (true ∷ others) = joined (codes "disable" ∷ codes "pkg" ∷ text_of task a ∷ []) ∷ disabled_lines packages others
   disabled_lines (a ∷ packages) (false ∷ others) = disabled_lines packages others
   disabled_lines packages others = []
-
-  abbrev pub namespace_line : List ℕ × List ℕ → List ℕ
-  namespace_line n = joined (codes "namespace" ∷ n.0 ∷ map (text_of_number task) n.1)
 
   -- the lines on the universe
   abbrev pub universe_lines : List (List ℕ)
@@ -68,10 +62,7 @@ module _ (task : WrittenTask) where
       repositories_from 0 task.repos task.packages
       ++ (system_lines task.arch
       ++ (disabled_lines task.packages task.disabled
-      ++ map namespace_line task.namespaces))
-
-abbrev pub check_line : WrittenCheck → List ℕ
-check_line c = joined (codes "evrcmp" ∷ c.left ∷ comparison_text c.op ∷ c.right ∷ [])
+      ++ map (λ n. joined (codes "namespace" ∷ n.0 ∷ map (text_of_number task) n.1)) task.namespaces))
 
 -- a flag, with `!` before it where it is off
 abbrev pub flag_word : Bool → List ℕ → List ℕ
@@ -87,9 +78,6 @@ flag_words f =
     ∷ flag_word f.ignore_recommended (codes "ignorerecommended")
     ∷ flag_word f.no_infarch_check (codes "noinfarchcheck")
     ∷ []
-
-abbrev pub job_line : WrittenJob → List ℕ
-job_line j = codes "job " ++ j.text
 
 -- the names of the kinds that are asked for
 abbrev pub kind_if : Bool → List ℕ → List (List ℕ)
@@ -116,19 +104,19 @@ result_lines kinds (Some wanted) = joined (codes "result" ∷ with_commas (kind_
 
 -- a round: its flags, its jobs, and what is expected of its answer
 abbrev pub round_lines : WrittenRound → List (List ℕ)
-round_lines r = joined (codes "solverflags" ∷ flag_words r.flags) ∷ (map job_line r.jobs ++ result_lines r.kinds r.wanted)
+round_lines r = joined (codes "solverflags" ∷ flag_words r.flags) ∷ (map (λ j. codes "job " ++ j.text) r.jobs ++ result_lines r.kinds r.wanted)
 
 -- the first round of a script
 abbrev pub first_round : WrittenScript → WrittenRound
 first_round s = record { flags = s.task.flags; jobs = s.task.jobs; kinds = s.kinds; wanted = s.wanted }
 
--- rounds behind the first one
-abbrev pub later_lines : List WrittenRound → List (List ℕ)
-later_lines rounds = flat_map (λ r. codes "nextjob" ∷ round_lines r) rounds
-
 -- the lines of a script, and its text
 abbrev pub lines_of_script : WrittenScript → List (List ℕ)
-lines_of_script s = universe_lines s.task ++ (map check_line s.checks ++ (round_lines (first_round s) ++ later_lines s.later))
+lines_of_script s =
+    universe_lines s.task
+    ++ (map (λ c. joined (codes "evrcmp" ∷ c.left ∷ comparison_text c.op ∷ c.right ∷ [])) s.checks
+    ++ (round_lines (first_round s)
+    ++ flat_map (λ r. codes "nextjob" ∷ round_lines r) s.later))
 
 abbrev pub text_of_script : WrittenScript → List ℕ
 text_of_script s = ended_lines (lines_of_script s)

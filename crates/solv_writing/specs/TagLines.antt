@@ -1,10 +1,10 @@
 -- Packages as testtags lines: a package is its `=Pkg:` line, and then one line for each of its entries.
-use Rattle.std.specs.Prelude.{ℕ, ◌&&◌, nat_lt, Bool, List, [], ◌∷◌, ◌++◌, map, flat_map, length, codes, option_to_list, if◌then◌else◌}
+use Rattle.std.specs.Prelude.{ℕ, ◌&&◌, nat_lt, List, [], ◌∷◌, ◌++◌, map, flat_map, length, codes, option_to_list, if◌then◌else◌}
 use Rattle.std.specs.List.{before_last, after_last}
 use Rattle.solv_base.specs.Dependency.{Dep}
 use Rattle.solv_base.specs.Evr.{is_dash}
 use Rattle.solv_deps.specs.Canonical.{text}
-use Rattle.solv_pool.specs.Written.{WrittenPackage, WrittenNeed}
+use Rattle.solv_pool.specs.Written.{WrittenPackage}
 use Rattle.solv_tags.specs.declared.tag.Tag.{Tag}
 use Rattle.solv_tags.specs.declared.tag.Tag.TheVariants.{Pkg, Prv, Req, Prq, Con, Obs, Rec, Sug, Sup, Enh, Vnd, Fls}
 use Rattle.solv_io.specs.JoinedWords.{joined}
@@ -36,17 +36,9 @@ tag_line letters text = codes "=" ++ (letters ++ (codes ": " ++ text))
 abbrev pub entry_line : Entry → List ℕ
 entry_line e = tag_line (letters_of e.tag) e.text
 
--- stands something before the last `-` of an EVR, and behind it?
-abbrev pub is_parted : List ℕ → Bool
-is_parted evr = nat_lt 0 (length (before_last is_dash evr)) && nat_lt 0 (length (after_last is_dash evr))
-
 -- the version and the release of an EVR: it is parted at its last `-`, where something stands on both sides; otherwise it stands whole, with the release `-`
 abbrev pub evr_words : List ℕ → List (List ℕ)
-evr_words evr = if is_parted evr then before_last is_dash evr ∷ after_last is_dash evr ∷ [] else evr ∷ codes "-" ∷ []
-
--- the entry that begins a package
-abbrev pub package_entry : WrittenPackage → Entry
-package_entry a = record { tag = Pkg; text = joined (a.name ∷ (evr_words a.evr ++ a.arch ∷ [])) }
+evr_words evr = if nat_lt 0 (length (before_last is_dash evr)) && nat_lt 0 (length (after_last is_dash evr)) then before_last is_dash evr ∷ after_last is_dash evr ∷ [] else evr ∷ codes "-" ∷ []
 
 -- an entry with a text as it stands
 abbrev pub text_entry : Tag → List ℕ → Entry
@@ -56,16 +48,12 @@ text_entry t text = record { tag = t; text = text }
 abbrev pub dep_entry : Tag → Dep (List ℕ) → Entry
 dep_entry t d = record { tag = t; text = text d }
 
--- a requirement
-abbrev pub need_entry : WrittenNeed → Entry
-need_entry need = dep_entry (if need.pre then Prq else Req) need.dep
-
 -- the entries of a package
 abbrev pub entries_of : WrittenPackage → List Entry
 entries_of a =
     map (text_entry Vnd) (option_to_list a.vendor)
     ++ (map (dep_entry Prv) a.provides
-    ++ (map need_entry a.requires_
+    ++ (map (λ need. dep_entry (if need.pre then Prq else Req) need.dep) a.requires_
     ++ (map (dep_entry Con) a.conflicts
     ++ (map (dep_entry Obs) a.obsoletes
     ++ (map (dep_entry Rec) a.recommends
@@ -76,7 +64,7 @@ entries_of a =
 
 -- the lines of a package
 abbrev pub package_lines : WrittenPackage → List (List ℕ)
-package_lines a = entry_line (package_entry a) ∷ map entry_line (entries_of a)
+package_lines a = entry_line (record { tag = Pkg; text = joined (a.name ∷ (evr_words a.evr ++ a.arch ∷ [])) }) ∷ map entry_line (entries_of a)
 
 -- the lines of packages
 abbrev pub tag_lines : List WrittenPackage → List (List ℕ)

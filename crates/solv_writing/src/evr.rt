@@ -2,7 +2,8 @@
 ghost use Rattle.std.specs.Prelude.{◌≡◌, ◌++◌, ◌∷◌, ◌<◌, ◌+◌, length, take, drop, flat_map, is_some, IfSome, OnOk};
 ghost use Rattle.std.specs.List.{list_any, before_last, after_last};
 ghost use Rattle.solv_base.specs.Evr.{is_dash};
-ghost use Rattle.solv_writing.specs.TagLines.{is_parted, evr_words};
+ghost use Rattle.solv_writing.specs.TagLines.{evr_words};
+ghost use Rattle.solv_writing.specs.Inner.LineNames.{is_parted};
 
 use std::alloc::AllocError;
 
