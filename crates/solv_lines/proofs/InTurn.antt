@@ -3,7 +3,7 @@ use Rattle.std.proofs.Common.{◌≡◌, ℕ, List, [], ◌∷◌, ◌++◌, ref
 use Rattle.std.specs.BTreeSet.{insert_key}
 use Rattle.std.specs.Cmp.Lexicographic.{slice_cmp}
 use Rattle.std.specs.Ordering.{nat_cmp}
-use Rattle.solv_lines.specs.LineSets.{with_lines}
+use Rattle.solv_lines.specs.Inner.LineNames.{with_lines}
 
 pub in_turn : (set xs ys : List (List ℕ)) → with_lines (with_lines set xs) ys ≡ with_lines set (xs ++ ys)
 in_turn set [] ys = refl

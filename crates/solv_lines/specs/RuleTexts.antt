@@ -8,7 +8,7 @@ use Rattle.solv_pool.specs.Catalog.{Catalog, catalog_of, members, dependency}
 use Rattle.solv_pool.specs.Holding.{package_meets}
 use Rattle.solv_pool.specs.PackageText.{package_text}
 use Rattle.solv_pool.specs.Parts.{parts}
-use Rattle.solv_pool.specs.RuleMeaning.{HardRule, not_installable, req, con, rich_con, obs, same, infarch, update, dup, feature, install, erase, lock, best_job, best_update}
+use Rattle.solv_pool.specs.RuleMeaning.{HardRule, not_installable, req, con, rich_con, obs, same, infarch, update, dup, feature, install, best_job, best_update}
 use Rattle.solv_pool.specs.declared.jobs.Choice.{Choice}
 use Rattle.solv_pool.specs.declared.jobs.Choice.TheVariants.{Name, Provides}
 use Rattle.solv_pool.specs.declared.tasks.Task.{Task}
@@ -47,15 +47,11 @@ abbrev pub conflicting_requests : List ℕ
 conflicting_requests = codes "conflicting requests"
 
 module _ (task : Task) where
-  -- the dependency by which the job of a number selects
-  abbrev pub dependency_of_job : ℕ → Option ℕ
-  dependency_of_job j = option_and_then (λ job. dependency_of job.choice) (slice_get task.jobs j)
-
   -- an install job that selects something; or one that selects nothing, by its dependency, if it has one
   abbrev pub install_text : ℕ → List ℕ → List ℕ
   install_text j xs =
       if length xs == 0
-      then option_map_or (λ d. codes "nothing provides requested " ++ asked (catalog_of task) d) (dependency_of_job j) conflicting_requests
+      then option_map_or (λ d. codes "nothing provides requested " ++ asked (catalog_of task) d) (option_and_then (λ job. dependency_of job.choice) (slice_get task.jobs j)) conflicting_requests
       else conflicting_requests
 
   -- the text of a rule
@@ -71,7 +67,6 @@ module _ (task : Task) where
   text_of_rule (dup p xs) = codes "problem with installed package " ++ named (catalog_of task) p
   text_of_rule (feature p xs) = codes "problem with installed package " ++ named (catalog_of task) p
   text_of_rule (install j xs) = install_text j xs
-  text_of_rule (erase j xs) = conflicting_requests
-  text_of_rule (lock j xs) = conflicting_requests
   text_of_rule (best_job j xs) = codes "cannot install the best candidate for the job"
   text_of_rule (best_update j p xs) = codes "cannot install the best update candidate for package " ++ named (catalog_of task) p
+  text_of_rule _ = conflicting_requests

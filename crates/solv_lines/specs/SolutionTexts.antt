@@ -3,7 +3,7 @@ use Rattle.std.specs.Prelude.{ℕ, Bool, not, ◌&&◌, List, [], ◌∷◌, ◌
 use Rattle.std.specs.List.{list_any}
 use Rattle.std.specs.Option.{option_map_or, is_some}
 use Rattle.solv_pool.specs.Catalog.{catalog_of}
-use Rattle.solv_pool.specs.RuleMeaning.{HardRule, not_installable, req, con, rich_con, obs, same, infarch, update, dup, feature, install, erase, lock, best_job, best_update}
+use Rattle.solv_pool.specs.RuleMeaning.{HardRule, infarch, update, dup, feature, install, erase, lock, best_job, best_update}
 use Rattle.solv_pool.specs.Words.{is_among}
 use Rattle.solv_pool.specs.declared.tasks.Task.{Task}
 use Rattle.solv_lines.specs.RuleTexts.{named, pair_text}
@@ -44,33 +44,19 @@ module _ (task : Task) (set : List ℕ) where
   abbrev pub staying_text : ℕ → List ℕ
   staying_text p = if is_among set p then codes "keep " ++ named (catalog_of task) p else codes "erase " ++ named (catalog_of task) p
 
-module _ (task : Task) (gone : List HardRule) (set : List ℕ) where
-  -- what is said where the rule on p's distribution upgrade is dropped; nothing beside p's feature rule, whose text is that of both
-  abbrev pub dup_text : ℕ → Option (List ℕ)
-  dup_text p = if has_feature gone p then None else Some (staying_text task set p)
-
 module _ (task : Task) (rules gone : List HardRule) (set : List ℕ) where
-  -- what is said where p's update rule is dropped; nothing beside p's feature rule, whose text is that of both
-  abbrev pub update_text : ℕ → Option (List ℕ)
-  update_text p = if has_feature gone p then None else Some (going_text task rules set p)
-
-  -- what is said of a dropped rule; nothing of one that may not be dropped
+  -- what is said of a dropped rule; nothing of one that may not be dropped, and of p's update rule, or that on its distribution upgrade, nothing beside p's feature rule, whose text is that of both
   abbrev pub element : HardRule → Option (List ℕ)
-  element (not_installable p) = None
-  element (req p d) = None
-  element (con p d q) = None
-  element (rich_con p d) = None
-  element (obs p d q) = None
-  element (same p q) = None
   element (infarch p) = Some (codes "allow " ++ named (catalog_of task) p)
-  element (update p xs) = update_text p
-  element (dup p xs) = dup_text task gone set p
+  element (update p xs) = if has_feature gone p then None else Some (going_text task rules set p)
+  element (dup p xs) = if has_feature gone p then None else Some (staying_text task set p)
   element (feature p xs) = Some (codes "erase " ++ named (catalog_of task) p)
   element (install j xs) = Some (codes "deljob " ++ job_text task j)
   element (erase j xs) = Some (codes "deljob " ++ job_text task j)
   element (lock j xs) = Some (codes "deljob " ++ job_text task j)
   element (best_job j xs) = Some (codes "dropbest " ++ job_text task j)
   element (best_update j p xs) = Some (codes "keepold " ++ named (catalog_of task) p)
+  element _ = None
 
 -- the texts of a solution that drops the rules at these places, in their order
 abbrev pub solution_texts : Task → List HardRule → List ℕ → List ℕ → List (List ℕ)

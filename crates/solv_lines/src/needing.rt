@@ -7,8 +7,9 @@ ghost use Rattle.solv_pool.specs.TaskBelonging.{IsClosed};
 ghost use Rattle.solv_pool.specs.Words.{is_among, when};
 ghost use Rattle.solv_prov.specs.Index.{IsIndexOf};
 ghost use Rattle.solv_clean.specs.Unneeded.{users as users_of, unneeded as unneeded_of};
-ghost use Rattle.solv_lines.specs.LineSets.{with_lines};
-ghost use Rattle.solv_lines.specs.ResultLines.{pack_line, user_word, unneeded_word, need_lines};
+ghost use Rattle.solv_lines.specs.Inner.LineNames.{with_lines};
+ghost use Rattle.solv_lines.specs.ResultLines.{pack_line, need_lines};
+ghost use Rattle.solv_lines.specs.Inner.LineNames.{user_word, unneeded_word};
 
 use crate::writing::write_package;
 use solv_clean::{unneeded, users};

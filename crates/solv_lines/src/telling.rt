@@ -5,7 +5,8 @@ ghost use Rattle.solv_pool.specs.Belonging.{IsOver};
 ghost use Rattle.solv_pool.specs.Catalog.{catalog_of, dependency};
 ghost use Rattle.solv_pool.specs.RuleMeaning.{not_installable, same, infarch, set_at, rule_with};
 ghost use Rattle.solv_prov.specs.Index.{IsIndexOf};
-ghost use Rattle.solv_lines.specs.RuleTexts.{named, asked, has_provider, requirement_text, dependency_of_job, install_text, text_of_rule};
+ghost use Rattle.solv_lines.specs.RuleTexts.{named, asked, has_provider, requirement_text, install_text, text_of_rule};
+ghost use Rattle.solv_lines.specs.Inner.LineNames.{dependency_of_job};
 ghost use Rattle.solv_lines.specs.Inner.RuleTexts.{rule_text_at};
 
 use crate::writing::{append_package, write_package, write_relation};

@@ -1,6 +1,6 @@
 use Rattle.std.proofs.Common.{◌≡◌, sym, subst}
 use Rattle.std.specs.Prelude.{OnOk}
-use Rattle.solv_lines.specs.LineSets.{with_lines}
+use Rattle.solv_lines.specs.Inner.LineNames.{with_lines}
 use Rattle.solv_lines.specs.Inner.ResultLines.{outcome_lines}
 use Rattle.solv_lines.specs.declared.outcomes.Outcome.{Outcome}
 use Rattle.solv_lines.proofs.results.put_outcome.Goals as goal
