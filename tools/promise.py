@@ -10,7 +10,7 @@
 
 The promise of a program counts with the contracts of the traits through which it meets files and sinks. A public law is a
 public function of a module `laws` that does nothing (LAW_MODULES names one more module); one that calls other laws says how
-layers fit each other, and is not counted, but for those on the checker of proofs.
+layers fit each other, and is not counted, but for those on the checker of proofs and on what a run prints.
 
 Each definition counts by itself, also in a block of some that share their parameters; those of a block `mutual` count
 together. Constructors of `data` are names of their type; the fields of a record are no definitions. It reads the files as
@@ -47,8 +47,8 @@ TRAITS = (("solv_io", "fetching", "Files"), ("solv_io", "writing", "Sink"))
 PROGRAMS = ("run", "proofcheck")
 # modules with public laws beside those whose name ends with `laws`
 LAW_MODULES = (("solv_graph", "reaching"),)
-# crates whose laws are promised although they call others: what the checker of proofs says, and what a maintainer relies on
-CALLING = ("solv_verdicts", "solv_proof_run", "solv_laws")
+# crates whose laws are promised although they call others: what the checker of proofs says, what a maintainer relies on, and that what a run prints is read back
+CALLING = ("solv_verdicts", "solv_proof_run", "solv_laws", "solv_run")
 ROOT = pathlib.Path(__file__).resolve().parent.parent
 WORD = re.compile(r"[^\s(){}\[\],;]+")
 USE = re.compile(r"^(\s*)(?:pub )?(?:ghost )?use Rattle\.([^\s{]+?)(?:\.\{(.*)\})?(?: as (\S+?))?;?$")

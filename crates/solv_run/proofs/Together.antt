@@ -65,3 +65,12 @@ pub one_answer : (budget : ℕ) (task : Task) (answer : Answer) (ledger : Ledger
 one_answer budget task (Transaction trail set made ordered) ledger good = then_next budget task [] (Transaction trail set made ordered) ledger [] [] good refl (all_answered (budget - length ledger.entries))
 one_answer budget task (Problems left problems) ledger good = then_next budget task [] (Problems left problems) ledger [] [] good refl (all_answered (budget - length ledger.entries))
 one_answer budget task Spent ledger good = one_spent budget task [] ledger good
+
+-- one task at most has its answer
+pub its_answer : (budget : ℕ) (tasks : List Task) (answers : List Answer) (ledgers : List Ledger) → AreAnswers budget tasks answers ledgers → length tasks ≤ 1 → length answers ≡ length tasks
+its_answer budget tasks answers ledgers (all_answered b) few = refl
+its_answer budget tasks answers ledgers (one_spent b task [] ledger good) few = refl
+its_answer budget tasks answers ledgers (one_spent b task (next ∷ later) ledger good) few = absurd (omega (arith, few))
+its_answer budget tasks answers ledgers (then_next b task [] answer ledger others kept good unspent are) few =
+    ap suc (its_answer (b - length ledger.entries) [] others kept are (omega arith))
+its_answer budget tasks answers ledgers (then_next b task (next ∷ later) answer ledger others kept good unspent are) few = absurd (omega (arith, few))

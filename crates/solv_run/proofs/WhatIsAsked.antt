@@ -2,7 +2,7 @@
 use Rattle.std.proofs.Common.{◌≡◌, true, false, refl}
 use Rattle.solv_words.specs.declared.command_line.Output.{Output}
 use Rattle.solv_words.specs.declared.command_line.Output.TheVariants.{Lines, Proofs, Script}
-use Rattle.solv_run.specs.Cases.{asks_answers}
+use Rattle.solv_run.specs.Inner.ByOutput.{asks_answers}
 use Rattle.solv_run.specs.Inner.Rounds.{prints_lines}
 
 pub lines_are_asked : (o : Output) → prints_lines o ≡ true → o ≡ Lines

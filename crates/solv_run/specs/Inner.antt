@@ -1,4 +1,5 @@
 -- Words of contracts between layers, and what holds inside.
+pub mod ByOutput
 pub mod Outcomes
 pub mod Phases
 pub mod Proofs

@@ -14,7 +14,6 @@ use Rattle.solv_answers.specs.Answers.{is_spent, made_rules}
 use Rattle.solv_answers.specs.declared.answers.Answer.{Answer}
 use Rattle.solv_answers.specs.declared.answers.Answer.TheVariants.{Transaction, Problems, Spent}
 use Rattle.solv_remedy.specs.declared.problems.Problem.{Problem}
-use Rattle.solv_remedy.specs.declared.problems.Solution.{Solution}
 use Rattle.solv_lines.specs.Comparing.{missing_lines}
 use Rattle.solv_lines.specs.LineSets.{line_set}
 use Rattle.solv_lines.specs.ResultLines.{solution_line, solved_lines}
@@ -28,17 +27,11 @@ module _ (task : Task) (rules : List HardRule) where
   abbrev pub rule_text : ℕ → List ℕ
   rule_text number = option_map_or (text_of_rule task) (slice_get rules number) []
 
-  -- the line of a rule that the problem of a number lists
-  abbrev pub info_line : ℕ → ℕ → List ℕ
-  info_line problem rule = codes "problem " ++ (decimal problem ++ (codes " info " ++ rule_text rule))
-
-  -- the lines of the solution of a number, of the problem of a number: one for each thing that it does
-  abbrev pub solution_lines : ℕ → ℕ → Solution → List (List ℕ)
-  solution_lines problem number solution = map (solution_line problem number) (solution_texts task rules solution.dropped solution.set)
-
-  -- those of a problem: of the rules that it lists, and of its solutions, which are numbered from 1
+  -- the lines of a problem: of the rules that it lists, and of its solutions, which are numbered from 1, one for each thing that a solution does
   abbrev pub problem_lines : ℕ → Problem → List (List ℕ)
-  problem_lines number problem = map (info_line number) problem.rules ++ flat_map (λ x. solution_lines number x.0 x.1) (enumerate_from 1 problem.solutions)
+  problem_lines number problem =
+      map (λ rule. codes "problem " ++ (decimal number ++ (codes " info " ++ rule_text rule))) problem.rules
+      ++ flat_map (λ x. map (solution_line number x.0) (solution_texts task rules x.1.dropped x.1.set)) (enumerate_from 1 problem.solutions)
 
   -- the lines of problems, which are numbered from 1, where they are asked for
   abbrev pub problems_lines : Kinds → List Problem → List (List ℕ)
@@ -75,13 +68,9 @@ are_as_wanted turns answers = list_all (λ x. is_as_wanted x.0 x.1) (zip turns a
 abbrev pub round_lines : Bool → Turn → Answer → List (List ℕ)
 round_lines shows turn answer = when (shows || is_none turn.wanted) (told_lines turn answer) ++ differences turn answer
 
--- those of a round behind another
-abbrev pub next_lines : Bool → Turn → Answer → List (List ℕ)
-next_lines shows turn answer = codes "nextjob" ∷ round_lines shows turn answer
-
 -- the lines of the rounds that have answers, with `nextjob` between two
 abbrev pub rounds_lines : Bool → List Turn → List Answer → List (List ℕ)
-rounds_lines shows (turn ∷ turns) (answer ∷ answers) = round_lines shows turn answer ++ flat_map (λ x. next_lines shows x.0 x.1) (zip turns answers)
+rounds_lines shows (turn ∷ turns) (answer ∷ answers) = round_lines shows turn answer ++ flat_map (λ x. codes "nextjob" ∷ round_lines shows x.0 x.1) (zip turns answers)
 rounds_lines shows turns answers = []
 
 -- what is printed: the comparisons that are false, and the lines of the rounds that were begun

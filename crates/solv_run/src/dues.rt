@@ -1,6 +1,7 @@
 //! What a run comes to.
 ghost use Rattle.std.specs.Prelude.{◌≡◌, ◌&&◌, ◌∷◌, ◌++◌, [], Bool, IfOk, OnOk};
-ghost use Rattle.solv_run.specs.Cases.{nothing_reached, one_reached};
+ghost use Rattle.solv_run.specs.Cases.{nothing_reached};
+ghost use Rattle.solv_run.specs.Inner.ByOutput.{one_reached};
 ghost use Rattle.solv_run.specs.Dues.{status_of};
 ghost use Rattle.solv_run.specs.Inner.Phases.{concluded};
 

@@ -10,7 +10,7 @@ ghost use Rattle.solv_rules.specs.Books.{first_fault, read_rules};
 ghost use Rattle.solv_answers.specs.Answers.{is_transaction, left_of, made_rules};
 ghost use Rattle.solv_script.specs.Rounds.{tasks};
 ghost use Rattle.solv_words.specs.declared.command_line.Output.TheVariants as output;
-ghost use Rattle.solv_run.specs.Cases.{IsDueFor, asks_answers};
+ghost use Rattle.solv_run.specs.Inner.ByOutput.{IsDueForScript, asks_answers};
 ghost use Rattle.solv_run.specs.Rounds.{IsGoodAnswer};
 
 use crate::dues::Conclusion;
@@ -37,7 +37,7 @@ fn answer_due(
     requires good { IsGoodAnswer script.now.task command.now.budget given.answered.answer given.answered.ledger }
     requires rules { is_transaction given.answered.answer ≡ false → read_rules given.book.rules ≡ made_rules script.now.task (left_of given.answered.answer) }
     requires fits { first_fault (catalog_of script.now.task) 0 (hard_rules script.now.task) ≡ None }
-    ensures { IfOk result (λ conclusion. IsDueFor command.now script.now conclusion.due conclusion.reached) }
+    ensures { IfOk result (λ conclusion. IsDueForScript command.now script.now conclusion.due conclusion.reached) }
 {
     let mut begun = none_begun(alloc, command.budget);
     let (answered, book) = given.parts();
@@ -67,7 +67,7 @@ pub(crate) fn lean_due(
     requires forms { All HasForms (tasks script.now) }
     requires index { IsIndexOf prov.now (catalog_of script.now.task) }
     requires budget { command.now.budget ≤ 1000000 }
-    ensures { IfOk result (λ due. IfSome due (λ conclusion. IsDueFor command.now script.now conclusion.due conclusion.reached)) }
+    ensures { IfOk result (λ due. IfSome due (λ conclusion. IsDueForScript command.now script.now conclusion.due conclusion.reached)) }
 {
     if !prints_lines(command.output) || !script.later.is_empty() {
         return Ok(None);

@@ -1,6 +1,6 @@
 //! What is asked for.
 ghost use Rattle.std.specs.Prelude.{◌≡◌};
-ghost use Rattle.solv_run.specs.Cases.{asks_answers};
+ghost use Rattle.solv_run.specs.Inner.ByOutput.{asks_answers};
 ghost use Rattle.solv_run.specs.Inner.Rounds.{prints_lines};
 
 use solv_words::Output;

@@ -12,8 +12,8 @@ ghost use Rattle.solv_answers.specs.Inner.Fronts.{MayGoOn};
 ghost use Rattle.solv_script.specs.Rounds.{tasks, turns};
 ghost use Rattle.solv_script.specs.Inner.Turns.{first_turn};
 ghost use Rattle.solv_words.specs.declared.command_line.Output.TheVariants as output;
-ghost use Rattle.solv_run.specs.Cases.{IsDueFor, asks_answers, nothing_reached};
-ghost use Rattle.solv_run.specs.Dues.{answers_due, answers_status};
+ghost use Rattle.solv_run.specs.Cases.{nothing_reached};
+ghost use Rattle.solv_run.specs.Inner.ByOutput.{IsDueForScript, asks_answers, answers_due, answers_status};
 ghost use Rattle.solv_run.specs.Inner.Rounds.{AreAll};
 ghost use Rattle.solv_run.specs.Texts.{printed};
 
@@ -94,7 +94,7 @@ pub(crate) fn answers_concluded(
     requires plain { command.now.output ≡ output.Lines }
     requires fits { first_limit (tasks script.now) ≡ None }
     requires all { AreAll command.now (tasks script.now) (turns script.now) begun }
-    ensures { IfOk result (λ conclusion. IsDueFor command.now script.now conclusion.due conclusion.reached) }
+    ensures { IfOk result (λ conclusion. IsDueForScript command.now script.now conclusion.due conclusion.reached) }
 {
     let due = answers_due(alloc, command, script, &begun)?;
     Ok(Conclusion {
@@ -113,7 +113,7 @@ fn proofs_concluded(
     requires asked { command.now.output ≡ output.Proofs }
     requires fits { first_limit (tasks script.now) ≡ None }
     requires all { AreAll command.now (tasks script.now) (turns script.now) begun }
-    ensures { IfOk result (λ conclusion. IsDueFor command.now script.now conclusion.due conclusion.reached) }
+    ensures { IfOk result (λ conclusion. IsDueForScript command.now script.now conclusion.due conclusion.reached) }
 {
     let due = proofs_due(alloc, command.budget, script, begun.spent, &begun.reached)?;
     Ok(Conclusion {
@@ -132,7 +132,7 @@ fn passed_due(
     requires asks { asks_answers command.now.output ≡ true }
     requires closed { IsClosed script.now.task }
     requires passed { first_limit (tasks script.now) ≡ Some fault }
-    ensures { IfOk result (λ conclusion. IsDueFor command.now script.now conclusion.due conclusion.reached) }
+    ensures { IfOk result (λ conclusion. IsDueForScript command.now script.now conclusion.due conclusion.reached) }
 {
     let due = limit_due(alloc, PROGRAM, &script.task, fault)?;
     Ok(unanswered(alloc, due))
@@ -148,7 +148,7 @@ fn concluded(
     requires asks { asks_answers command.now.output ≡ true }
     requires fits { first_limit (tasks script.now) ≡ None }
     requires all { AreAll command.now (tasks script.now) (turns script.now) begun }
-    ensures { IfOk result (λ conclusion. IsDueFor command.now script.now conclusion.due conclusion.reached) }
+    ensures { IfOk result (λ conclusion. IsDueForScript command.now script.now conclusion.due conclusion.reached) }
 {
     if prints_lines(command.output) {
         answers_concluded(alloc, command, script, begun)
@@ -186,7 +186,7 @@ fn rounds_due(
     requires first { IsPrepared script.old.task first }
     requires goes_on { MayGoOn (catalog_of script.old.task) first }
     requires budget { command.now.budget ≤ 1000000 }
-    ensures { IfOk result (λ conclusion. IsDueFor command.now script.old conclusion.due conclusion.reached) }
+    ensures { IfOk result (λ conclusion. IsDueForScript command.now script.old conclusion.due conclusion.reached) }
 {
     let mut begun = none_begun(alloc, command.budget);
     let first = answer_with(alloc, command, script, first, &mut begun)?;
@@ -209,7 +209,7 @@ fn whole_due(
     requires forms { All HasForms (tasks script.old) }
     requires index { IsIndexOf prov.now (catalog_of script.old.task) }
     requires budget { command.now.budget ≤ 1000000 }
-    ensures { IfOk result (λ conclusion. IsDueFor command.now script.old conclusion.due conclusion.reached) }
+    ensures { IfOk result (λ conclusion. IsDueForScript command.now script.old conclusion.due conclusion.reached) }
 {
     match prepare_first(alloc, &script.task, prov) {
         Ok(first) => rounds_due(alloc, command, script, first),
@@ -228,7 +228,7 @@ fn solved_due(
     requires closed { All IsClosed (tasks script.old) }
     requires forms { All HasForms (tasks script.old) }
     requires budget { command.now.budget ≤ 1000000 }
-    ensures { IfOk result (λ conclusion. IsDueFor command.now script.old conclusion.due conclusion.reached) }
+    ensures { IfOk result (λ conclusion. IsDueForScript command.now script.old conclusion.due conclusion.reached) }
 {
     let prov = Providers::build(alloc, &script.task)?;
     match lean_due(alloc, command, script, &prov)? {
@@ -248,7 +248,7 @@ fn close_pool(script: &mut Script)
 fn written_due(alloc: Global, command: &Command, script: &Script) -> Result<Conclusion, AllocError>
     requires asked { command.now.output ≡ output.Script }
     requires closed { All IsClosed (tasks script.now) }
-    ensures { IfOk result (λ conclusion. IsDueFor command.now script.now conclusion.due conclusion.reached) }
+    ensures { IfOk result (λ conclusion. IsDueForScript command.now script.now conclusion.due conclusion.reached) }
 {
     let _ = command;
     let due = Due {
@@ -268,7 +268,7 @@ pub(crate) fn script_due(
     requires closed { All IsClosed (tasks script.old) }
     requires forms { All HasForms (tasks script.old) }
     requires budget { command.now.budget ≤ 1000000 }
-    ensures { IfOk result (λ conclusion. IsDueFor command.now script.old conclusion.due conclusion.reached) }
+    ensures { IfOk result (λ conclusion. IsDueForScript command.now script.old conclusion.due conclusion.reached) }
 {
     if asks_answers(command.output) {
         close_pool(script);

@@ -12,13 +12,17 @@ use Rattle.solv_words.specs.declared.command_line.Command.{Command}
 use Rattle.solv_words.specs.declared.command_line.Output.{Output}
 use Rattle.solv_words.specs.declared.command_line.Output.TheVariants as output
 use Rattle.solv_run.specs.Rounds.{AreAnswers, IsGoodAnswer, some_spent}
-use Rattle.solv_run.specs.Texts.{are_as_wanted, is_as_wanted, next_lines, round_lines, rounds_lines}
+use Rattle.solv_run.specs.Texts.{are_as_wanted, is_as_wanted, round_lines, rounds_lines}
 use Rattle.solv_run.specs.declared.rounds.Begun.{Begun}
 
 -- are lines asked for?
 abbrev pub prints_lines : Output → Bool
 prints_lines output.Lines = true
 prints_lines o = false
+
+-- the lines of a round behind another
+abbrev pub next_lines : Bool → Turn → Answer → List (List ℕ)
+next_lines shows turn answer = codes "nextjob" ∷ round_lines shows turn answer
 
 -- the lines of rounds behind another
 abbrev pub later_lines : Command → List Turn → List Answer → List (List ℕ)

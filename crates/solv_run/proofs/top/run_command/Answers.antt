@@ -12,7 +12,7 @@ returns-clause-run g c = ok_map _ _ c.reported.result (λ report h. run_of _ _ r
 
 pub returns-clause-explained : goal.returns-clause-explained
 returns-clause-explained g c =
-    ok_map _ _ c.reported.result (λ report h. explained c.each_script_is_read_back.ensures _ _ report _ _ (run_of _ _ report _ _ c.in_ok-conclusion.conclusion c.in_ok-conclusion.ensures.due h)) c.reported.ensures.reported
+    ok_map _ _ c.reported.result (λ report h. explained _ _ report _ _ (run_of _ _ report _ _ c.in_ok-conclusion.conclusion c.in_ok-conclusion.ensures.due h)) c.reported.ensures.reported
 
 pub returns-clause-wanting : goal.returns-clause-wanting
 returns-clause-wanting g c = if_wanting _ c.reported.result (asked_by_due _ _ c.in_ok-conclusion.conclusion.due c.in_ok-conclusion.conclusion.reached c.in_ok-conclusion.ensures.due)
