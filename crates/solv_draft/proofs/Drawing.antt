@@ -44,7 +44,8 @@ use Rattle.solv_commands.specs.declared.flags_of_jobs.JobFlags.{JobFlags}
 use Rattle.solv_pool.specs.declared.jobs.Action.{Action}
 use Rattle.solv_pool.specs.Written as written
 use Rattle.solv_script.specs.LineCauses.{cause_of_text}
-use Rattle.solv_script.specs.Rows.{Chosen, and_then, by_dependency, chosen, job_row, or_text_cause, with_repo, with_namespace}
+use Rattle.solv_script.specs.Rows.{Chosen, by_dependency, chosen, job_row, or_text_cause, with_repo, with_namespace}
+use Rattle.solv_commands.specs.Commands.{and_then}
 use Rattle.solv_script.specs.States.{State}
 use Rattle.solv_script.proofs.Finding.{place_is}
 use Rattle.solv_script.proofs.NamespaceLists.{namespaces_with, packages_fit}
