@@ -21,7 +21,8 @@ use Rattle.solv_script.specs.Grammar.{Bad, script_read}
 use Rattle.solv_script.specs.GrownTasks.{HasAll, GrownTextIsRead, asks_by_name, asks, grown_names}
 use Rattle.solv_script.specs.Reads.{WrittenRound, WrittenScript}
 use Rattle.solv_script.specs.ScriptsOf.{IsScriptOf}
-use Rattle.solv_script.specs.States.{State, in_hand, script_given, with_rounds}
+use Rattle.solv_script.specs.States.{State, script_given, with_rounds}
+use Rattle.solv_script.specs.Inner.LineParts.{in_hand}
 use Rattle.solv_script.specs.declared.scripts.Script.{Script}
 use Rattle.solv_script.proofs.GrownTasks.{all_there}
 use Rattle.solv_script.proofs.GrownTexts.{first_are}
