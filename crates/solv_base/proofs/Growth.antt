@@ -3,7 +3,7 @@ use Rattle.std.proofs.Common.{◌≡◌, ℕ, zero, suc, ◌<◌, Bool, true, �
 use Rattle.std.specs.Prelude.{slice_get, nat_lt, unwrap_or}
 use Rattle.std.specs.List.{list_all}
 use borrow.Author.Tests.{ltb-true}
-use Rattle.solv_base.specs.Dependency.{Dep, and, or, with, without, if_then, if_else, unless, unless_else, tree, tree_of_node, map_dep, names_in, operands, IsWellFounded}
+use Rattle.solv_base.specs.Dependency.{Dep, and, or, with, without, if_holds, unless_holds, joined, under, under_else, tree, tree_of_node, map_dep, names_in, operands, IsWellFounded}
 use Rattle.solv_base.specs.Pool.{Held, HoldsNames, Grows, text_at, text_tree}
 use Rattle.solv_base.specs.Inner.Pool.{text_tree_of_node}
 use Rattle.solv_base.specs.declared.relation.DepNode.{DepNode}
@@ -46,14 +46,14 @@ module _ (f g : ℕ → List ℕ) (at bt : ℕ → Dep (List ℕ)) (low small : 
   same-node (Simple n) p q = rw (texts n (first_of_both (low n) true p)) refl
   same-node (Versioned n c e) p q = rw (texts n (first_of_both (low n) (low e && true) p), texts e (first_of_both (low e) true (second_of_both (low n) (low e && true) p))) refl
   same-node (Namespace n) p q = rw (texts n (first_of_both (low n) true p)) refl
-  same-node (And a b) p q = two and a b q
-  same-node (Or a b) p q = two or a b q
-  same-node (With a b) p q = two with a b q
-  same-node (Without a b) p q = two without a b q
-  same-node (If a b) p q = two if_then a b q
-  same-node (Unless a b) p q = two unless a b q
-  same-node (IfElse a b c) p q = three if_else a b c q
-  same-node (UnlessElse a b c) p q = three unless_else a b c q
+  same-node (And a b) p q = two (joined and) a b q
+  same-node (Or a b) p q = two (joined or) a b q
+  same-node (With a b) p q = two (joined with) a b q
+  same-node (Without a b) p q = two (joined without) a b q
+  same-node (If a b) p q = two (under if_holds) a b q
+  same-node (Unless a b) p q = two (under unless_holds) a b q
+  same-node (IfElse a b c) p q = three (under_else if_holds) a b c q
+  same-node (UnlessElse a b c) p q = three (under_else unless_holds) a b c q
 
 module _ (old new : Held) (held : HoldsNames old) (falls : IsWellFounded old.nodes) (falls' : IsWellFounded new.nodes)
     (texts : (n : ℕ) → n < length old.names → text_at new n ≡ text_at old n)

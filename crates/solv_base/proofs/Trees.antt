@@ -3,7 +3,7 @@ use Rattle.std.proofs.Common.{◌≡◌, ℕ, zero, suc, ◌<◌, Bool, true, �
 use Rattle.std.specs.Prelude.{slice_get, nat_lt, unwrap_or, option_map}
 use Rattle.std.specs.List.{list_all}
 use borrow.Author.Tests.{ltb-true}
-use Rattle.solv_base.specs.Dependency.{Dep, and, or, with, without, if_then, if_else, unless, unless_else, missing, tree_of_node, tree_within, tree, operands, IsWellFounded, capability_of_node}
+use Rattle.solv_base.specs.Dependency.{Dep, and, or, with, without, if_holds, unless_holds, joined, under, under_else, missing, tree_of_node, tree_within, tree, operands, IsWellFounded, capability_of_node}
 use Rattle.solv_base.specs.declared.relation.DepNode.{DepNode}
 use Rattle.solv_base.specs.declared.relation.DepNode.TheVariants.{Simple, Versioned, Namespace, And, Or, With, Without, If, IfElse, Unless, UnlessElse}
 use Rattle.solv_list.proofs.Booleans.{first_of_both, second_of_both}
@@ -25,14 +25,14 @@ module _ (at bt : ℕ → Dep ℕ) (small : ℕ → Bool) (same : (o : ℕ) → 
   same-node (Simple n) h = refl
   same-node (Versioned n c e) h = refl
   same-node (Namespace n) h = refl
-  same-node (And a b) h = two and a b h
-  same-node (Or a b) h = two or a b h
-  same-node (With a b) h = two with a b h
-  same-node (Without a b) h = two without a b h
-  same-node (If a b) h = two if_then a b h
-  same-node (Unless a b) h = two unless a b h
-  same-node (IfElse a b c) h = three if_else a b c h
-  same-node (UnlessElse a b c) h = three unless_else a b c h
+  same-node (And a b) h = two (joined and) a b h
+  same-node (Or a b) h = two (joined or) a b h
+  same-node (With a b) h = two (joined with) a b h
+  same-node (Without a b) h = two (joined without) a b h
+  same-node (If a b) h = two (under if_holds) a b h
+  same-node (Unless a b) h = two (under unless_holds) a b h
+  same-node (IfElse a b c) h = three (under_else if_holds) a b c h
+  same-node (UnlessElse a b c) h = three (under_else unless_holds) a b c h
 
 -- enough depth, and relations that are the same below n, give the same tree
 pub same-tree : (xs ys : List DepNode) (n : ℕ) → ((k : ℕ) → k < n → slice_get xs k ≡ slice_get ys k) → IsWellFounded xs
@@ -63,12 +63,4 @@ tree-is nodes falls id node e =
 pub no_capability : (node : DepNode) → ((n : ℕ) → node ≡ Simple n → ⊥) → ((n : ℕ) (c : Cmp) (e : ℕ) → node ≡ Versioned n c e → ⊥) → capability_of_node node ≡ None
 no_capability (Simple n) h k = absurd (h n refl)
 no_capability (Versioned n c e) h k = absurd (k n c e refl)
-no_capability (Namespace n) h k = refl
-no_capability (And a b) h k = refl
-no_capability (Or a b) h k = refl
-no_capability (With a b) h k = refl
-no_capability (Without a b) h k = refl
-no_capability (If a b) h k = refl
-no_capability (Unless a b) h k = refl
-no_capability (IfElse a b c) h k = refl
-no_capability (UnlessElse a b c) h k = refl
+no_capability node h k = refl

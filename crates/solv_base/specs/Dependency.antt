@@ -10,12 +10,21 @@ pub data Capability (N : Type 0) : Type 0 where
   plain : N → Capability N
   versioned : N → Cmp → N → Capability N
 
--- a dependency: `&`, `|`, `+`, `-`, `<IF>`, `<UNLESS>`, and the two last with `<ELSE>`; `missing` stands for an id that is none
+-- how two dependencies are joined: `&`, `|`, `+`, `-`
+pub data Connective : Type 0 where
+  and or with without : Connective
+
+-- when a dependency counts: `<IF>`, `<UNLESS>`
+pub data Condition : Type 0 where
+  if_holds unless_holds : Condition
+
+-- a dependency; with `<ELSE>` another one counts where it does not; `missing` stands for an id that is none
 pub data Dep (N : Type 0) : Type 0 where
   one : Capability N → Dep N
   namespace : N → Dep N
-  and or with without if_then unless : Dep N → Dep N → Dep N
-  if_else unless_else : Dep N → Dep N → Dep N → Dep N
+  joined : Connective → Dep N → Dep N → Dep N
+  under : Condition → Dep N → Dep N → Dep N
+  under_else : Condition → Dep N → Dep N → Dep N → Dep N
   missing : Dep N
 
 -- a node as a tree, its operands being read by `at`
@@ -23,14 +32,14 @@ abbrev pub tree_of_node : (ℕ → Dep ℕ) → DepNode → Dep ℕ
 tree_of_node at (Simple n) = one (plain n)
 tree_of_node at (Versioned n c e) = one (versioned n c e)
 tree_of_node at (Namespace n) = namespace n
-tree_of_node at (And a b) = and (at a) (at b)
-tree_of_node at (Or a b) = or (at a) (at b)
-tree_of_node at (With a b) = with (at a) (at b)
-tree_of_node at (Without a b) = without (at a) (at b)
-tree_of_node at (If a b) = if_then (at a) (at b)
-tree_of_node at (IfElse a b c) = if_else (at a) (at b) (at c)
-tree_of_node at (Unless a b) = unless (at a) (at b)
-tree_of_node at (UnlessElse a b c) = unless_else (at a) (at b) (at c)
+tree_of_node at (And a b) = joined and (at a) (at b)
+tree_of_node at (Or a b) = joined or (at a) (at b)
+tree_of_node at (With a b) = joined with (at a) (at b)
+tree_of_node at (Without a b) = joined without (at a) (at b)
+tree_of_node at (If a b) = under if_holds (at a) (at b)
+tree_of_node at (IfElse a b c) = under_else if_holds (at a) (at b) (at c)
+tree_of_node at (Unless a b) = under unless_holds (at a) (at b)
+tree_of_node at (UnlessElse a b c) = under_else unless_holds (at a) (at b) (at c)
 
 -- the tree of an id, read to a depth
 abbrev pub tree_within : List DepNode → ℕ → ℕ → Dep ℕ
@@ -54,29 +63,17 @@ capability nodes id = unwrap_or (option_map capability_of_node (slice_get nodes 
 abbrev pub package_wise : {N : Type 0} → Dep N → Bool
 package_wise (one c) = true
 package_wise (namespace n) = true
-package_wise (or a b) = package_wise a && package_wise b
-package_wise (with a b) = package_wise a && package_wise b
-package_wise (without a b) = package_wise a && package_wise b
-package_wise (and a b) = false
-package_wise (if_then a b) = false
-package_wise (if_else a b c) = false
-package_wise (unless a b) = false
-package_wise (unless_else a b c) = false
-package_wise missing = false
+package_wise (joined and a b) = false
+package_wise (joined j a b) = package_wise a && package_wise b
+package_wise d = false
 
 -- no id in it was none
 abbrev pub is_whole : {N : Type 0} → Dep N → Bool
-is_whole (one c) = true
-is_whole (namespace n) = true
-is_whole (and a b) = is_whole a && is_whole b
-is_whole (or a b) = is_whole a && is_whole b
-is_whole (with a b) = is_whole a && is_whole b
-is_whole (without a b) = is_whole a && is_whole b
-is_whole (if_then a b) = is_whole a && is_whole b
-is_whole (unless a b) = is_whole a && is_whole b
-is_whole (if_else a b c) = is_whole a && (is_whole b && is_whole c)
-is_whole (unless_else a b c) = is_whole a && (is_whole b && is_whole c)
+is_whole (joined j a b) = is_whole a && is_whole b
+is_whole (under k a b) = is_whole a && is_whole b
+is_whole (under_else k a b c) = is_whole a && (is_whole b && is_whole c)
 is_whole missing = false
+is_whole d = true
 
 abbrev pub map_capability : {N M : Type 0} → (N → M) → Capability N → Capability M
 map_capability f (plain n) = plain (f n)
@@ -86,14 +83,9 @@ map_capability f (versioned n c e) = versioned (f n) c (f e)
 abbrev pub map_dep : {N M : Type 0} → (N → M) → Dep N → Dep M
 map_dep f (one c) = one (map_capability f c)
 map_dep f (namespace n) = namespace (f n)
-map_dep f (and a b) = and (map_dep f a) (map_dep f b)
-map_dep f (or a b) = or (map_dep f a) (map_dep f b)
-map_dep f (with a b) = with (map_dep f a) (map_dep f b)
-map_dep f (without a b) = without (map_dep f a) (map_dep f b)
-map_dep f (if_then a b) = if_then (map_dep f a) (map_dep f b)
-map_dep f (unless a b) = unless (map_dep f a) (map_dep f b)
-map_dep f (if_else a b c) = if_else (map_dep f a) (map_dep f b) (map_dep f c)
-map_dep f (unless_else a b c) = unless_else (map_dep f a) (map_dep f b) (map_dep f c)
+map_dep f (joined j a b) = joined j (map_dep f a) (map_dep f b)
+map_dep f (under k a b) = under k (map_dep f a) (map_dep f b)
+map_dep f (under_else k a b c) = under_else k (map_dep f a) (map_dep f b) (map_dep f c)
 map_dep f missing = missing
 
 -- the names and EVRs of a node
@@ -101,28 +93,19 @@ abbrev pub names_in : DepNode → List ℕ
 names_in (Simple n) = n ∷ []
 names_in (Versioned n c e) = n ∷ e ∷ []
 names_in (Namespace n) = n ∷ []
-names_in (And a b) = []
-names_in (Or a b) = []
-names_in (With a b) = []
-names_in (Without a b) = []
-names_in (If a b) = []
-names_in (IfElse a b c) = []
-names_in (Unless a b) = []
-names_in (UnlessElse a b c) = []
+names_in node = []
 
 -- the operands of a node
 abbrev pub operands : DepNode → List ℕ
-operands (Simple n) = []
-operands (Versioned n c e) = []
-operands (Namespace n) = []
 operands (And a b) = a ∷ b ∷ []
 operands (Or a b) = a ∷ b ∷ []
 operands (With a b) = a ∷ b ∷ []
 operands (Without a b) = a ∷ b ∷ []
 operands (If a b) = a ∷ b ∷ []
-operands (IfElse a b c) = a ∷ b ∷ c ∷ []
 operands (Unless a b) = a ∷ b ∷ []
+operands (IfElse a b c) = a ∷ b ∷ c ∷ []
 operands (UnlessElse a b c) = a ∷ b ∷ c ∷ []
+operands node = []
 
 -- each operand of a node has a smaller id
 abbrev pub IsWellFounded : List DepNode → Type 0
@@ -130,14 +113,7 @@ IsWellFounded nodes = (id : ℕ) (node : DepNode) → slice_get nodes id ≡ Som
 
 -- how many operators stand in it; `<ELSE>` is one
 abbrev pub operators : {N : Type 0} → Dep N → ℕ
-operators (one c) = 0
-operators (namespace n) = 0
-operators (and a b) = operators a + operators b + 1
-operators (or a b) = operators a + operators b + 1
-operators (with a b) = operators a + operators b + 1
-operators (without a b) = operators a + operators b + 1
-operators (if_then a b) = operators a + operators b + 1
-operators (unless a b) = operators a + operators b + 1
-operators (if_else a b c) = operators a + operators b + operators c + 2
-operators (unless_else a b c) = operators a + operators b + operators c + 2
-operators missing = 0
+operators (joined j a b) = operators a + operators b + 1
+operators (under k a b) = operators a + operators b + 1
+operators (under_else k a b c) = operators a + operators b + operators c + 2
+operators d = 0

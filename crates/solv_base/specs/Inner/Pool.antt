@@ -3,7 +3,7 @@ use Rattle.std.specs.Prelude.{ℕ, Bool, ◌&&◌, List, [], ◌∷◌, ◌++◌
 use Rattle.std.specs.List.{list_all, list_any, position_or_len}
 use Rattle.solv_base.specs.contracts.relation.DepNodePartialEq.TheImpl.{eq-value}
 use Rattle.solv_base.specs.declared.relation.DepNode.{DepNode}
-use Rattle.solv_base.specs.Dependency.{Dep, plain, versioned, one, namespace, and, or, with, without, if_then, if_else, unless, unless_else, names_in, operands}
+use Rattle.solv_base.specs.Dependency.{Dep, plain, versioned, one, namespace, and, or, with, without, if_holds, unless_holds, joined, under, under_else, names_in, operands}
 use Rattle.solv_base.specs.declared.relation.DepNode.TheVariants.{Simple, Versioned, Namespace, And, Or, With, Without, If, IfElse, Unless, UnlessElse}
 
 -- a node over texts, its operands being read by `at`
@@ -11,14 +11,14 @@ abbrev pub text_tree_of_node : (ℕ → List ℕ) → (ℕ → Dep (List ℕ)) �
 text_tree_of_node text at (Simple n) = one (plain (text n))
 text_tree_of_node text at (Versioned n c e) = one (versioned (text n) c (text e))
 text_tree_of_node text at (Namespace n) = namespace (text n)
-text_tree_of_node text at (And a b) = and (at a) (at b)
-text_tree_of_node text at (Or a b) = or (at a) (at b)
-text_tree_of_node text at (With a b) = with (at a) (at b)
-text_tree_of_node text at (Without a b) = without (at a) (at b)
-text_tree_of_node text at (If a b) = if_then (at a) (at b)
-text_tree_of_node text at (IfElse a b c) = if_else (at a) (at b) (at c)
-text_tree_of_node text at (Unless a b) = unless (at a) (at b)
-text_tree_of_node text at (UnlessElse a b c) = unless_else (at a) (at b) (at c)
+text_tree_of_node text at (And a b) = joined and (at a) (at b)
+text_tree_of_node text at (Or a b) = joined or (at a) (at b)
+text_tree_of_node text at (With a b) = joined with (at a) (at b)
+text_tree_of_node text at (Without a b) = joined without (at a) (at b)
+text_tree_of_node text at (If a b) = under if_holds (at a) (at b)
+text_tree_of_node text at (IfElse a b c) = under_else if_holds (at a) (at b) (at c)
+text_tree_of_node text at (Unless a b) = under unless_holds (at a) (at b)
+text_tree_of_node text at (UnlessElse a b c) = under_else unless_holds (at a) (at b) (at c)
 
 -- a node whose names and operands are below these numbers
 abbrev pub uses_below : ℕ → ℕ → DepNode → Bool
