@@ -3,7 +3,7 @@ use Rattle.std.proofs.Common.{◌≡◌, ℕ, zero, suc, Bool, true, false, not,
 use Rattle.std.specs.Prelude.{filter, ◌==◌, Contains}
 use Rattle.std.specs.List.{list_all}
 use Rattle.std.specs.Bool.{beq}
-use Rattle.solv_base.specs.Dependency.{Dep, one, namespace, and, or, with, without, if_then, if_else, unless, unless_else, missing}
+use Rattle.solv_base.specs.Dependency.{Dep, and, or, if_holds, unless_holds, joined, under, under_else, missing}
 use Rattle.solv_pool.specs.declared.jobs.Job.{Job}
 use Rattle.solv_pool.specs.declared.job_marks.Marks.{Marks}
 use Rattle.solv_pool.specs.declared.tasks.Flags.{Flags}
@@ -122,17 +122,14 @@ module _ (catalog : Catalog) where
           (λ p k. ap (λ b. b && package_meets catalog d p) (h p k)) (members catalog) (all_members catalog)
 
       go : (d : Dep ℕ) → holds catalog d s ≡ holds catalog d t
-      go (one c) = alone (one c)
-      go (namespace n) = alone (namespace n)
-      go (with a b) = alone (with a b)
-      go (without a b) = alone (without a b)
-      go (and a b) = ap2 (λ m n. m && n) (go a) (go b)
-      go (or a b) = ap2 (λ m n. m || n) (go a) (go b)
-      go (if_then a b) = ap2 (λ m n. m || not n) (go a) (go b)
-      go (if_else a b c) = rw (go a, go b, go c)
-      go (unless a b) = ap2 (λ m n. m && not n) (go a) (go b)
-      go (unless_else a b c) = rw (go a, go b, go c)
+      go (joined and a b) = ap2 (λ m n. m && n) (go a) (go b)
+      go (joined or a b) = ap2 (λ m n. m || n) (go a) (go b)
+      go (under if_holds a b) = ap2 (λ m n. m || not n) (go a) (go b)
+      go (under unless_holds a b) = ap2 (λ m n. m && not n) (go a) (go b)
+      go (under_else if_holds a b c) = rw (go a, go b, go c)
+      go (under_else unless_holds a b c) = rw (go a, go b, go c)
       go missing = refl
+      go d = alone d
 
   -- a shape that names packages is met alike
   shapes-agree : (s t : ℕ → Bool) (x : Shape) → AgreeOn (members catalog) s t → shape_names catalog x ≡ true → meets_shape catalog x s ≡ meets_shape catalog x t
