@@ -9,7 +9,7 @@ use Rattle.solv_pool.specs.declared.jobs.Job.{Job}
 use Rattle.solv_pool.specs.declared.job_marks.Marks.{Marks}
 use Rattle.solv_pool.specs.declared.tasks.Flags.{Flags}
 use Rattle.solv_pool.specs.declared.tasks.Task.{Task}
-use Rattle.solv_pool.specs.Catalog.{Catalog, catalog_of, packages, package_at, dependency}
+use Rattle.solv_pool.specs.Catalog.{Catalog, catalog_of, package_at, dependency}
 use Rattle.solv_pool.specs.JobMarks.{marks_of}
 use Rattle.solv_pool.specs.Counting.{requirement_counts, rich_conflict_counts}
 use Rattle.solv_pool.specs.RuleMeaning.{HardRule, req, rich_con, shape_of, meets_rule}
