@@ -3,13 +3,13 @@ use Rattle.std.proofs.Common.{◌≡◌, ℕ, ◌+◌, ◌<◌, ◌≤◌, Bool,
 use Rattle.std.specs.Prelude.{max, is_some, unwrap_or, codes, is_none, if◌then◌else◌}
 use Rattle.std.proofs.lemmas.Bool.Decides.{nat_tests}
 use Rattle.solv_base.specs.declared.comparison.Cmp.{Cmp}
-use Rattle.solv_base.specs.Dependency.{Dep, versioned, one}
+use Rattle.solv_base.specs.Dependency.{Dep, versioned, one, joined}
 use Rattle.solv_deps.specs.declared.sign.Joint.{Joint}
 use Rattle.solv_deps.specs.declared.sign.Joint.TheVariants.{Both, Either, Jointly}
 use Rattle.solv_deps.specs.declared.sign.Operator.{Operator}
 use Rattle.solv_deps.specs.declared.sign.Conditional.TheVariants.{If, Unless}
 use Rattle.solv_deps.specs.declared.sign.Operator.TheVariants.{Link, Minus, Condition, Else}
-use Rattle.solv_deps.specs.Grammar.{operator, comparison, no_comparison, opens, closes, is_plain, is_namespace, named, joined, Spelling, by_sign, by_word, spelled, operator_spelled, sign, Operand, Chain, Expr, name, compared, inside, two, more, alone, chain, less, provided, provided_else, provided_inside, operand_words, chain_words, expr_words, operand_sense, chain_sense, expr_sense, operand_right, chain_right, expr_right, operand_depth, chain_depth, expr_depth, operand_operators, chain_operators, expr_operators}
+use Rattle.solv_deps.specs.Grammar.{operator, comparison, no_comparison, opens, closes, is_plain, is_namespace, named, connective_of, Spelling, by_sign, by_word, spelled, operator_spelled, sign, Operand, Chain, Expr, name, compared, inside, two, more, alone, chain, less, provided, provided_else, provided_inside, operand_words, chain_words, expr_words, operand_sense, chain_sense, expr_sense, operand_right, chain_right, expr_right, operand_depth, chain_depth, expr_depth, operand_operators, chain_operators, expr_operators}
 use Rattle.solv_deps.specs.Reading.{Hand, nothing, in_chain, in_difference, in_condition, in_else, in_inner_else, Due, operand_due, evr_due, operator_due, Point, whole, goes_on, reading_from, reading, and_then, comparison_due, at_operator}
 use Rattle.solv_list.proofs.Booleans.{false_of_not, first_of_both, second_of_both}
 
@@ -106,7 +106,7 @@ after_sign s b reads outer n h k nm d o rest e lo ld =
     ∙ reads outer (n + 1) k rest (omega arith) ld
     ∙ ap (λ i. reading_from (point outer i (operator_due k (bare b) (operand_sense b))) rest) m
 
-joint_again : (outer : List Hand) (j : Joint) (a d : Dep (List ℕ)) → goes_on outer (in_chain j a) d (Link j) ≡ Some (in_chain j (joined j a d))
+joint_again : (outer : List Hand) (j : Joint) (a d : Dep (List ℕ)) → goes_on outer (in_chain j a) d (Link j) ≡ Some (in_chain j (joined (connective_of j) a d))
 joint_again outer Both a d = refl
 joint_again outer Either a d = refl
 joint_again outer Jointly a d = refl
@@ -147,7 +147,7 @@ max_left a b c h = omega arith
 max_right : (a b c : ℕ) → c + max a b ≤ 64 → c + b ≤ 64
 max_right a b c h = omega arith
 
-chain_whole : (j : Joint) (c : Chain) → joined j (chain_front j c) (operand_sense (chain_last c)) ≡ chain_sense j c
+chain_whole : (j : Joint) (c : Chain) → joined (connective_of j) (chain_front j c) (operand_sense (chain_last c)) ≡ chain_sense j c
 chain_whole j (two a s b) = refl
 chain_whole j (more c s b) = refl
 

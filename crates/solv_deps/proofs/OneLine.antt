@@ -5,9 +5,9 @@ use Rattle.std.specs.List.{list_all}
 use Rattle.std.proofs.lemmas.Bool.{and_from}
 use Rattle.solv_io.specs.Words.{is_blank}
 use Rattle.solv_base.specs.declared.comparison.Cmp.{Cmp}
-use Rattle.solv_base.specs.Dependency.{Dep, plain, versioned, one, namespace, and, or, with, without, if_then, if_else, unless, unless_else, missing}
-use Rattle.solv_deps.specs.Canonical.{comparison_text, is_rich, is_chain, space_before_close, parenthesised, operand_text, spaced, text}
-use Rattle.solv_deps.specs.Grammar.{named, joined, under, under_else, is_namespace, spelled, Operand, Chain, Expr, name, compared, inside, two, more, alone, chain, less, provided, provided_else, provided_inside, operand_words, chain_words, expr_words, operand_sense, chain_sense, expr_sense}
+use Rattle.solv_base.specs.Dependency.{Dep, plain, versioned, one, namespace, joined, under, under_else, missing}
+use Rattle.solv_deps.specs.Canonical.{comparison_text, is_rich, is_chain, space_before_close, parenthesised, operand_text, spaced, joining_operator, conditional, text}
+use Rattle.solv_deps.specs.Grammar.{named, is_namespace, spelled, Operand, Chain, Expr, name, compared, inside, two, more, alone, chain, less, provided, provided_else, provided_inside, operand_words, chain_words, expr_words, operand_sense, chain_sense, expr_sense}
 use Rattle.solv_deps.specs.Laws.{PrintedIsOneLine, ReadIsWritten, Spells}
 use Rattle.solv_deps.specs.Reading.{and_then, reading}
 use Rattle.solv_deps.specs.Table.{stands_at}
@@ -16,7 +16,6 @@ use Rattle.solv_deps.specs.declared.fault.DepFault.{DepFault}
 use Rattle.solv_deps.specs.declared.fault.DepFault.TheVariants.{OperatorNotHere}
 use Rattle.solv_deps.specs.declared.sign.Joint.{Joint}
 use Rattle.solv_deps.specs.declared.sign.Joint.TheVariants.{Both, Either, Jointly}
-use Rattle.solv_deps.specs.declared.sign.Conditional.{Conditional}
 use Rattle.solv_deps.specs.declared.sign.Conditional.TheVariants.{If, Unless}
 use Rattle.solv_deps.specs.declared.sign.Operator.{Operator}
 use Rattle.solv_deps.specs.declared.sign.Operator.TheVariants.{Link, Minus, Condition, Else}
@@ -29,14 +28,9 @@ abbrev lined : Dep (List ℕ) → Bool
 lined (one (plain w)) = is_line w
 lined (one (versioned w c e)) = is_line w && is_line e
 lined (namespace w) = is_line w
-lined (and a b) = lined a && lined b
-lined (or a b) = lined a && lined b
-lined (with a b) = lined a && lined b
-lined (without a b) = lined a && lined b
-lined (if_then a b) = lined a && lined b
-lined (unless a b) = lined a && lined b
-lined (if_else a b c) = lined a && (lined b && lined c)
-lined (unless_else a b c) = lined a && (lined b && lined c)
+lined (joined j a b) = lined a && lined b
+lined (under k a b) = lined a && lined b
+lined (under_else k a b c) = lined a && (lined b && lined c)
 lined missing = true
 
 words_lined : (n : ℕ) (t : List ℕ) → is_line t ≡ true → list_all is_line (words_behind n t) ≡ true
@@ -59,19 +53,6 @@ both_lined a b h k = and_from (lined a) (lined b) h k
 three_lined : (a b c : Dep (List ℕ)) → lined a ≡ true → lined b ≡ true → lined c ≡ true → (lined a && (lined b && lined c)) ≡ true
 three_lined a b c h k l = and_from (lined a) (lined b && lined c) h (and_from (lined b) (lined c) k l)
 
-joined_lined : (j : Joint) (a b : Dep (List ℕ)) → lined a ≡ true → lined b ≡ true → lined (joined j a b) ≡ true
-joined_lined Both a b h k = both_lined a b h k
-joined_lined Either a b h k = both_lined a b h k
-joined_lined Jointly a b h k = both_lined a b h k
-
-under_lined : (k : Conditional) (a b : Dep (List ℕ)) → lined a ≡ true → lined b ≡ true → lined (under k a b) ≡ true
-under_lined If a b h k = both_lined a b h k
-under_lined Unless a b h k = both_lined a b h k
-
-under_else_lined : (k : Conditional) (a b c : Dep (List ℕ)) → lined a ≡ true → lined b ≡ true → lined c ≡ true → lined (under_else k a b c) ≡ true
-under_else_lined If a b c h k l = three_lined a b c h k l
-under_else_lined Unless a b c h k l = three_lined a b c h k l
-
 -- words before others, and behind one word
 front : (xs ys : List (List ℕ)) → list_all is_line (xs ++ ys) ≡ true → list_all is_line xs ≡ true
 front xs ys h = all_left is_line xs ys h
@@ -90,9 +71,9 @@ mutual
 
   chain_lined : (j : Joint) (c : Chain) → list_all is_line (chain_words j c) ≡ true → lined (chain_sense j c) ≡ true
   chain_lined j (two a s b) h =
-      joined_lined j (operand_sense a) (operand_sense b) (operand_lined a (front (operand_words a) (spelled s (Link j) ∷ operand_words b) h)) (operand_lined b (back (operand_words a) (spelled s (Link j)) (operand_words b) h))
+      both_lined (operand_sense a) (operand_sense b) (operand_lined a (front (operand_words a) (spelled s (Link j) ∷ operand_words b) h)) (operand_lined b (back (operand_words a) (spelled s (Link j)) (operand_words b) h))
   chain_lined j (more c s b) h =
-      joined_lined j (chain_sense j c) (operand_sense b) (chain_lined j c (front (chain_words j c) (spelled s (Link j) ∷ operand_words b) h)) (operand_lined b (back (chain_words j c) (spelled s (Link j)) (operand_words b) h))
+      both_lined (chain_sense j c) (operand_sense b) (chain_lined j c (front (chain_words j c) (spelled s (Link j) ∷ operand_words b) h)) (operand_lined b (back (chain_words j c) (spelled s (Link j)) (operand_words b) h))
 
   expr_lined : (x : Expr) → list_all is_line (expr_words x) ≡ true → lined (expr_sense x) ≡ true
   expr_lined (alone a) h = operand_lined a h
@@ -100,14 +81,14 @@ mutual
   expr_lined (less a s b) h =
       both_lined (operand_sense a) (operand_sense b) (operand_lined a (front (operand_words a) (spelled s Minus ∷ operand_words b) h)) (operand_lined b (back (operand_words a) (spelled s Minus) (operand_words b) h))
   expr_lined (provided k a s b) h =
-      under_lined k (operand_sense a) (operand_sense b) (operand_lined a (front (operand_words a) (spelled s (Condition k) ∷ operand_words b) h)) (operand_lined b (back (operand_words a) (spelled s (Condition k)) (operand_words b) h))
+      both_lined (operand_sense a) (operand_sense b) (operand_lined a (front (operand_words a) (spelled s (Condition k) ∷ operand_words b) h)) (operand_lined b (back (operand_words a) (spelled s (Condition k)) (operand_words b) h))
   expr_lined (provided_else k a s b t c) h =
       let r = back (operand_words a) (spelled s (Condition k)) (operand_words b ++ spelled t Else ∷ operand_words c) h in
-      under_else_lined k (operand_sense a) (operand_sense b) (operand_sense c) (operand_lined a (front (operand_words a) (spelled s (Condition k) ∷ (operand_words b ++ spelled t Else ∷ operand_words c)) h))
+      three_lined (operand_sense a) (operand_sense b) (operand_sense c) (operand_lined a (front (operand_words a) (spelled s (Condition k) ∷ (operand_words b ++ spelled t Else ∷ operand_words c)) h))
       (operand_lined b (front (operand_words b) (spelled t Else ∷ operand_words c) r)) (operand_lined c (back (operand_words b) (spelled t Else) (operand_words c) r))
   expr_lined (provided_inside k a s b t c) h =
       let r = second_of_both (is_line (codes "(")) _ (back (operand_words a) (spelled s (Condition k)) (codes "(" ∷ (operand_words b ++ spelled t Else ∷ (operand_words c ++ codes ")" ∷ []))) h) in
-      under_else_lined k (operand_sense a) (operand_sense b) (operand_sense c)
+      three_lined (operand_sense a) (operand_sense b) (operand_sense c)
       (operand_lined a (front (operand_words a) (spelled s (Condition k) ∷ codes "(" ∷ (operand_words b ++ spelled t Else ∷ (operand_words c ++ codes ")" ∷ []))) h))
       (operand_lined b (front (operand_words b) (spelled t Else ∷ (operand_words c ++ codes ")" ∷ [])) r))
       (operand_lined c (front (operand_words c) (codes ")" ∷ []) (back (operand_words b) (spelled t Else) (operand_words c ++ codes ")" ∷ []) r)))
@@ -157,18 +138,11 @@ text_lined : (d : Dep (List ℕ)) → lined d ≡ true → is_line (text d) ≡ 
 text_lined (one (plain w)) h = h
 text_lined (one (versioned w c e)) h = join w (32 ∷ (comparison_text c ++ 32 ∷ e)) (first_of_both (is_line w) (is_line e) h) (join (comparison_text c) (32 ∷ e) (cmp_lined c) (second_of_both (is_line w) (is_line e) h))
 text_lined (namespace w) h = h
-text_lined (and a b) h = pair_lined (is_chain Both a) (Link Both) a b (text a) (text b) (text_lined a (first_of_both (lined a) (lined b) h)) (text_lined b (second_of_both (lined a) (lined b) h))
-text_lined (or a b) h = pair_lined (is_chain Either a) (Link Either) a b (text a) (text b) (text_lined a (first_of_both (lined a) (lined b) h)) (text_lined b (second_of_both (lined a) (lined b) h))
-text_lined (with a b) h = pair_lined (is_chain Jointly a) (Link Jointly) a b (text a) (text b) (text_lined a (first_of_both (lined a) (lined b) h)) (text_lined b (second_of_both (lined a) (lined b) h))
-text_lined (without a b) h = pair_lined false Minus a b (text a) (text b) (text_lined a (first_of_both (lined a) (lined b) h)) (text_lined b (second_of_both (lined a) (lined b) h))
-text_lined (if_then a b) h = pair_lined false (Condition If) a b (text a) (text b) (text_lined a (first_of_both (lined a) (lined b) h)) (text_lined b (second_of_both (lined a) (lined b) h))
-text_lined (unless a b) h = pair_lined false (Condition Unless) a b (text a) (text b) (text_lined a (first_of_both (lined a) (lined b) h)) (text_lined b (second_of_both (lined a) (lined b) h))
-text_lined (if_else a b c) h =
+text_lined (joined j a b) h = pair_lined (is_chain j a) (joining_operator j) a b (text a) (text b) (text_lined a (first_of_both (lined a) (lined b) h)) (text_lined b (second_of_both (lined a) (lined b) h))
+text_lined (under k a b) h = pair_lined false (Condition (conditional k)) a b (text a) (text b) (text_lined a (first_of_both (lined a) (lined b) h)) (text_lined b (second_of_both (lined a) (lined b) h))
+text_lined (under_else k a b c) h =
     let r = second_of_both (lined a) (lined b && lined c) h in
-    triple_lined (Condition If) a b c (text a) (text b) (text c) (text_lined a (first_of_both (lined a) (lined b && lined c) h)) (text_lined b (first_of_both (lined b) (lined c) r)) (text_lined c (second_of_both (lined b) (lined c) r))
-text_lined (unless_else a b c) h =
-    let r = second_of_both (lined a) (lined b && lined c) h in
-    triple_lined (Condition Unless) a b c (text a) (text b) (text c) (text_lined a (first_of_both (lined a) (lined b && lined c) h)) (text_lined b (first_of_both (lined b) (lined c) r)) (text_lined c (second_of_both (lined b) (lined c) r))
+    triple_lined (Condition (conditional k)) a b c (text a) (text b) (text c) (text_lined a (first_of_both (lined a) (lined b && lined c) h)) (text_lined b (first_of_both (lined b) (lined c) r)) (text_lined c (second_of_both (lined b) (lined c) r))
 text_lined missing h = refl
 
 read_is : (fits : Dep (List ℕ) → Bool) (r : Result (Dep (List ℕ)) DepFault) (d : Dep (List ℕ)) → and_then r (λ x. if fits x then Ok x else Err OperatorNotHere) ≡ Ok d → r ≡ Ok d

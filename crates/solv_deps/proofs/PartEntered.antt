@@ -7,7 +7,7 @@ use Rattle.std.proofs.lemmas.Bool.{ltb-true, lt-ltb, and_from}
 use Rattle.solv_base.specs.declared.comparison.Cmp.{Cmp}
 use Rattle.solv_base.specs.declared.relation.DepNode.{DepNode}
 use Rattle.solv_base.specs.declared.relation.DepNode.TheVariants.{Simple, Versioned, Namespace, And, Or, With, Without, If, IfElse, Unless, UnlessElse}
-use Rattle.solv_base.specs.Dependency.{Dep, one, plain, versioned, namespace, and, or, with, without, if_then, if_else, unless, unless_else, names_in, operands}
+use Rattle.solv_base.specs.Dependency.{Dep, one, plain, versioned, namespace, and, or, with, without, if_holds, unless_holds, joined, under, under_else, names_in, operands}
 use Rattle.solv_base.specs.Pool.{Held, is_name, name_id, IsPool, Grows, text_at, text_tree}
 use Rattle.solv_base.specs.Inner.Pool.{text_tree_of_node, uses_below}
 use Rattle.solv_base.proofs.Growth.{text_tree-is}
@@ -189,17 +189,17 @@ module _ (again : HeldIsEntered) (whole : Held) (p : IsPool whole) where
     node_is_entered (Simple n) at ns os held = name_enters Simple (λ t. one (plain t)) (λ t h. refl) (λ x m n h. and_from (nat_lt x m && true) true h refl) (λ f at x. refl) (text_at whole n) (first_name n [] ns) held
     node_is_entered (Versioned n c e) at ns os held = compared_enters (text_at whole n) (text_at whole e) c (first_name n (e ∷ []) ns) (first_name e [] (rest_names n (e ∷ []) ns)) held
     node_is_entered (Namespace n) at ns os held = name_enters Namespace namespace (λ t h. refl) (λ x m n h. and_from (nat_lt x m && true) true h refl) (λ f at x. refl) (text_at whole n) (first_name n [] ns) held
-    node_is_entered (And a b) at ns os held = pair_enters And and (λ a b h. refl) (λ x y m n h. h) (λ f at x y. refl) (text_tree whole a) (text_tree whole b) held (first a (b ∷ []) os) (first b [] (rest a (b ∷ []) os))
-    node_is_entered (Or a b) at ns os held = pair_enters Or or (λ a b h. refl) (λ x y m n h. h) (λ f at x y. refl) (text_tree whole a) (text_tree whole b) held (first a (b ∷ []) os) (first b [] (rest a (b ∷ []) os))
-    node_is_entered (With a b) at ns os held = pair_enters With with (λ a b h. refl) (λ x y m n h. h) (λ f at x y. refl) (text_tree whole a) (text_tree whole b) held (first a (b ∷ []) os) (first b [] (rest a (b ∷ []) os))
-    node_is_entered (Without a b) at ns os held = pair_enters Without without (λ a b h. refl) (λ x y m n h. h) (λ f at x y. refl) (text_tree whole a) (text_tree whole b) held (first a (b ∷ []) os) (first b [] (rest a (b ∷ []) os))
-    node_is_entered (If a b) at ns os held = pair_enters If if_then (λ a b h. refl) (λ x y m n h. h) (λ f at x y. refl) (text_tree whole a) (text_tree whole b) held (first a (b ∷ []) os) (first b [] (rest a (b ∷ []) os))
-    node_is_entered (Unless a b) at ns os held = pair_enters Unless unless (λ a b h. refl) (λ x y m n h. h) (λ f at x y. refl) (text_tree whole a) (text_tree whole b) held (first a (b ∷ []) os) (first b [] (rest a (b ∷ []) os))
+    node_is_entered (And a b) at ns os held = pair_enters And (joined and) (λ a b h. refl) (λ x y m n h. h) (λ f at x y. refl) (text_tree whole a) (text_tree whole b) held (first a (b ∷ []) os) (first b [] (rest a (b ∷ []) os))
+    node_is_entered (Or a b) at ns os held = pair_enters Or (joined or) (λ a b h. refl) (λ x y m n h. h) (λ f at x y. refl) (text_tree whole a) (text_tree whole b) held (first a (b ∷ []) os) (first b [] (rest a (b ∷ []) os))
+    node_is_entered (With a b) at ns os held = pair_enters With (joined with) (λ a b h. refl) (λ x y m n h. h) (λ f at x y. refl) (text_tree whole a) (text_tree whole b) held (first a (b ∷ []) os) (first b [] (rest a (b ∷ []) os))
+    node_is_entered (Without a b) at ns os held = pair_enters Without (joined without) (λ a b h. refl) (λ x y m n h. h) (λ f at x y. refl) (text_tree whole a) (text_tree whole b) held (first a (b ∷ []) os) (first b [] (rest a (b ∷ []) os))
+    node_is_entered (If a b) at ns os held = pair_enters If (under if_holds) (λ a b h. refl) (λ x y m n h. h) (λ f at x y. refl) (text_tree whole a) (text_tree whole b) held (first a (b ∷ []) os) (first b [] (rest a (b ∷ []) os))
+    node_is_entered (Unless a b) at ns os held = pair_enters Unless (under unless_holds) (λ a b h. refl) (λ x y m n h. h) (λ f at x y. refl) (text_tree whole a) (text_tree whole b) held (first a (b ∷ []) os) (first b [] (rest a (b ∷ []) os))
     node_is_entered (IfElse a b c) at ns os held =
-        triple_enters IfElse if_else (λ a b c h. refl) (λ x y z m n h. h) (λ f at x y z. refl) (text_tree whole a) (text_tree whole b) (text_tree whole c) held
+        triple_enters IfElse (under_else if_holds) (λ a b c h. refl) (λ x y z m n h. h) (λ f at x y z. refl) (text_tree whole a) (text_tree whole b) (text_tree whole c) held
         (first a (b ∷ c ∷ []) os) (first b (c ∷ []) (rest a (b ∷ c ∷ []) os)) (first c [] (rest b (c ∷ []) (rest a (b ∷ c ∷ []) os)))
     node_is_entered (UnlessElse a b c) at ns os held =
-        triple_enters UnlessElse unless_else (λ a b c h. refl) (λ x y z m n h. h) (λ f at x y z. refl) (text_tree whole a) (text_tree whole b) (text_tree whole c) held
+        triple_enters UnlessElse (under_else unless_holds) (λ a b c h. refl) (λ x y z m n h. h) (λ f at x y z. refl) (text_tree whole a) (text_tree whole b) (text_tree whole c) held
         (first a (b ∷ c ∷ []) os) (first b (c ∷ []) (rest a (b ∷ c ∷ []) os)) (first c [] (rest b (c ∷ []) (rest a (b ∷ c ∷ []) os)))
 
   enters_below : (bound id : ℕ) → id < bound → id < length whole.nodes → Enters (text_tree whole id)

@@ -3,7 +3,8 @@ use Rattle.std.proofs.Common.{◌≡◌, ℕ, zero, suc, ◌+◌, ◌≤◌, Boo
 use Rattle.std.specs.Prelude.{codes, if◌then◌else◌, ◌==◌, max, is_some, unwrap_or}
 use Rattle.std.proofs.lemmas.Bool.Decides.{nat_tests}
 use Rattle.solv_base.specs.declared.comparison.Cmp.{Cmp}
-use Rattle.solv_base.specs.Dependency.{Dep, plain, versioned, one, namespace, and, or, with, without, if_then, if_else, unless, unless_else, operators}
+use Rattle.solv_base.specs.Dependency.{Dep, Connective, plain, versioned, one, namespace, and, or, with, without, if_holds, unless_holds, joined, under, under_else, operators}
+use Rattle.solv_base.specs.Dependency.{Condition as Under}
 use Rattle.solv_deps.specs.declared.sign.Joint.{Joint}
 use Rattle.solv_deps.specs.declared.sign.Joint.TheVariants.{Both, Either, Jointly}
 use Rattle.solv_deps.specs.declared.sign.Conditional.{Conditional}
@@ -12,9 +13,9 @@ use Rattle.solv_deps.specs.declared.sign.Operator.{Operator}
 use Rattle.solv_deps.specs.declared.sign.Operator.TheVariants.{Link, Minus, Condition, Else}
 use Rattle.solv_io.specs.Words.{is_blank}
 use Rattle.solv_deps.specs.Words.{is_open, is_close, ends_word, unpaired_after, unpaired_in, word_rest, words_behind, words}
-use Rattle.solv_deps.specs.Grammar.{comparison, no_comparison, is_plain, is_namespace, joined, by_sign, sign, Operand, Chain, Expr, name, compared, inside, two, more, alone, chain, less, provided, provided_else, provided_inside, operand_words, chain_words, expr_words, operand_sense, chain_sense, expr_sense, operand_right, chain_right, expr_right, operand_depth, chain_depth, expr_depth, operand_operators, chain_operators, expr_operators}
+use Rattle.solv_deps.specs.Grammar.{comparison, no_comparison, is_plain, is_namespace, connective_of, condition_of, by_sign, sign, Operand, Chain, Expr, name, compared, inside, two, more, alone, chain, less, provided, provided_else, provided_inside, operand_words, chain_words, expr_words, operand_sense, chain_sense, expr_sense, operand_right, chain_right, expr_right, operand_depth, chain_depth, expr_depth, operand_operators, chain_operators, expr_operators}
 use Rattle.solv_deps.specs.Reading.{same_joint, reading}
-use Rattle.solv_deps.specs.Canonical.{comparison_text, is_rich, is_chain, ends_unpaired, space_before_close, parenthesised, operand_text, spaced, chain_text, text}
+use Rattle.solv_deps.specs.Canonical.{comparison_text, is_rich, is_chain, ends_unpaired, space_before_close, parenthesised, operand_text, spaced, joining_operator, conditional, text}
 use Rattle.solv_deps.proofs.Complete.{written_is_read}
 use Rattle.solv_list.proofs.Booleans.{false_of_not, first_of_both, second_of_both}
 use Rattle.solv_list.proofs.Lists.{take_front}
@@ -119,18 +120,19 @@ abbrev pub front : Joint → Expr → Operand → Chain
 front j (chain i c) b = if same_joint i j then more c by_sign b else two (inside (chain i c)) by_sign b
 front j x b = two (as_operand x) by_sign b
 
+abbrev pub written_joined : Connective → Expr → Operand → Expr
+written_joined and x b = chain Both (front Both x b)
+written_joined or x b = chain Either (front Either x b)
+written_joined with x b = chain Jointly (front Jointly x b)
+written_joined without x b = less (as_operand x) by_sign b
+
 abbrev pub canonical : Dep (List ℕ) → Expr
 canonical (one (plain w)) = alone (name w)
 canonical (one (versioned w c e)) = alone (compared w (comparison_text c) e)
 canonical (namespace w) = alone (name w)
-canonical (and a b) = chain Both (front Both (canonical a) (as_operand (canonical b)))
-canonical (or a b) = chain Either (front Either (canonical a) (as_operand (canonical b)))
-canonical (with a b) = chain Jointly (front Jointly (canonical a) (as_operand (canonical b)))
-canonical (without a b) = less (as_operand (canonical a)) by_sign (as_operand (canonical b))
-canonical (if_then a b) = provided If (as_operand (canonical a)) by_sign (as_operand (canonical b))
-canonical (if_else a b c) = provided_else If (as_operand (canonical a)) by_sign (as_operand (canonical b)) by_sign (as_operand (canonical c))
-canonical (unless a b) = provided Unless (as_operand (canonical a)) by_sign (as_operand (canonical b))
-canonical (unless_else a b c) = provided_else Unless (as_operand (canonical a)) by_sign (as_operand (canonical b)) by_sign (as_operand (canonical c))
+canonical (joined j a b) = written_joined j (canonical a) (as_operand (canonical b))
+canonical (under k a b) = provided (conditional k) (as_operand (canonical a)) by_sign (as_operand (canonical b))
+canonical (under_else k a b c) = provided_else (conditional k) (as_operand (canonical a)) by_sign (as_operand (canonical b)) by_sign (as_operand (canonical c))
 canonical d = alone (name [])
 
 -- are its names and EVRs such words, and its comparisons comparisons?
@@ -138,14 +140,9 @@ abbrev pub well : Dep (List ℕ) → Bool
 well (one (plain w)) = is_word w && (is_plain w && not (is_namespace w))
 well (one (versioned w c e)) = is_word w && (is_plain w && (not (is_namespace w) && (right_cmp c && (is_word e && is_plain e))))
 well (namespace w) = is_word w && (is_plain w && is_namespace w)
-well (and a b) = well a && well b
-well (or a b) = well a && well b
-well (with a b) = well a && well b
-well (without a b) = well a && well b
-well (if_then a b) = well a && well b
-well (if_else a b c) = well a && (well b && well c)
-well (unless a b) = well a && well b
-well (unless_else a b c) = well a && (well b && well c)
+well (joined j a b) = well a && well b
+well (under k a b) = well a && well b
+well (under_else k a b c) = well a && (well b && well c)
 well d = false
 
 -- what the text ends with
@@ -176,31 +173,42 @@ op_words : (d : Dep (List ℕ)) → well d ≡ true → Reads d → (rest : List
 op_words (one (plain w)) h ih rest s = ih rest s
 op_words (one (versioned w c e)) h ih rest s = ih rest s
 op_words (namespace w) h ih rest s = ih rest s
-op_words (and a b) h ih rest s = paren_words (text (and a b)) (ends_unpaired b) (expr_words (canonical (and a b))) ih rest
-op_words (or a b) h ih rest s = paren_words (text (or a b)) (ends_unpaired b) (expr_words (canonical (or a b))) ih rest
-op_words (with a b) h ih rest s = paren_words (text (with a b)) (ends_unpaired b) (expr_words (canonical (with a b))) ih rest
-op_words (without a b) h ih rest s = paren_words (text (without a b)) (ends_unpaired b) (expr_words (canonical (without a b))) ih rest
-op_words (if_then a b) h ih rest s = paren_words (text (if_then a b)) (ends_unpaired b) (expr_words (canonical (if_then a b))) ih rest
-op_words (if_else a b c) h ih rest s = paren_words (text (if_else a b c)) (ends_unpaired c) (expr_words (canonical (if_else a b c))) ih rest
-op_words (unless a b) h ih rest s = paren_words (text (unless a b)) (ends_unpaired b) (expr_words (canonical (unless a b))) ih rest
-op_words (unless_else a b c) h ih rest s = paren_words (text (unless_else a b c)) (ends_unpaired c) (expr_words (canonical (unless_else a b c))) ih rest
+op_words (joined and a b) h ih rest s = paren_words (text (joined and a b)) (ends_unpaired b) (expr_words (canonical (joined and a b))) ih rest
+op_words (joined or a b) h ih rest s = paren_words (text (joined or a b)) (ends_unpaired b) (expr_words (canonical (joined or a b))) ih rest
+op_words (joined with a b) h ih rest s = paren_words (text (joined with a b)) (ends_unpaired b) (expr_words (canonical (joined with a b))) ih rest
+op_words (joined without a b) h ih rest s = paren_words (text (joined without a b)) (ends_unpaired b) (expr_words (canonical (joined without a b))) ih rest
+op_words (under k a b) h ih rest s = paren_words (text (under k a b)) (ends_unpaired b) (expr_words (canonical (under k a b))) ih rest
+op_words (under_else k a b c) h ih rest s = paren_words (text (under_else k a b c)) (ends_unpaired c) (expr_words (canonical (under_else k a b c))) ih rest
 op_words d h ih rest s = cc
 
-abbrev side : Joint → Expr → List (List ℕ)
-side j (chain i c) = if same_joint i j then chain_words i c else operand_words (inside (chain i c))
-side j x = operand_words (as_operand x)
+abbrev joint_side : Joint → Expr → List (List ℕ)
+joint_side j (chain i c) = if same_joint i j then chain_words i c else operand_words (inside (chain i c))
+joint_side j x = operand_words (as_operand x)
 
-front_words : (j : Joint) (x : Expr) (b : Operand) → chain_words j (front j x b) ≡ side j x ++ sign (Link j) ∷ operand_words b
+abbrev side : Connective → Expr → List (List ℕ)
+side and x = joint_side Both x
+side or x = joint_side Either x
+side with x = joint_side Jointly x
+side without x = operand_words (as_operand x)
+
+front_words : (j : Joint) (x : Expr) (b : Operand) → chain_words j (front j x b) ≡ joint_side j x ++ sign (Link j) ∷ operand_words b
 front_words Both (chain Both c) b = refl
 front_words Either (chain Either c) b = refl
 front_words Jointly (chain Jointly c) b = refl
 front_words j x b = refl
 
-side_words : (j : Joint) (a : Dep (List ℕ)) → well a ≡ true → Reads a → (rest : List ℕ) → ((u : Bool) → stops u rest ≡ true)
+joined_words : (j : Connective) (x : Expr) (b : Operand) → expr_words (written_joined j x b) ≡ side j x ++ sign (joining_operator j) ∷ operand_words b
+joined_words and x b = front_words Both x b
+joined_words or x b = front_words Either x b
+joined_words with x b = front_words Jointly x b
+joined_words without x b = refl
+
+side_words : (j : Connective) (a : Dep (List ℕ)) → well a ≡ true → Reads a → (rest : List ℕ) → ((u : Bool) → stops u rest ≡ true)
     → words (operand_text (is_chain j a) a (text a) ++ rest) ≡ side j (canonical a) ++ words rest
-side_words Both (and a b) h ih rest s = ih rest (s (ends_unpaired b))
-side_words Either (or a b) h ih rest s = ih rest (s (ends_unpaired b))
-side_words Jointly (with a b) h ih rest s = ih rest (s (ends_unpaired b))
+side_words without a h ih rest s = op_words a h ih rest (s (ends_unpaired a))
+side_words and (joined and a b) h ih rest s = ih rest (s (ends_unpaired b))
+side_words or (joined or a b) h ih rest s = ih rest (s (ends_unpaired b))
+side_words with (joined with a b) h ih rest s = ih rest (s (ends_unpaired b))
 side_words j (one (plain w)) h ih rest s = op_words (one (plain w)) h ih rest (s (ends_unpaired (one (plain w))))
 side_words j (one (versioned w c e)) h ih rest s = op_words (one (versioned w c e)) h ih rest (s (ends_unpaired (one (versioned w c e))))
 side_words j a h ih rest s = op_words a h ih rest (s (ends_unpaired a))
@@ -216,13 +224,14 @@ between l r o ls rs rest a b =
     ap words (append_assoc l (spaced o ++ r) rest ∙ ap (λ t. l ++ t) (append_assoc (spaced o) r rest))
     ∙ a ∙ ap (λ v. ls ++ v) (sign_words o (r ++ rest) ∙ ap (λ v. sign o ∷ v) b) ∙ sym (append_assoc ls (sign o ∷ rs) (words rest))
 
-chain_reads : (j : Joint) (a b : Dep (List ℕ)) → well a ≡ true → well b ≡ true → Reads a → Reads b → (rest : List ℕ) → stops (ends_unpaired b) rest ≡ true
-    → words (chain_text j a (text a) b (text b) ++ rest) ≡ chain_words j (front j (canonical a) (as_operand (canonical b))) ++ words rest
-chain_reads j a b ha hb ra rb rest s =
+joined_reads : (j : Connective) (a b : Dep (List ℕ)) → well a ≡ true → well b ≡ true → Reads a → Reads b → (rest : List ℕ) → stops (ends_unpaired b) rest ≡ true
+    → words (text (joined j a b) ++ rest) ≡ expr_words (canonical (joined j a b)) ++ words rest
+joined_reads j a b ha hb ra rb rest s =
     let r = operand_text false b (text b) in
-    between (operand_text (is_chain j a) a (text a)) r (Link j) (side j (canonical a)) (operand_words (as_operand (canonical b))) rest
-    (side_words j a ha ra (spaced (Link j) ++ (r ++ rest)) (spaced_stops (Link j) (r ++ rest))) (op_words b hb rb rest s)
-    ∙ ap (λ v. v ++ words rest) (sym (front_words j (canonical a) (as_operand (canonical b))))
+    let o = joining_operator j in
+    between (operand_text (is_chain j a) a (text a)) r o (side j (canonical a)) (operand_words (as_operand (canonical b))) rest
+    (side_words j a ha ra (spaced o ++ (r ++ rest)) (spaced_stops o (r ++ rest))) (op_words b hb rb rest s)
+    ∙ ap (λ v. v ++ words rest) (sym (joined_words j (canonical a) (as_operand (canonical b))))
 
 pair_reads : (o : Operator) (a b : Dep (List ℕ)) → well a ≡ true → well b ≡ true → Reads a → Reads b → (rest : List ℕ) → stops (ends_unpaired b) rest ≡ true
     → words ((operand_text false a (text a) ++ (spaced o ++ operand_text false b (text b))) ++ rest) ≡ (operand_words (as_operand (canonical a)) ++ sign o ∷ operand_words (as_operand (canonical b))) ++ words rest
@@ -257,28 +266,18 @@ text_reads (one (versioned w c e)) h rest s =
     ∙ ap (λ t. w ∷ words (codes " " ++ t)) (append_assoc (comparison_text c) (codes " " ++ e) rest)
     ∙ ap (λ v. w ∷ v) (cmp_words c (e ++ rest) (first_of_both (right_cmp c) _ h3) ∙ ap (λ v. comparison_text c ∷ v) (word_front e rest (first_of_both (is_word e) _ h4) s))
 text_reads (namespace w) h rest s = word_front w rest (first_of_both (is_word w) _ h) s
-text_reads (and a b) h rest s = let ha = first_of_both (well a) (well b) h in let hb = second_of_both (well a) (well b) h in chain_reads Both a b ha hb (text_reads a ha) (text_reads b hb) rest s
-text_reads (or a b) h rest s = let ha = first_of_both (well a) (well b) h in let hb = second_of_both (well a) (well b) h in chain_reads Either a b ha hb (text_reads a ha) (text_reads b hb) rest s
-text_reads (with a b) h rest s = let ha = first_of_both (well a) (well b) h in let hb = second_of_both (well a) (well b) h in chain_reads Jointly a b ha hb (text_reads a ha) (text_reads b hb) rest s
-text_reads (without a b) h rest s = let ha = first_of_both (well a) (well b) h in let hb = second_of_both (well a) (well b) h in pair_reads Minus a b ha hb (text_reads a ha) (text_reads b hb) rest s
-text_reads (if_then a b) h rest s = let ha = first_of_both (well a) (well b) h in let hb = second_of_both (well a) (well b) h in pair_reads (Condition If) a b ha hb (text_reads a ha) (text_reads b hb) rest s
-text_reads (unless a b) h rest s = let ha = first_of_both (well a) (well b) h in let hb = second_of_both (well a) (well b) h in pair_reads (Condition Unless) a b ha hb (text_reads a ha) (text_reads b hb) rest s
-text_reads (if_else a b c) h rest s =
+text_reads (joined j a b) h rest s = let ha = first_of_both (well a) (well b) h in let hb = second_of_both (well a) (well b) h in joined_reads j a b ha hb (text_reads a ha) (text_reads b hb) rest s
+text_reads (under k a b) h rest s = let ha = first_of_both (well a) (well b) h in let hb = second_of_both (well a) (well b) h in pair_reads (Condition (conditional k)) a b ha hb (text_reads a ha) (text_reads b hb) rest s
+text_reads (under_else k a b c) h rest s =
     let ha = first_of_both (well a) (well b && well c) h in
     let h1 = second_of_both (well a) (well b && well c) h in
     let hb = first_of_both (well b) (well c) h1 in
     let hc = second_of_both (well b) (well c) h1 in
-    else_reads If a b c ha hb hc (text_reads a ha) (text_reads b hb) (text_reads c hc) rest s
-text_reads (unless_else a b c) h rest s =
-    let ha = first_of_both (well a) (well b && well c) h in
-    let h1 = second_of_both (well a) (well b && well c) h in
-    let hb = first_of_both (well b) (well c) h1 in
-    let hc = second_of_both (well b) (well c) h1 in
-    else_reads Unless a b c ha hb hc (text_reads a ha) (text_reads b hb) (text_reads c hc) rest s
+    else_reads (conditional k) a b c ha hb hc (text_reads a ha) (text_reads b hb) (text_reads c hc) rest s
 text_reads d h rest s = cc
 
 -- what is written canonically means the dependency
-front_sense : (j : Joint) (x : Expr) (b : Operand) → chain_sense j (front j x b) ≡ joined j (expr_sense x) (operand_sense b)
+front_sense : (j : Joint) (x : Expr) (b : Operand) → chain_sense j (front j x b) ≡ joined (connective_of j) (expr_sense x) (operand_sense b)
 front_sense Both (chain Both c) b = refl
 front_sense Either (chain Either c) b = refl
 front_sense Jointly (chain Jointly c) b = refl
@@ -287,6 +286,16 @@ front_sense j x b = refl
 operand_same : (x : Expr) → operand_sense (as_operand x) ≡ expr_sense x
 operand_same (alone a) = refl
 operand_same x = refl
+
+joined_sense : (j : Connective) (x : Expr) (b : Operand) → expr_sense (written_joined j x b) ≡ joined j (expr_sense x) (operand_sense b)
+joined_sense and x b = front_sense Both x b
+joined_sense or x b = front_sense Either x b
+joined_sense with x b = front_sense Jointly x b
+joined_sense without x b = ap (λ d. joined without d (operand_sense b)) (operand_same x)
+
+same_condition : (k : Under) → condition_of (conditional k) ≡ k
+same_condition if_holds = refl
+same_condition unless_holds = refl
 
 means_operand : (d : Dep (List ℕ)) → expr_sense (canonical d) ≡ d → operand_sense (as_operand (canonical d)) ≡ d
 means_operand d e = operand_same (canonical d) ∙ e
@@ -299,24 +308,14 @@ means (one (versioned w c e)) h =
     let h3 = second_of_both (not (is_namespace w)) (right_cmp c && (is_word e && is_plain e)) h2 in
     ap (λ k. one (versioned w k e)) (cmp_back c.less c.greater c.equal (first_of_both (right_cmp c) _ h3))
 means (namespace w) h = rw (second_of_both (is_plain w) (is_namespace w) (second_of_both (is_word w) (is_plain w && is_namespace w) h)) refl
-means (and a b) h = let x = means a (first_of_both (well a) (well b) h) in let y = means_operand b (means b (second_of_both (well a) (well b) h)) in front_sense Both (canonical a) (as_operand (canonical b)) ∙ rw (x, y) refl
-means (or a b) h = let x = means a (first_of_both (well a) (well b) h) in let y = means_operand b (means b (second_of_both (well a) (well b) h)) in front_sense Either (canonical a) (as_operand (canonical b)) ∙ rw (x, y) refl
-means (with a b) h = let x = means a (first_of_both (well a) (well b) h) in let y = means_operand b (means b (second_of_both (well a) (well b) h)) in front_sense Jointly (canonical a) (as_operand (canonical b)) ∙ rw (x, y) refl
-means (without a b) h = let x = means_operand a (means a (first_of_both (well a) (well b) h)) in let y = means_operand b (means b (second_of_both (well a) (well b) h)) in rw (x, y) refl
-means (if_then a b) h = let x = means_operand a (means a (first_of_both (well a) (well b) h)) in let y = means_operand b (means b (second_of_both (well a) (well b) h)) in rw (x, y) refl
-means (unless a b) h = let x = means_operand a (means a (first_of_both (well a) (well b) h)) in let y = means_operand b (means b (second_of_both (well a) (well b) h)) in rw (x, y) refl
-means (if_else a b c) h =
+means (joined j a b) h = let x = means a (first_of_both (well a) (well b) h) in let y = means_operand b (means b (second_of_both (well a) (well b) h)) in joined_sense j (canonical a) (as_operand (canonical b)) ∙ rw (x, y) refl
+means (under k a b) h = let x = means_operand a (means a (first_of_both (well a) (well b) h)) in let y = means_operand b (means b (second_of_both (well a) (well b) h)) in rw (same_condition k, x, y) refl
+means (under_else k a b c) h =
     let h1 = second_of_both (well a) (well b && well c) h in
     let x = means_operand a (means a (first_of_both (well a) (well b && well c) h)) in
     let y = means_operand b (means b (first_of_both (well b) (well c) h1)) in
     let z = means_operand c (means c (second_of_both (well b) (well c) h1)) in
-    rw (x, y, z) refl
-means (unless_else a b c) h =
-    let h1 = second_of_both (well a) (well b && well c) h in
-    let x = means_operand a (means a (first_of_both (well a) (well b && well c) h)) in
-    let y = means_operand b (means b (first_of_both (well b) (well c) h1)) in
-    let z = means_operand c (means c (second_of_both (well b) (well c) h1)) in
-    rw (x, y, z) refl
+    rw (same_condition k, x, y, z) refl
 means d h = cc
 
 -- its words are names, comparisons and EVRs where they should be
@@ -336,6 +335,12 @@ front_right j (provided i a s c) b h k = and_from (expr_right (provided i a s c)
 front_right j (provided_else i a s c t e) b h k = and_from (expr_right (provided_else i a s c t e)) (operand_right b) h k
 front_right j (provided_inside i a s c t e) b h k = and_from (expr_right (provided_inside i a s c t e)) (operand_right b) h k
 
+joined_right : (j : Connective) (x : Expr) (b : Operand) → expr_right x ≡ true → operand_right b ≡ true → expr_right (written_joined j x b) ≡ true
+joined_right and x b h k = front_right Both x b h k
+joined_right or x b h k = front_right Either x b h k
+joined_right with x b h k = front_right Jointly x b h k
+joined_right without x b h k = and_from (operand_right (as_operand x)) (operand_right b) (operand_is_right x h) k
+
 is_right_operand : (d : Dep (List ℕ)) → expr_right (canonical d) ≡ true → operand_right (as_operand (canonical d)) ≡ true
 is_right_operand d h = operand_is_right (canonical d) h
 
@@ -347,17 +352,9 @@ is_right (one (versioned w c e)) h =
     let h3 = second_of_both (not (is_namespace w)) (right_cmp c && (is_word e && is_plain e)) h2 in
     and_from (is_plain w) _ (first_of_both (is_plain w) _ h1) (and_from (not (is_namespace w)) _ (first_of_both (not (is_namespace w)) _ h2) (and_from (right_cmp c) _ (first_of_both (right_cmp c) _ h3) (second_of_both (is_word e) (is_plain e) (second_of_both (right_cmp c) (is_word e && is_plain e) h3))))
 is_right (namespace w) h = first_of_both (is_plain w) _ (second_of_both (is_word w) (is_plain w && is_namespace w) h)
-is_right (and a b) h = front_right Both (canonical a) (as_operand (canonical b)) (is_right a (first_of_both (well a) (well b) h)) (is_right_operand b (is_right b (second_of_both (well a) (well b) h)))
-is_right (or a b) h = front_right Either (canonical a) (as_operand (canonical b)) (is_right a (first_of_both (well a) (well b) h)) (is_right_operand b (is_right b (second_of_both (well a) (well b) h)))
-is_right (with a b) h = front_right Jointly (canonical a) (as_operand (canonical b)) (is_right a (first_of_both (well a) (well b) h)) (is_right_operand b (is_right b (second_of_both (well a) (well b) h)))
-is_right (without a b) h = and_from (operand_right (as_operand (canonical a))) _ (is_right_operand a (is_right a (first_of_both (well a) (well b) h))) (is_right_operand b (is_right b (second_of_both (well a) (well b) h)))
-is_right (if_then a b) h = and_from (operand_right (as_operand (canonical a))) _ (is_right_operand a (is_right a (first_of_both (well a) (well b) h))) (is_right_operand b (is_right b (second_of_both (well a) (well b) h)))
-is_right (unless a b) h = and_from (operand_right (as_operand (canonical a))) _ (is_right_operand a (is_right a (first_of_both (well a) (well b) h))) (is_right_operand b (is_right b (second_of_both (well a) (well b) h)))
-is_right (if_else a b c) h =
-    let h1 = second_of_both (well a) (well b && well c) h in
-    and_from (operand_right (as_operand (canonical a))) _ (is_right_operand a (is_right a (first_of_both (well a) (well b && well c) h)))
-    (and_from (operand_right (as_operand (canonical b))) _ (is_right_operand b (is_right b (first_of_both (well b) (well c) h1))) (is_right_operand c (is_right c (second_of_both (well b) (well c) h1))))
-is_right (unless_else a b c) h =
+is_right (joined j a b) h = joined_right j (canonical a) (as_operand (canonical b)) (is_right a (first_of_both (well a) (well b) h)) (is_right_operand b (is_right b (second_of_both (well a) (well b) h)))
+is_right (under k a b) h = and_from (operand_right (as_operand (canonical a))) _ (is_right_operand a (is_right a (first_of_both (well a) (well b) h))) (is_right_operand b (is_right b (second_of_both (well a) (well b) h)))
+is_right (under_else k a b c) h =
     let h1 = second_of_both (well a) (well b && well c) h in
     and_from (operand_right (as_operand (canonical a))) _ (is_right_operand a (is_right a (first_of_both (well a) (well b && well c) h)))
     (and_from (operand_right (as_operand (canonical b))) _ (is_right_operand b (is_right b (first_of_both (well b) (well c) h1))) (is_right_operand c (is_right c (second_of_both (well b) (well c) h1))))
@@ -372,6 +369,12 @@ front_ops : (j : Joint) (x : Expr) (b : Operand) → chain_operators (front j x 
 front_ops j (chain i c) b = elim (same_joint i j) as (λ s. chain_operators (if s then more c by_sign b else two (inside (chain i c)) by_sign b) ≡ chain_operators c + operand_operators b + 1) [ true ↦ refl | false ↦ refl ]
 front_ops j x b = refl
 
+joined_ops : (j : Connective) (x : Expr) (b : Operand) → expr_operators (written_joined j x b) ≡ expr_operators x + operand_operators b + 1
+joined_ops and x b = front_ops Both x b
+joined_ops or x b = front_ops Either x b
+joined_ops with x b = front_ops Jointly x b
+joined_ops without x b = ap (λ n. n + operand_operators b + 1) (operand_ops x)
+
 front_depth : (j : Joint) (x : Expr) (b : Operand) → chain_depth (front j x b) ≤ max (operand_depth (as_operand x)) (operand_depth b)
 front_depth j (chain i c) b = elim (same_joint i j) as (λ s. chain_depth (if s then more c by_sign b else two (inside (chain i c)) by_sign b) ≤ max (chain_depth c + 1) (operand_depth b)) [ true ↦ omega arith | false ↦ omega arith ]
 front_depth j (alone a) b = omega arith
@@ -380,6 +383,12 @@ front_depth j (provided k a s c) b = omega arith
 front_depth j (provided_else k a s c t e) b = omega arith
 front_depth j (provided_inside k a s c t e) b = omega arith
 
+joined_depth : (j : Connective) (x : Expr) (b : Operand) → operand_depth (as_operand (written_joined j x b)) ≤ max (operand_depth (as_operand x)) (operand_depth b) + 1
+joined_depth and x b = let z = front_depth Both x b in omega arith
+joined_depth or x b = let z = front_depth Either x b in omega arith
+joined_depth with x b = let z = front_depth Jointly x b in omega arith
+joined_depth without x b = omega arith
+
 ops_operand : (d : Dep (List ℕ)) → expr_operators (canonical d) ≡ operators d → operand_operators (as_operand (canonical d)) ≡ operators d
 ops_operand d e = operand_ops (canonical d) ∙ e
 
@@ -387,33 +396,18 @@ ops : (d : Dep (List ℕ)) → well d ≡ true → expr_operators (canonical d) 
 ops (one (plain w)) h = refl
 ops (one (versioned w c e)) h = refl
 ops (namespace w) h = refl
-ops (and a b) h = let ha = first_of_both (well a) (well b) h in let hb = second_of_both (well a) (well b) h in let x = ops a ha in let y = ops_operand b (ops b hb) in let z = front_ops Both (canonical a) (as_operand (canonical b)) in omega arith
-ops (or a b) h = let ha = first_of_both (well a) (well b) h in let hb = second_of_both (well a) (well b) h in let x = ops a ha in let y = ops_operand b (ops b hb) in let z = front_ops Either (canonical a) (as_operand (canonical b)) in omega arith
-ops (with a b) h = let ha = first_of_both (well a) (well b) h in let hb = second_of_both (well a) (well b) h in let x = ops a ha in let y = ops_operand b (ops b hb) in let z = front_ops Jointly (canonical a) (as_operand (canonical b)) in omega arith
-ops (without a b) h = let ha = first_of_both (well a) (well b) h in let hb = second_of_both (well a) (well b) h in let x = ops_operand a (ops a ha) in let y = ops_operand b (ops b hb) in omega arith
-ops (if_then a b) h = let ha = first_of_both (well a) (well b) h in let hb = second_of_both (well a) (well b) h in let x = ops_operand a (ops a ha) in let y = ops_operand b (ops b hb) in omega arith
-ops (unless a b) h = let ha = first_of_both (well a) (well b) h in let hb = second_of_both (well a) (well b) h in let x = ops_operand a (ops a ha) in let y = ops_operand b (ops b hb) in omega arith
-ops (if_else a b c) h = let h1 = second_of_both (well a) (well b && well c) h in let ha = first_of_both (well a) (well b && well c) h in let hb = first_of_both (well b) (well c) h1 in let hc = second_of_both (well b) (well c) h1 in let x = ops_operand a (ops a ha) in let y = ops_operand b (ops b hb) in let z = ops_operand c (ops c hc) in omega arith
-ops (unless_else a b c) h = let h1 = second_of_both (well a) (well b && well c) h in let ha = first_of_both (well a) (well b && well c) h in let hb = first_of_both (well b) (well c) h1 in let hc = second_of_both (well b) (well c) h1 in let x = ops_operand a (ops a ha) in let y = ops_operand b (ops b hb) in let z = ops_operand c (ops c hc) in omega arith
+ops (joined j a b) h = let ha = first_of_both (well a) (well b) h in let hb = second_of_both (well a) (well b) h in let x = ops a ha in let y = ops_operand b (ops b hb) in let z = joined_ops j (canonical a) (as_operand (canonical b)) in omega arith
+ops (under k a b) h = let ha = first_of_both (well a) (well b) h in let hb = second_of_both (well a) (well b) h in let x = ops_operand a (ops a ha) in let y = ops_operand b (ops b hb) in omega arith
+ops (under_else k a b c) h = let h1 = second_of_both (well a) (well b && well c) h in let ha = first_of_both (well a) (well b && well c) h in let hb = first_of_both (well b) (well c) h1 in let hc = second_of_both (well b) (well c) h1 in let x = ops_operand a (ops a ha) in let y = ops_operand b (ops b hb) in let z = ops_operand c (ops c hc) in omega arith
 ops d h = cc
 
 depth : (d : Dep (List ℕ)) → well d ≡ true → operand_depth (as_operand (canonical d)) ≤ operators d
 depth (one (plain w)) h = omega arith
 depth (one (versioned w c e)) h = omega arith
 depth (namespace w) h = omega arith
-depth (and a b) h = let x = depth a (first_of_both (well a) (well b) h) in let y = depth b (second_of_both (well a) (well b) h) in let z = front_depth Both (canonical a) (as_operand (canonical b)) in omega arith
-depth (or a b) h = let x = depth a (first_of_both (well a) (well b) h) in let y = depth b (second_of_both (well a) (well b) h) in let z = front_depth Either (canonical a) (as_operand (canonical b)) in omega arith
-depth (with a b) h = let x = depth a (first_of_both (well a) (well b) h) in let y = depth b (second_of_both (well a) (well b) h) in let z = front_depth Jointly (canonical a) (as_operand (canonical b)) in omega arith
-depth (without a b) h = let x = depth a (first_of_both (well a) (well b) h) in let y = depth b (second_of_both (well a) (well b) h) in omega arith
-depth (if_then a b) h = let x = depth a (first_of_both (well a) (well b) h) in let y = depth b (second_of_both (well a) (well b) h) in omega arith
-depth (unless a b) h = let x = depth a (first_of_both (well a) (well b) h) in let y = depth b (second_of_both (well a) (well b) h) in omega arith
-depth (if_else a b c) h =
-    let h1 = second_of_both (well a) (well b && well c) h in
-    let x = depth a (first_of_both (well a) (well b && well c) h) in
-    let y = depth b (first_of_both (well b) (well c) h1) in
-    let z = depth c (second_of_both (well b) (well c) h1) in
-    omega arith
-depth (unless_else a b c) h =
+depth (joined j a b) h = let x = depth a (first_of_both (well a) (well b) h) in let y = depth b (second_of_both (well a) (well b) h) in let z = joined_depth j (canonical a) (as_operand (canonical b)) in omega arith
+depth (under k a b) h = let x = depth a (first_of_both (well a) (well b) h) in let y = depth b (second_of_both (well a) (well b) h) in omega arith
+depth (under_else k a b c) h =
     let h1 = second_of_both (well a) (well b && well c) h in
     let x = depth a (first_of_both (well a) (well b && well c) h) in
     let y = depth b (first_of_both (well b) (well c) h1) in

@@ -5,17 +5,15 @@ use Rattle.std.specs.List.{list_all}
 use Rattle.std.proofs.lemmas.Bool.Decides.{nat_tests}
 use Rattle.std.specs.Str.{bytes_eq}
 use Rattle.solv_base.specs.declared.comparison.Cmp.{Cmp}
-use Rattle.solv_base.specs.Dependency.{Dep, plain, one, namespace, operators}
+use Rattle.solv_base.specs.Dependency.{Dep, Connective, plain, one, namespace, joined, under, under_else, operators}
+use Rattle.solv_base.specs.Dependency.{Condition as Under}
 use Rattle.solv_deps.specs.declared.fault.DepFault.{DepFault}
 use Rattle.solv_deps.specs.declared.sign.Joint.{Joint}
-use Rattle.solv_deps.specs.declared.sign.Joint.TheVariants.{Both, Either, Jointly}
-use Rattle.solv_deps.specs.declared.sign.Conditional.{Conditional}
-use Rattle.solv_deps.specs.declared.sign.Conditional.TheVariants.{If, Unless}
 use Rattle.solv_deps.specs.declared.sign.Operator.{Operator}
 use Rattle.solv_deps.specs.declared.sign.Operator.TheVariants.{Link, Minus, Condition, Else}
 use Rattle.solv_io.specs.Words.{is_blank}
 use Rattle.solv_deps.specs.Words.{is_open, is_close, ends_word, unpaired_after, word_rest, after_first, words_behind, words}
-use Rattle.solv_deps.specs.Grammar.{operator, comparison, opens, closes, is_plain, is_namespace, named, joined, under, under_else, operator_spelled, sign}
+use Rattle.solv_deps.specs.Grammar.{operator, comparison, opens, closes, is_plain, is_namespace, named, connective_of, condition_of, operator_spelled, sign}
 use Rattle.solv_deps.specs.Reading.{Hand, nothing, in_chain, in_difference, in_condition, in_else, in_inner_else, Due, operand_due, evr_due, operator_due, Point, whole, inner_else, same_joint, going_on_if, goes_on, closed, close, go_on, at_operand, at_evr, at_operator, comparison_due, step_due, step, end_due, and_then, reading_from, reading, beginning}
 use Rattle.solv_deps.proofs.Printed.{is_word, well, right_cmp}
 use Rattle.solv_list.proofs.Booleans.{first_of_both, second_of_both}
@@ -145,19 +143,15 @@ abbrev IsGoodHand : ℕ → List Hand → Option Hand → Type 0
 IsGoodHand most o None = Unit {0}
 IsGoodHand most o (Some k) = (hand_well k ≡ true) × (hand_ops k ≤ most) × Linked k o
 
-joined_well : (j : Joint) (a b : Dep (List ℕ)) → well a ≡ true → well b ≡ true → (well (joined j a b) ≡ true) × (operators (joined j a b) ≡ operators a + operators b + 1)
-joined_well Both a b h k = (and_from (well a) (well b) h k, omega arith)
-joined_well Either a b h k = (and_from (well a) (well b) h k, omega arith)
-joined_well Jointly a b h k = (and_from (well a) (well b) h k, omega arith)
+joined_well : (j : Connective) (a b : Dep (List ℕ)) → well a ≡ true → well b ≡ true → (well (joined j a b) ≡ true) × (operators (joined j a b) ≡ operators a + operators b + 1)
+joined_well j a b h k = (and_from (well a) (well b) h k, omega arith)
 
-under_well : (k : Conditional) (a b : Dep (List ℕ)) → well a ≡ true → well b ≡ true → (well (under k a b) ≡ true) × (operators (under k a b) ≡ operators a + operators b + 1)
-under_well If a b g h = (and_from (well a) (well b) g h, omega arith)
-under_well Unless a b g h = (and_from (well a) (well b) g h, omega arith)
+under_well : (k : Under) (a b : Dep (List ℕ)) → well a ≡ true → well b ≡ true → (well (under k a b) ≡ true) × (operators (under k a b) ≡ operators a + operators b + 1)
+under_well k a b g h = (and_from (well a) (well b) g h, omega arith)
 
-under_else_well : (k : Conditional) (a b c : Dep (List ℕ)) → (well a && well b) ≡ true → well c ≡ true
+under_else_well : (k : Under) (a b c : Dep (List ℕ)) → (well a && well b) ≡ true → well c ≡ true
     → (well (under_else k a b c) ≡ true) × (operators (under_else k a b c) ≡ operators a + operators b + operators c + 2)
-under_else_well If a b c g h = (and_from (well a) _ (first_of_both (well a) (well b) g) (and_from (well b) (well c) (second_of_both (well a) (well b) g) h), omega arith)
-under_else_well Unless a b c g h = (and_from (well a) _ (first_of_both (well a) (well b) g) (and_from (well b) (well c) (second_of_both (well a) (well b) g) h), omega arith)
+under_else_well k a b c g h = (and_from (well a) _ (first_of_both (well a) (well b) g) (and_from (well b) (well c) (second_of_both (well a) (well b) g) h), omega arith)
 
 inner_good : (o : List Hand) (d : Dep (List ℕ)) → list_all hand_well o ≡ true → well d ≡ true → IsGoodHand (0 + operators d + 1) o (inner_else o d)
 inner_good [] d w h = tt
@@ -168,8 +162,8 @@ inner_good (in_condition k a ∷ o) d w h = (and_from (well a) (well d) (first_o
 inner_good (in_else k a b ∷ o) d w h = tt
 inner_good (in_inner_else k a b ∷ o) d w h = tt
 
-chain_good : (b : Bool) (i j : Joint) (a d : Dep (List ℕ)) (o : List Hand) → well a ≡ true → well d ≡ true → IsGoodHand (operators a + 1 + operators d + 1) o (going_on_if b (in_chain j (joined i a d)))
-chain_good true i j a d o h k = let g = joined_well i a d h k in let e = g.1 in (g.0, omega arith, tt)
+chain_good : (b : Bool) (i j : Joint) (a d : Dep (List ℕ)) (o : List Hand) → well a ≡ true → well d ≡ true → IsGoodHand (operators a + 1 + operators d + 1) o (going_on_if b (in_chain j (joined (connective_of i) a d)))
+chain_good true i j a d o h k = let g = joined_well (connective_of i) a d h k in let e = g.1 in (g.0, omega arith, tt)
 chain_good false i j a d o h k = tt
 
 goes_good : (o : List Hand) (h : Hand) (d : Dep (List ℕ)) (op : Operator) → list_all hand_well (h ∷ o) ≡ true → well d ≡ true → IsGoodHand (hand_ops h + operators d + 1) o (goes_on o h d op)
@@ -217,7 +211,7 @@ closed_good os n (in_inner_else kind a b) (in_inner_else i c e) d g k = absurd (
 closed_good os n nothing o d g k = let m = g.counted in (record { wells = g.wells; links = g.links.1; counted = omega arith; limit = g.limit }, k, refl)
 closed_good os n (in_chain j a) o d g k =
     let m = g.counted in
-    let w = joined_well j a d (first_of_both (well a) _ g.wells) k in
+    let w = joined_well (connective_of j) a d (first_of_both (well a) _ g.wells) k in
     let e = w.1 in
     (record { wells = second_of_both (well a) _ g.wells; links = g.links.1; counted = omega arith; limit = g.limit }, w.0, refl)
 closed_good os n (in_difference a) o d g k =
@@ -225,12 +219,12 @@ closed_good os n (in_difference a) o d g k =
     (record { wells = second_of_both (well a) _ g.wells; links = g.links.1; counted = omega arith; limit = g.limit }, and_from (well a) (well d) (first_of_both (well a) _ g.wells) k, refl)
 closed_good os n (in_condition c a) o d g k =
     let m = g.counted in
-    let w = under_well c a d (first_of_both (well a) _ g.wells) k in
+    let w = under_well (condition_of c) a d (first_of_both (well a) _ g.wells) k in
     let e = w.1 in
     (record { wells = second_of_both (well a) _ g.wells; links = g.links.1; counted = omega arith; limit = g.limit }, w.0, refl)
 closed_good os n (in_else c a b) o d g k =
     let m = g.counted in
-    let w = under_else_well c a b d (first_of_both (well a && well b) _ g.wells) k in
+    let w = under_else_well (condition_of c) a b d (first_of_both (well a && well b) _ g.wells) k in
     let e = w.1 in
     (record { wells = second_of_both (well a && well b) _ g.wells; links = g.links.1; counted = omega arith; limit = g.limit }, w.0, refl)
 
@@ -268,12 +262,12 @@ end_good o n (operand_due h) g = tt
 end_good o n (evr_due h name c) g = tt
 end_good (o ∷ os) n (operator_due h name d) g = tt
 end_good [] n (operator_due nothing name d) g = let m = g.0.counted in let l = g.0.limit in (g.1, omega arith)
-end_good [] n (operator_due (in_chain j a) name d) g = let m = g.0.counted in let l = g.0.limit in let w = joined_well j a d (first_of_both (well a) _ g.0.wells) g.1 in let e = w.1 in (w.0, omega arith)
+end_good [] n (operator_due (in_chain j a) name d) g = let m = g.0.counted in let l = g.0.limit in let w = joined_well (connective_of j) a d (first_of_both (well a) _ g.0.wells) g.1 in let e = w.1 in (w.0, omega arith)
 end_good [] n (operator_due (in_difference a) name d) g = let m = g.0.counted in let l = g.0.limit in (and_from (well a) (well d) (first_of_both (well a) _ g.0.wells) g.1, omega arith)
-end_good [] n (operator_due (in_condition c a) name d) g = let m = g.0.counted in let l = g.0.limit in let w = under_well c a d (first_of_both (well a) _ g.0.wells) g.1 in let e = w.1 in (w.0, omega arith)
+end_good [] n (operator_due (in_condition c a) name d) g = let m = g.0.counted in let l = g.0.limit in let w = under_well (condition_of c) a d (first_of_both (well a) _ g.0.wells) g.1 in let e = w.1 in (w.0, omega arith)
 end_good [] n (operator_due (in_else c a b) name d) g =
     let m = g.0.counted in let l = g.0.limit in
-    let w = under_else_well c a b d (first_of_both (well a && well b) _ g.0.wells) g.1 in
+    let w = under_else_well (condition_of c) a b d (first_of_both (well a && well b) _ g.0.wells) g.1 in
     let e = w.1 in
     (w.0, omega arith)
 end_good [] n (operator_due (in_inner_else c a b) name d) g = absurd (g.0.links.0)

@@ -3,7 +3,7 @@ use Rattle.std.proofs.Common.{◌≡◌, ℕ, ◌+◌, Bool, true, false, ◌&&�
 use Rattle.std.specs.Option.{option_or}
 use Rattle.std.specs.Prelude.{codes, if◌then◌else◌, is_some}
 use Rattle.solv_base.specs.declared.comparison.Cmp.{Cmp}
-use Rattle.solv_base.specs.Dependency.{Dep, versioned, one}
+use Rattle.solv_base.specs.Dependency.{Dep, versioned, one, joined}
 use Rattle.solv_deps.specs.declared.fault.DepFault.{DepFault}
 use Rattle.solv_deps.specs.declared.fault.DepFault.TheVariants as Fault
 use Rattle.solv_deps.specs.declared.sign.Joint.{Joint}
@@ -12,7 +12,7 @@ use Rattle.solv_deps.specs.declared.sign.Conditional.{Conditional}
 use Rattle.solv_deps.specs.declared.sign.Conditional.TheVariants.{If, Unless}
 use Rattle.solv_deps.specs.declared.sign.Operator.{Operator}
 use Rattle.solv_deps.specs.declared.sign.Operator.TheVariants.{Link, Minus, Condition, Else}
-use Rattle.solv_deps.specs.Grammar.{operator, comparison, opens, closes, is_plain, is_namespace, named, joined, Spelling, by_sign, by_word, spelled, operator_spelled, sign, rpm_word, word_is, Operand, Chain, name, compared, inside, two, more, alone, chain, less, provided, provided_else, provided_inside, operand_words, chain_words, expr_words, operand_sense, chain_sense, operand_right, chain_right, expr_right}
+use Rattle.solv_deps.specs.Grammar.{operator, comparison, opens, closes, is_plain, is_namespace, named, connective_of, Spelling, by_sign, by_word, spelled, operator_spelled, sign, rpm_word, word_is, Operand, Chain, name, compared, inside, two, more, alone, chain, less, provided, provided_else, provided_inside, operand_words, chain_words, expr_words, operand_sense, chain_sense, operand_right, chain_right, expr_right}
 use Rattle.solv_deps.specs.Reading.{Hand, nothing, in_chain, in_difference, in_condition, in_else, in_inner_else, Due, operand_due, evr_due, operator_due, Point, whole, goes_on, going_on_if, same_joint, closed, close, go_on, at_operand, at_evr, at_other, at_operator, comparison_due, step_due, step, and_then, reading_from, reading, beginning, end_due}
 use Rattle.solv_deps.specs.Laws.{Spells}
 use Rattle.solv_list.proofs.Lists.{same_bytes}
@@ -107,7 +107,7 @@ last_right : (f : Front) (s : Spelling) (y : Operand) → front_right f ≡ true
 last_right (first x) s y h k = and_from (operand_right x) (operand_right y) h k
 last_right (several c) s y h k = and_from (chain_right c) (operand_right y) h k
 
-last_sense : (j : Joint) (f : Front) (s : Spelling) (y : Operand) → chain_sense j (with_last f s y) ≡ joined j (front_sense j f) (operand_sense y)
+last_sense : (j : Joint) (f : Front) (s : Spelling) (y : Operand) → chain_sense j (with_last f s y) ≡ joined (connective_of j) (front_sense j f) (operand_sense y)
 last_sense j (first x) s y = refl
 last_sense j (several c) s y = refl
 
@@ -357,10 +357,10 @@ with_operator t o h nm d op k vs g e =
     left_of o op d vs x e r s = record { operand = x; right = r; sense = s; spelling = t; is = rw e refl }
 
     chained : (o : List Hand) (b : Bool) (i j : Joint) (a d : Dep (List ℕ)) (k : Hand) (vs : Words) (x : Operand) → same_joint i j ≡ b → Fronts i vs a → operand_right x ≡ true → operand_sense x ≡ d
-        → going_on_if b (in_chain j (joined i a d)) ≡ Some k → IsHand o k ((vs ++ operand_words x) ++ spelled t (Link j) ∷ [])
+        → going_on_if b (in_chain j (joined (connective_of i) a d)) ≡ Some k → IsHand o k ((vs ++ operand_words x) ++ spelled t (Link j) ∷ [])
     chained o false i j a d k vs x q f r s e = cc
     chained o true i j a d k vs x q f r s e =
-        let same : in_chain j (joined i a d) ≡ k = cc in
+        let same : in_chain j (joined (connective_of i) a d) ≡ k = cc in
         let ij : i ≡ j = same_joint_is i j q in
         let P : Hand → Type 0 = λ h. IsHand o h ((vs ++ operand_words x) ++ spelled t (Link j) ∷ []) in
         subst P same (rw (← ij) (record {

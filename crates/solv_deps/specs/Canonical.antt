@@ -2,11 +2,12 @@
 -- the front of a chain that has the same operator. Operators are written by their signs.
 use Rattle.std.specs.Prelude.{ℕ, Bool, true, false, not, ◌||◌, List, [], ◌++◌, codes, if◌then◌else◌, nat_lt}
 use Rattle.solv_base.specs.declared.comparison.Cmp.{Cmp}
-use Rattle.solv_base.specs.Dependency.{Dep, Capability, plain, versioned, one, namespace, and, or, with, without, if_then, if_else, unless, unless_else, missing}
+use Rattle.solv_base.specs.Dependency.{Dep, Capability, Connective, plain, versioned, one, namespace, and, or, with, without, if_holds, unless_holds, joined, under, under_else, missing}
+use Rattle.solv_base.specs.Dependency.{Condition as Under}
 use Rattle.solv_deps.specs.Words.{unpaired_in}
-use Rattle.solv_deps.specs.declared.sign.Joint.{Joint}
 use Rattle.solv_deps.specs.declared.sign.Joint.TheVariants.{Both, Either, Jointly}
 use Rattle.solv_deps.specs.declared.sign.Operator.{Operator}
+use Rattle.solv_deps.specs.declared.sign.Conditional.{Conditional}
 use Rattle.solv_deps.specs.declared.sign.Conditional.TheVariants.{If, Unless}
 use Rattle.solv_deps.specs.declared.sign.Operator.TheVariants.{Link, Minus, Condition, Else}
 use Rattle.solv_deps.specs.Grammar.{sign}
@@ -21,11 +22,23 @@ is_rich (one c) = false
 is_rich (namespace n) = false
 is_rich d = true
 
--- is it a chain of this operator?
-abbrev pub is_chain : {N : Type 0} → Joint → Dep N → Bool
-is_chain Both (and a b) = true
-is_chain Either (or a b) = true
-is_chain Jointly (with a b) = true
+-- the operator that joins so
+abbrev pub joining_operator : Connective → Operator
+joining_operator and = Link Both
+joining_operator or = Link Either
+joining_operator with = Link Jointly
+joining_operator without = Minus
+
+-- the condition as it is written
+abbrev pub conditional : Under → Conditional
+conditional if_holds = If
+conditional unless_holds = Unless
+
+-- is it a chain of this operator? `-` makes none
+abbrev pub is_chain : {N : Type 0} → Connective → Dep N → Bool
+is_chain and (joined and a b) = true
+is_chain or (joined or a b) = true
+is_chain with (joined with a b) = true
 is_chain j d = false
 
 -- does a dependency that is not rich end in a word which has a `(` without a partner?
@@ -37,14 +50,9 @@ ends_unpaired d = false
 
 -- is a space due before a parenthesis that closes round this?
 abbrev pub space_before_close : Dep (List ℕ) → Bool
-space_before_close (and a b) = ends_unpaired b
-space_before_close (or a b) = ends_unpaired b
-space_before_close (with a b) = ends_unpaired b
-space_before_close (without a b) = ends_unpaired b
-space_before_close (if_then a b) = ends_unpaired b
-space_before_close (if_else a b c) = ends_unpaired c
-space_before_close (unless a b) = ends_unpaired b
-space_before_close (unless_else a b c) = ends_unpaired c
+space_before_close (joined j a b) = ends_unpaired b
+space_before_close (under k a b) = ends_unpaired b
+space_before_close (under_else k a b c) = ends_unpaired c
 space_before_close d = false
 
 -- a text in parentheses, with a space before the closing one where that is due
@@ -68,20 +76,12 @@ abbrev pub capability_text : Capability (List ℕ) → List ℕ
 capability_text (plain w) = w
 capability_text (versioned w c e) = w ++ (codes " " ++ (comparison_text c ++ (codes " " ++ e)))
 
--- a chain's operator between its two sides
-abbrev pub chain_text : Joint → Dep (List ℕ) → List ℕ → Dep (List ℕ) → List ℕ → List ℕ
-chain_text j a left b right = operand_text (is_chain j a) a left ++ (spaced (Link j) ++ operand_text false b right)
-
 -- the canonical text
 abbrev pub text : Dep (List ℕ) → List ℕ
 text (one c) = capability_text c
 text (namespace w) = w
-text (and a b) = chain_text Both a (text a) b (text b)
-text (or a b) = chain_text Either a (text a) b (text b)
-text (with a b) = chain_text Jointly a (text a) b (text b)
-text (without a b) = operand_text false a (text a) ++ (spaced Minus ++ operand_text false b (text b))
-text (if_then a b) = operand_text false a (text a) ++ (spaced (Condition If) ++ operand_text false b (text b))
-text (if_else a b c) = operand_text false a (text a) ++ (spaced (Condition If) ++ (operand_text false b (text b) ++ (spaced Else ++ operand_text false c (text c))))
-text (unless a b) = operand_text false a (text a) ++ (spaced (Condition Unless) ++ operand_text false b (text b))
-text (unless_else a b c) = operand_text false a (text a) ++ (spaced (Condition Unless) ++ (operand_text false b (text b) ++ (spaced Else ++ operand_text false c (text c))))
+text (joined j a b) = operand_text (is_chain j a) a (text a) ++ (spaced (joining_operator j) ++ operand_text false b (text b))
+text (under k a b) = operand_text false a (text a) ++ (spaced (Condition (conditional k)) ++ operand_text false b (text b))
+text (under_else k a b c) =
+    operand_text false a (text a) ++ (spaced (Condition (conditional k)) ++ (operand_text false b (text b) ++ (spaced Else ++ operand_text false c (text c))))
 text missing = []

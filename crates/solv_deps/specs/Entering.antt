@@ -4,7 +4,7 @@ use Rattle.std.specs.List.{list_any, position_or_len}
 use Rattle.solv_base.specs.contracts.relation.DepNodePartialEq.TheImpl.{eq-value}
 use Rattle.solv_base.specs.declared.relation.DepNode.{DepNode}
 use Rattle.solv_base.specs.declared.relation.DepNode.TheVariants.{Simple, Versioned, Namespace, And, Or, With, Without, If, IfElse, Unless, UnlessElse}
-use Rattle.solv_base.specs.Dependency.{Dep, Capability, plain, versioned, one, namespace, and, or, with, without, if_then, if_else, unless, unless_else, missing}
+use Rattle.solv_base.specs.Dependency.{Dep, Capability, plain, versioned, one, namespace, and, or, with, without, if_holds, unless_holds, joined, under, under_else, missing}
 use Rattle.solv_base.specs.Pool.{Held, most, is_name, name_id, with_name}
 use Rattle.solv_deps.specs.declared.fault.DepFault.{DepFault}
 use Rattle.solv_deps.specs.declared.fault.DepFault.TheVariants.{FullNames, FullRelations, OperatorNotHere}
@@ -60,12 +60,12 @@ capability_entered (versioned name c evr) held = pair_entered (text_entered name
 abbrev pub dependency_entered : Dep (List ℕ) → Held → Result Entered DepFault
 dependency_entered (one c) held = capability_entered c held
 dependency_entered (namespace name) held = and_then (text_entered name held) (λ n. relation_entered (Namespace n.id) n.held)
-dependency_entered (and a b) held = pair_entered (dependency_entered a) (dependency_entered b) And held
-dependency_entered (or a b) held = pair_entered (dependency_entered a) (dependency_entered b) Or held
-dependency_entered (with a b) held = pair_entered (dependency_entered a) (dependency_entered b) With held
-dependency_entered (without a b) held = pair_entered (dependency_entered a) (dependency_entered b) Without held
-dependency_entered (if_then a b) held = pair_entered (dependency_entered a) (dependency_entered b) If held
-dependency_entered (unless a b) held = pair_entered (dependency_entered a) (dependency_entered b) Unless held
-dependency_entered (if_else a b c) held = triple_entered (dependency_entered a) (dependency_entered b) (dependency_entered c) IfElse held
-dependency_entered (unless_else a b c) held = triple_entered (dependency_entered a) (dependency_entered b) (dependency_entered c) UnlessElse held
+dependency_entered (joined and a b) held = pair_entered (dependency_entered a) (dependency_entered b) And held
+dependency_entered (joined or a b) held = pair_entered (dependency_entered a) (dependency_entered b) Or held
+dependency_entered (joined with a b) held = pair_entered (dependency_entered a) (dependency_entered b) With held
+dependency_entered (joined without a b) held = pair_entered (dependency_entered a) (dependency_entered b) Without held
+dependency_entered (under if_holds a b) held = pair_entered (dependency_entered a) (dependency_entered b) If held
+dependency_entered (under unless_holds a b) held = pair_entered (dependency_entered a) (dependency_entered b) Unless held
+dependency_entered (under_else if_holds a b c) held = triple_entered (dependency_entered a) (dependency_entered b) (dependency_entered c) IfElse held
+dependency_entered (under_else unless_holds a b c) held = triple_entered (dependency_entered a) (dependency_entered b) (dependency_entered c) UnlessElse held
 dependency_entered missing held = Err OperatorNotHere

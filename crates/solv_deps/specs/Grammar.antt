@@ -11,7 +11,8 @@ use Rattle.solv_deps.specs.declared.sign.Operator.{Operator}
 use Rattle.solv_deps.specs.declared.sign.Operator.TheVariants.{Link, Minus, Condition, Else}
 use Rattle.solv_deps.specs.Words.{is_open, is_close}
 use Rattle.solv_base.specs.declared.comparison.Cmp.{Cmp}
-use Rattle.solv_base.specs.Dependency.{Dep, plain, versioned, one, namespace, and, or, with, without, if_then, if_else, unless, unless_else}
+use Rattle.solv_base.specs.Dependency.{Dep, Connective, plain, versioned, one, namespace, and, or, with, without, if_holds, unless_holds, joined, under, under_else}
+use Rattle.solv_base.specs.Dependency.{Condition as Under}
 
 -- is the word this text?
 abbrev pub word_is : List ℕ → List ℕ → Bool
@@ -97,21 +98,16 @@ is_namespace w = bytes_eq (codes "namespace:") (take 10 w) && (list_any is_open 
 abbrev pub named : List ℕ → Dep (List ℕ)
 named w = if is_namespace w then namespace w else one (plain w)
 
--- a chain's operator between two dependencies
-abbrev pub joined : Joint → Dep (List ℕ) → Dep (List ℕ) → Dep (List ℕ)
-joined Both a b = and a b
-joined Either a b = or a b
-joined Jointly a b = with a b
+-- how a chain's operator joins
+abbrev pub connective_of : Joint → Connective
+connective_of Both = and
+connective_of Either = or
+connective_of Jointly = with
 
--- a dependency under a condition
-abbrev pub under : Conditional → Dep (List ℕ) → Dep (List ℕ) → Dep (List ℕ)
-under If a b = if_then a b
-under Unless a b = unless a b
-
--- a dependency under a condition, with another one for where it does not count
-abbrev pub under_else : Conditional → Dep (List ℕ) → Dep (List ℕ) → Dep (List ℕ) → Dep (List ℕ)
-under_else If a b c = if_else a b c
-under_else Unless a b c = unless_else a b c
+-- when the operand before it counts
+abbrev pub condition_of : Conditional → Under
+condition_of If = if_holds
+condition_of Unless = unless_holds
 
 -- What is written: a dependency with its parentheses and the spelling of each operator. An operand is a name, a name with a
 -- comparison and an EVR, or an expression in parentheses; a chain has two operands or more; an expression is an operand, a
@@ -162,16 +158,16 @@ abbrev mutual
   operand_sense (inside x) = expr_sense x
 
   pub chain_sense : Joint → Chain → Dep (List ℕ)
-  chain_sense j (two a s b) = joined j (operand_sense a) (operand_sense b)
-  chain_sense j (more c s b) = joined j (chain_sense j c) (operand_sense b)
+  chain_sense j (two a s b) = joined (connective_of j) (operand_sense a) (operand_sense b)
+  chain_sense j (more c s b) = joined (connective_of j) (chain_sense j c) (operand_sense b)
 
   pub expr_sense : Expr → Dep (List ℕ)
   expr_sense (alone a) = operand_sense a
   expr_sense (chain j c) = chain_sense j c
-  expr_sense (less a s b) = without (operand_sense a) (operand_sense b)
-  expr_sense (provided k a s b) = under k (operand_sense a) (operand_sense b)
-  expr_sense (provided_else k a s b t c) = under_else k (operand_sense a) (operand_sense b) (operand_sense c)
-  expr_sense (provided_inside k a s b t c) = under_else k (operand_sense a) (operand_sense b) (operand_sense c)
+  expr_sense (less a s b) = joined without (operand_sense a) (operand_sense b)
+  expr_sense (provided k a s b) = under (condition_of k) (operand_sense a) (operand_sense b)
+  expr_sense (provided_else k a s b t c) = under_else (condition_of k) (operand_sense a) (operand_sense b) (operand_sense c)
+  expr_sense (provided_inside k a s b t c) = under_else (condition_of k) (operand_sense a) (operand_sense b) (operand_sense c)
 
 -- are its names, comparisons and EVRs such words?
 abbrev mutual
@@ -195,9 +191,8 @@ abbrev mutual
 -- the parentheses that are open at one time
 abbrev mutual
   pub operand_depth : Operand → ℕ
-  operand_depth (name w) = 0
-  operand_depth (compared w c e) = 0
   operand_depth (inside x) = expr_depth x + 1
+  operand_depth a = 0
 
   pub chain_depth : Chain → ℕ
   chain_depth (two a s b) = max (operand_depth a) (operand_depth b)
@@ -214,9 +209,8 @@ abbrev mutual
 -- the operators that are written
 abbrev mutual
   pub operand_operators : Operand → ℕ
-  operand_operators (name w) = 0
-  operand_operators (compared w c e) = 0
   operand_operators (inside x) = expr_operators x
+  operand_operators a = 0
 
   pub chain_operators : Chain → ℕ
   chain_operators (two a s b) = operand_operators a + operand_operators b + 1

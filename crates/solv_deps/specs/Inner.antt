@@ -1,6 +1,5 @@
 -- Words of contracts between layers, and what holds inside.
 pub mod Appending
-pub mod Conditions
 pub mod Drafts
 pub mod Entering
 pub mod Points

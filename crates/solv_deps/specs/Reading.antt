@@ -1,7 +1,7 @@
 -- What reading a dependency gives: its tree, or the first cause from left to right.
 use Rattle.std.specs.Prelude.{ℕ, ◌+◌, Bool, true, false, List, [], ◌∷◌, length, Option, Some, None, Result, Ok, Err, if◌then◌else◌, nat_le}
 use Rattle.solv_base.specs.declared.comparison.Cmp.{Cmp}
-use Rattle.solv_base.specs.Dependency.{Dep, versioned, one, without}
+use Rattle.solv_base.specs.Dependency.{Dep, versioned, one, without, joined, under, under_else}
 use Rattle.solv_deps.specs.declared.fault.DepFault.{DepFault}
 use Rattle.solv_deps.specs.declared.fault.DepFault.TheVariants.{BadOperator, MissingOperand, MixedOperators, UnclosedParenthesis, TooDeep, OperatorNotHere}
 use Rattle.solv_deps.specs.declared.place.Place.{Place}
@@ -12,7 +12,7 @@ use Rattle.solv_deps.specs.declared.sign.Joint.TheVariants.{Both, Either, Jointl
 use Rattle.solv_deps.specs.declared.sign.Conditional.{Conditional}
 use Rattle.solv_deps.specs.declared.sign.Operator.{Operator}
 use Rattle.solv_deps.specs.declared.sign.Operator.TheVariants.{Link, Minus, Condition, Else}
-use Rattle.solv_deps.specs.Grammar.{operator, comparison, opens, closes, is_plain, is_namespace, named, joined, under, under_else}
+use Rattle.solv_deps.specs.Grammar.{operator, comparison, opens, closes, is_plain, is_namespace, named, connective_of, condition_of}
 
 -- The rule in hand: what stands before the operand in hand, in its parentheses.
 pub data Hand : Type 0 where
@@ -39,11 +39,11 @@ pub record Point : Type 0 where
 -- the dependency that the rule in hand makes with its last operand
 abbrev pub whole : Hand → Dep (List ℕ) → Dep (List ℕ)
 whole nothing d = d
-whole (in_chain j a) d = joined j a d
-whole (in_difference a) d = without a d
-whole (in_condition k a) d = under k a d
-whole (in_else k a b) d = under_else k a b d
-whole (in_inner_else k a b) d = under_else k a b d
+whole (in_chain j a) d = joined (connective_of j) a d
+whole (in_difference a) d = joined without a d
+whole (in_condition k a) d = under (condition_of k) a d
+whole (in_else k a b) d = under_else (condition_of k) a b d
+whole (in_inner_else k a b) d = under_else (condition_of k) a b d
 
 -- is it the same operator?
 abbrev pub same_joint : Joint → Joint → Bool
@@ -67,7 +67,7 @@ goes_on outer nothing d (Link j) = Some (in_chain j d)
 goes_on outer nothing d Minus = Some (in_difference d)
 goes_on outer nothing d (Condition k) = Some (in_condition k d)
 goes_on outer nothing d Else = inner_else outer d
-goes_on outer (in_chain i a) d (Link j) = going_on_if (same_joint i j) (in_chain j (joined i a d))
+goes_on outer (in_chain i a) d (Link j) = going_on_if (same_joint i j) (in_chain j (joined (connective_of i) a d))
 goes_on outer (in_condition k a) d Else = Some (in_else k a d)
 goes_on outer h d o = None
 

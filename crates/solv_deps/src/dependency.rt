@@ -1,6 +1,6 @@
 //! Reading a dependency into a pool.
 ghost use Rattle.std.specs.Prelude.{ℕ, List, ◌≡◌, ◌<◌, length, IfOk, IfErr, IsTrue, Ok, Err, ◌↔◌, true};
-ghost use Rattle.solv_base.specs.Dependency.{Capability, one, plain, versioned, namespace, or};
+ghost use Rattle.solv_base.specs.Dependency.{Capability, one, plain, versioned, namespace, or, joined};
 ghost use Rattle.solv_base.specs.Pool.{Grows, text_at, text_tree};
 ghost use Rattle.solv_base.specs.Inner.Pool.{text_tree_of_node, uses_below};
 ghost use Rattle.solv_deps.specs.declared.fault.DepFault.{DepFault as Cause};
@@ -185,8 +185,8 @@ fn enter_single(pool: &mut Pool, single: &Single<'_>) -> Result<DepId, DepFault>
 
 /// Enters two names, each with or without a comparison and an EVR, between which `|` stands.
 fn enter_either(pool: &mut Pool, left: &Single<'_>, right: &Single<'_>) -> Result<DepId, DepFault>
-    ensures entered { IfOk result (λ id. IsEntered (or (one (capability_of left.now)) (one (capability_of right.now))) pool.old pool.new id) }
-    ensures refused { IfErr result (λ e. IsRefusal e (dependency_entered (or (one (capability_of left.now)) (one (capability_of right.now))) pool.old)) }
+    ensures entered { IfOk result (λ id. IsEntered (joined or (one (capability_of left.now)) (one (capability_of right.now))) pool.old pool.new id) }
+    ensures refused { IfErr result (λ e. IsRefusal e (dependency_entered (joined or (one (capability_of left.now)) (one (capability_of right.now))) pool.old)) }
     ensures of_pool { IfErr result IsOfPool }
     ensures grows { Grows pool.old pool.new }
 {
@@ -215,7 +215,7 @@ fn read_any(pool: &mut Pool, text: &[u8], place: Place) -> Result<DepId, DepFaul
 
 /// The dependency that any text spells at a place where `|` may stand. Two names with `|` between need no draft.
 fn read_joined(pool: &mut Pool, text: &[u8], place: Place) -> Result<DepId, DepFault>
-    requires { (c d : Capability (List ℕ)) → stands_at place (or (one c) (one d)) ≡ true }
+    requires { (c d : Capability (List ℕ)) → stands_at place (joined or (one c) (one d)) ≡ true }
     ensures read { IfOk result (λ id. dependency place text.now ≡ Ok (text_tree pool.new id)) }
     ensures within { IfOk result (λ id. id < length pool.new.nodes) }
     ensures entered { IfOk result (λ id. text_read place text.now pool.old ≡ Ok (record { id = id; held = pool.new })) }

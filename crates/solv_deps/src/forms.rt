@@ -1,9 +1,9 @@
 //! Which forms of dependencies may stand where.
 ghost use Rattle.std.specs.Prelude.{◌≡◌, ◌<◌, length, true};
 ghost use Rattle.solv_base.specs.Dependency.{package_wise};
-ghost use Rattle.solv_base.specs.Places.{fits_place, unconditional};
+ghost use Rattle.solv_base.specs.Places.{fits_place, unconditional, may_stand as stands_under};
 ghost use Rattle.solv_deps.specs.Inner.Drafts.{said};
-ghost use Rattle.solv_deps.specs.Inner.Conditions.{conditional_fits};
+ghost use Rattle.solv_deps.specs.Grammar.{condition_of};
 ghost use Rattle.solv_deps.specs.Table.{is_capability, stands_at};
 
 use crate::draft::{Draft, Written};
@@ -57,7 +57,7 @@ fn is_unconditional(draft: &Draft<'_>, number: u8) -> bool
 
 /// Whether `<IF>`, or `<UNLESS>`, may stand there: the first where something is required, the other where something conflicts.
 fn stands_where(kind: Conditional, required: bool) -> bool
-    ensures { result ≡ conditional_fits required kind }
+    ensures { result ≡ stands_under required (condition_of kind) }
 {
     match kind {
         Conditional::If => required,

@@ -3,6 +3,7 @@ ghost use Rattle.std.specs.Prelude.{◌≡◌, ◌<◌, ◌++◌, false, length,
 ghost use Rattle.solv_base.specs.Dependency.{versioned};
 ghost use Rattle.solv_base.specs.Pool.{text_tree};
 ghost use Rattle.solv_deps.specs.Words.{unpaired_in};
+ghost use Rattle.solv_deps.specs.Grammar.{connective_of};
 ghost use Rattle.solv_deps.specs.Canonical.{text, is_rich, is_chain, ends_unpaired, space_before_close, comparison_text, operand_text, between, spaced, capability_text};
 ghost use Rattle.solv_deps.specs.Inner.Appending.{Keeps};
 ghost use Rattle.solv_deps.specs.declared.sign.Operator.TheVariants.{Else};
@@ -43,7 +44,7 @@ fn has_operator(pool: &Pool, dep: DepId) -> bool
 /// Whether a dependency is a chain of this operator.
 fn continues(pool: &Pool, joint: Joint, dep: DepId) -> bool
     requires { dep < length pool.now.nodes }
-    ensures { result ≡ is_chain joint (text_tree pool.now dep) }
+    ensures { result ≡ is_chain (connective_of joint) (text_tree pool.now dep) }
 {
     match pool.dep(dep) {
         DepNode::And(_, _) => joint == Joint::Both,

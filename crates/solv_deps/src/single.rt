@@ -1,7 +1,7 @@
 //! Texts of one name, and of a name with a comparison and an EVR, and of two of these with `|` between. They are most texts,
 //! and need no draft.
 ghost use Rattle.std.specs.Prelude.{◌≡◌, ◌∷◌, [], Ok, IfSome, true, false, Some, None, ℕ, List};
-ghost use Rattle.solv_base.specs.Dependency.{one, or};
+ghost use Rattle.solv_base.specs.Dependency.{one, or, joined};
 ghost use Rattle.solv_deps.specs.Grammar.{comparison, is_plain, is_namespace, operator};
 ghost use Rattle.solv_deps.specs.declared.sign.Joint.TheVariants.{Either};
 ghost use Rattle.solv_deps.specs.declared.sign.Operator.TheVariants.{Link};
@@ -102,7 +102,7 @@ fn cut_at_either(text: &[u8]) -> Option<(Single<'_>, &[u8])>
 
 /// What a text says that is two of them with `|` between.
 pub(crate) fn pair_of(text: &[u8]) -> Option<(Single<'_>, Single<'_>)>
-    ensures { IfSome result (λ pair. reading (words text.now) ≡ Ok (or (one (capability_of pair.0)) (one (capability_of pair.1)))) }
+    ensures { IfSome result (λ pair. reading (words text.now) ≡ Ok (joined or (one (capability_of pair.0)) (one (capability_of pair.1)))) }
 {
     let (left, behind) = cut_at_either(text)?;
     let right = single_of(behind)?;

@@ -1,9 +1,9 @@
 -- A draft: what a text says so far, each part after its operands, before any of it is entered into a pool.
 use Rattle.std.specs.Prelude.{ℕ, suc, ◌≡◌, ◌<◌, ◌≤◌, Bool, true, ◌&&◌, List, [], ◌∷◌, ◌++◌, length, nat_lt, get_or, take}
-use Rattle.solv_base.specs.Dependency.{Dep, plain, versioned, one, namespace, without, missing}
+use Rattle.solv_base.specs.Dependency.{Dep, plain, versioned, one, namespace, without, joined, under, under_else, missing}
 use Rattle.solv_deps.specs.declared.draft.Written.{Written}
 use Rattle.solv_deps.specs.declared.draft.Written.TheVariants.{Simple, Versioned, Namespace, Joined, Without, Under, UnderElse}
-use Rattle.solv_deps.specs.Grammar.{joined, under, under_else}
+use Rattle.solv_deps.specs.Grammar.{connective_of, condition_of}
 
 -- the dependency at this place
 abbrev pub at : List (Dep (List ℕ)) → ℕ → Dep (List ℕ)
@@ -14,10 +14,10 @@ abbrev pub written : (ℕ → Dep (List ℕ)) → Written → Dep (List ℕ)
 written of (Simple name) = one (plain name.now)
 written of (Versioned name c evr) = one (versioned name.now c evr.now)
 written of (Namespace name) = namespace name.now
-written of (Joined j a b) = joined j (of a) (of b)
-written of (Without a b) = without (of a) (of b)
-written of (Under k a b) = under k (of a) (of b)
-written of (UnderElse k a b c) = under_else k (of a) (of b) (of c)
+written of (Joined j a b) = joined (connective_of j) (of a) (of b)
+written of (Without a b) = joined without (of a) (of b)
+written of (Under k a b) = under (condition_of k) (of a) (of b)
+written of (UnderElse k a b c) = under_else (condition_of k) (of a) (of b) (of c)
 
 -- the dependencies of parts that follow these
 abbrev pub written_after : List (Dep (List ℕ)) → List Written → List (Dep (List ℕ))
