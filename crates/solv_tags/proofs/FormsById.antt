@@ -4,11 +4,11 @@ use Rattle.std.specs.Prelude.{◌&&◌, nat_le, is_some, slice_get, option_map, 
 use Rattle.std.specs.List.{list_all}
 use Rattle.std.proofs.lemmas.List.{map-append}
 use Rattle.std.proofs.Math.Seq.{drop-append_seam}
-use Rattle.solv_base.specs.Dependency.{Dep, one, namespace, and, or, with, without, if_then, if_else, unless, unless_else, missing, package_wise, operators, tree, tree_of_node, tree_within, map_dep, capability_of_node}
+use Rattle.solv_base.specs.Dependency.{Dep, and, or, joined, under, under_else, missing, package_wise, operators, tree, tree_of_node, tree_within, map_dep, capability_of_node}
 use Rattle.solv_base.specs.Places.{fits_place, unconditional}
 use Rattle.solv_base.specs.Pool.{Held, text_at, text_tree}
 use Rattle.solv_base.specs.declared.relation.DepNode.{DepNode}
-use Rattle.solv_base.specs.declared.relation.DepNode.TheVariants.{Simple, Versioned, Namespace, And, Or, With, Without, If, IfElse, Unless, UnlessElse}
+use Rattle.solv_base.specs.declared.relation.DepNode.TheVariants.{Simple}
 use Rattle.solv_deps.specs.Table.{is_capability}
 use Rattle.solv_pool.specs.Catalog.{Catalog}
 use Rattle.solv_pool.specs.Inner.Catalog.{alone}
@@ -26,69 +26,31 @@ use Rattle.std.proofs.lemmas.Bool.{and_from}
 
 module _ (f : ℕ → List ℕ) where
   wise_mapped : (d : Dep ℕ) → package_wise (map_dep f d) ≡ package_wise d
-  wise_mapped (one c) = refl
-  wise_mapped (namespace n) = refl
-  wise_mapped (or a b) = rw (wise_mapped a, wise_mapped b) refl
-  wise_mapped (with a b) = rw (wise_mapped a, wise_mapped b) refl
-  wise_mapped (without a b) = rw (wise_mapped a, wise_mapped b) refl
-  wise_mapped (and a b) = refl
-  wise_mapped (if_then a b) = refl
-  wise_mapped (if_else a b c) = refl
-  wise_mapped (unless a b) = refl
-  wise_mapped (unless_else a b c) = refl
-  wise_mapped missing = refl
+  wise_mapped (joined and a b) = refl
+  wise_mapped (joined j a b) = rw (wise_mapped a, wise_mapped b) refl
+  wise_mapped d = refl
 
   unconditional_mapped : (d : Dep ℕ) → unconditional (map_dep f d) ≡ unconditional d
-  unconditional_mapped (one c) = refl
-  unconditional_mapped (namespace n) = refl
-  unconditional_mapped (and a b) = rw (unconditional_mapped a, unconditional_mapped b) refl
-  unconditional_mapped (or a b) = rw (unconditional_mapped a, unconditional_mapped b) refl
-  unconditional_mapped (with a b) = rw (wise_mapped a, wise_mapped b) refl
-  unconditional_mapped (without a b) = rw (wise_mapped a, wise_mapped b) refl
-  unconditional_mapped (if_then a b) = refl
-  unconditional_mapped (if_else a b c) = refl
-  unconditional_mapped (unless a b) = refl
-  unconditional_mapped (unless_else a b c) = refl
-  unconditional_mapped missing = refl
+  unconditional_mapped (joined and a b) = rw (unconditional_mapped a, unconditional_mapped b) refl
+  unconditional_mapped (joined or a b) = rw (unconditional_mapped a, unconditional_mapped b) refl
+  unconditional_mapped d = wise_mapped d
 
   pub fits_mapped : (at : Bool) (d : Dep ℕ) → fits_place at (map_dep f d) ≡ fits_place at d
-  fits_mapped at (one c) = refl
-  fits_mapped at (namespace n) = refl
-  fits_mapped at (and a b) = rw (fits_mapped at a, fits_mapped at b) refl
-  fits_mapped at (or a b) = rw (fits_mapped at a, fits_mapped at b) refl
-  fits_mapped at (with a b) = rw (wise_mapped a, wise_mapped b) refl
-  fits_mapped at (without a b) = rw (wise_mapped a, wise_mapped b) refl
-  fits_mapped at (if_then a b) = rw (fits_mapped at a, unconditional_mapped b) refl
-  fits_mapped at (if_else a b c) = rw (fits_mapped at a, unconditional_mapped b, fits_mapped at c) refl
-  fits_mapped at (unless a b) = rw (fits_mapped at a, unconditional_mapped b) refl
-  fits_mapped at (unless_else a b c) = rw (fits_mapped at a, unconditional_mapped b, fits_mapped at c) refl
-  fits_mapped at missing = refl
+  fits_mapped at (joined and a b) = rw (fits_mapped at a, fits_mapped at b) refl
+  fits_mapped at (joined or a b) = rw (fits_mapped at a, fits_mapped at b) refl
+  fits_mapped at (under k a b) = rw (fits_mapped at a, unconditional_mapped b) refl
+  fits_mapped at (under_else k a b c) = rw (fits_mapped at a, unconditional_mapped b, fits_mapped at c) refl
+  fits_mapped at d = wise_mapped d
 
   pub operators_mapped : (d : Dep ℕ) → operators (map_dep f d) ≡ operators d
-  operators_mapped (one c) = refl
-  operators_mapped (namespace n) = refl
-  operators_mapped (and a b) = rw (operators_mapped a, operators_mapped b) refl
-  operators_mapped (or a b) = rw (operators_mapped a, operators_mapped b) refl
-  operators_mapped (with a b) = rw (operators_mapped a, operators_mapped b) refl
-  operators_mapped (without a b) = rw (operators_mapped a, operators_mapped b) refl
-  operators_mapped (if_then a b) = rw (operators_mapped a, operators_mapped b) refl
-  operators_mapped (if_else a b c) = rw (operators_mapped a, operators_mapped b, operators_mapped c) refl
-  operators_mapped (unless a b) = rw (operators_mapped a, operators_mapped b) refl
-  operators_mapped (unless_else a b c) = rw (operators_mapped a, operators_mapped b, operators_mapped c) refl
-  operators_mapped missing = refl
+  operators_mapped (joined j a b) = rw (operators_mapped a, operators_mapped b) refl
+  operators_mapped (under k a b) = rw (operators_mapped a, operators_mapped b) refl
+  operators_mapped (under_else k a b c) = rw (operators_mapped a, operators_mapped b, operators_mapped c) refl
+  operators_mapped d = refl
 
   node_mapped : (at : ℕ → Dep ℕ) (node : DepNode) → is_capability (map_dep f (tree_of_node at node)) ≡ is_some (capability_of_node node)
   node_mapped at (Simple n) = refl
-  node_mapped at (Versioned n c e) = refl
-  node_mapped at (Namespace n) = refl
-  node_mapped at (And a b) = refl
-  node_mapped at (Or a b) = refl
-  node_mapped at (With a b) = refl
-  node_mapped at (Without a b) = refl
-  node_mapped at (If a b) = refl
-  node_mapped at (IfElse a b c) = refl
-  node_mapped at (Unless a b) = refl
-  node_mapped at (UnlessElse a b c) = refl
+  node_mapped at node = refl
 
   held_mapped : (at : ℕ → Dep ℕ) (node : Option DepNode)
       → is_capability (map_dep f (unwrap_or (option_map (tree_of_node at) node) missing)) ≡ is_some (unwrap_or (option_map capability_of_node node) None)

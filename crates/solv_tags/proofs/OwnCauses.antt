@@ -2,7 +2,7 @@
 use Rattle.std.proofs.Common.{◌≡◌, ℕ, ◌+◌, Bool, true, false, List, [], ◌∷◌, length, Option, Some, None, Result, Ok, Err, refl}
 use Rattle.std.specs.Prelude.{◌&&◌, ◌||◌, nat_le, nat_lt, is_some, IfErr, if◌then◌else◌}
 use Rattle.std.specs.Str.{bytes_eq}
-use Rattle.solv_base.specs.Dependency.{Dep, Capability, plain, versioned, one, namespace, and, or, with, without, if_then, if_else, unless, unless_else, missing}
+use Rattle.solv_base.specs.Dependency.{Dep, Capability, plain, versioned, one, namespace, and, or, with, without, if_holds, unless_holds, joined, under, under_else, missing}
 use Rattle.solv_base.specs.Pool.{Held, most, is_name}
 use Rattle.solv_base.specs.declared.comparison.Cmp.{Cmp}
 use Rattle.solv_base.specs.declared.relation.DepNode.{DepNode}
@@ -113,14 +113,14 @@ capability_own (versioned name c evr) held = pair_own (text_entered name) (text_
 pub entered_own : (d : Dep (List ℕ)) (held : Held) → IfErr (dependency_entered d held) IsOwn
 entered_own (one c) held = capability_own c held
 entered_own (namespace name) held = both_steps (text_entered name held) _ (text_own name held) (λ n. relation_own (Namespace n.id) n.held)
-entered_own (and a b) held = pair_own (dependency_entered a) (dependency_entered b) And (entered_own a) (entered_own b) held
-entered_own (or a b) held = pair_own (dependency_entered a) (dependency_entered b) Or (entered_own a) (entered_own b) held
-entered_own (with a b) held = pair_own (dependency_entered a) (dependency_entered b) With (entered_own a) (entered_own b) held
-entered_own (without a b) held = pair_own (dependency_entered a) (dependency_entered b) Without (entered_own a) (entered_own b) held
-entered_own (if_then a b) held = pair_own (dependency_entered a) (dependency_entered b) If (entered_own a) (entered_own b) held
-entered_own (unless a b) held = pair_own (dependency_entered a) (dependency_entered b) Unless (entered_own a) (entered_own b) held
-entered_own (if_else a b c) held = triple_own (dependency_entered a) (dependency_entered b) (dependency_entered c) IfElse (entered_own a) (entered_own b) (entered_own c) held
-entered_own (unless_else a b c) held = triple_own (dependency_entered a) (dependency_entered b) (dependency_entered c) UnlessElse (entered_own a) (entered_own b) (entered_own c) held
+entered_own (joined and a b) held = pair_own (dependency_entered a) (dependency_entered b) And (entered_own a) (entered_own b) held
+entered_own (joined or a b) held = pair_own (dependency_entered a) (dependency_entered b) Or (entered_own a) (entered_own b) held
+entered_own (joined with a b) held = pair_own (dependency_entered a) (dependency_entered b) With (entered_own a) (entered_own b) held
+entered_own (joined without a b) held = pair_own (dependency_entered a) (dependency_entered b) Without (entered_own a) (entered_own b) held
+entered_own (under if_holds a b) held = pair_own (dependency_entered a) (dependency_entered b) If (entered_own a) (entered_own b) held
+entered_own (under unless_holds a b) held = pair_own (dependency_entered a) (dependency_entered b) Unless (entered_own a) (entered_own b) held
+entered_own (under_else if_holds a b c) held = triple_own (dependency_entered a) (dependency_entered b) (dependency_entered c) IfElse (entered_own a) (entered_own b) (entered_own c) held
+entered_own (under_else unless_holds a b c) held = triple_own (dependency_entered a) (dependency_entered b) (dependency_entered c) UnlessElse (entered_own a) (entered_own b) (entered_own c) held
 entered_own missing held = refl
 
 -- the lines of a repository

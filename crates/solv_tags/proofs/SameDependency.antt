@@ -3,7 +3,7 @@ use Rattle.std.proofs.Common.{◌≡◌, ℕ, true, ◌&&◌, List, refl, ap, ru
 use Rattle.std.specs.Str.{bytes_eq}
 use Rattle.solv_base.specs.contracts.comparison.CmpPartialEq.TheImpl.{eq-value}
 use Rattle.solv_base.specs.declared.comparison.Cmp.{Cmp}
-use Rattle.solv_base.specs.Dependency.{Dep, Capability, plain, versioned, one, namespace, and, or, with, without, if_then, if_else, unless, unless_else, missing}
+use Rattle.solv_base.specs.Dependency.{Dep, Capability, plain, versioned, one, namespace, and, or, with, without, if_holds, unless_holds, joined, under, under_else, missing}
 use Rattle.solv_tags.specs.Entries.{is_same, is_same_capability}
 use Rattle.solv_list.proofs.Booleans.{first_of_both, second_of_both}
 use Rattle.solv_list.proofs.Lists.{bytes_themselves, same_bytes}
@@ -41,26 +41,26 @@ same_triple a b e c d g f p q r h =
 pub dependency_itself : (a : Dep (List ℕ)) → is_same a a ≡ true
 dependency_itself (one c) = capability_itself c
 dependency_itself (namespace n) = bytes_themselves n
-dependency_itself (and a b) = and_from (is_same a a) (is_same b b) (dependency_itself a) (dependency_itself b)
-dependency_itself (or a b) = and_from (is_same a a) (is_same b b) (dependency_itself a) (dependency_itself b)
-dependency_itself (with a b) = and_from (is_same a a) (is_same b b) (dependency_itself a) (dependency_itself b)
-dependency_itself (without a b) = and_from (is_same a a) (is_same b b) (dependency_itself a) (dependency_itself b)
-dependency_itself (if_then a b) = and_from (is_same a a) (is_same b b) (dependency_itself a) (dependency_itself b)
-dependency_itself (unless a b) = and_from (is_same a a) (is_same b b) (dependency_itself a) (dependency_itself b)
-dependency_itself (if_else a b e) = and_from (is_same a a) (is_same b b && is_same e e) (dependency_itself a) (and_from (is_same b b) (is_same e e) (dependency_itself b) (dependency_itself e))
-dependency_itself (unless_else a b e) = and_from (is_same a a) (is_same b b && is_same e e) (dependency_itself a) (and_from (is_same b b) (is_same e e) (dependency_itself b) (dependency_itself e))
+dependency_itself (joined and a b) = and_from (is_same a a) (is_same b b) (dependency_itself a) (dependency_itself b)
+dependency_itself (joined or a b) = and_from (is_same a a) (is_same b b) (dependency_itself a) (dependency_itself b)
+dependency_itself (joined with a b) = and_from (is_same a a) (is_same b b) (dependency_itself a) (dependency_itself b)
+dependency_itself (joined without a b) = and_from (is_same a a) (is_same b b) (dependency_itself a) (dependency_itself b)
+dependency_itself (under if_holds a b) = and_from (is_same a a) (is_same b b) (dependency_itself a) (dependency_itself b)
+dependency_itself (under unless_holds a b) = and_from (is_same a a) (is_same b b) (dependency_itself a) (dependency_itself b)
+dependency_itself (under_else if_holds a b e) = and_from (is_same a a) (is_same b b && is_same e e) (dependency_itself a) (and_from (is_same b b) (is_same e e) (dependency_itself b) (dependency_itself e))
+dependency_itself (under_else unless_holds a b e) = and_from (is_same a a) (is_same b b && is_same e e) (dependency_itself a) (and_from (is_same b b) (is_same e e) (dependency_itself b) (dependency_itself e))
 dependency_itself missing = refl
 
 pub same_dependency : (a b : Dep (List ℕ)) → is_same a b ≡ true → a ≡ b
 same_dependency (one c) (one d) h = ap one (same_capability c d h)
 same_dependency (namespace m) (namespace n) h = ap namespace (same_bytes m n h)
-same_dependency (and a b) (and c d) h = same_pair a b c d and (same_dependency a c) (same_dependency b d) h
-same_dependency (or a b) (or c d) h = same_pair a b c d or (same_dependency a c) (same_dependency b d) h
-same_dependency (with a b) (with c d) h = same_pair a b c d with (same_dependency a c) (same_dependency b d) h
-same_dependency (without a b) (without c d) h = same_pair a b c d without (same_dependency a c) (same_dependency b d) h
-same_dependency (if_then a b) (if_then c d) h = same_pair a b c d if_then (same_dependency a c) (same_dependency b d) h
-same_dependency (unless a b) (unless c d) h = same_pair a b c d unless (same_dependency a c) (same_dependency b d) h
-same_dependency (if_else a b e) (if_else c d g) h = same_triple a b e c d g if_else (same_dependency a c) (same_dependency b d) (same_dependency e g) h
-same_dependency (unless_else a b e) (unless_else c d g) h = same_triple a b e c d g unless_else (same_dependency a c) (same_dependency b d) (same_dependency e g) h
+same_dependency (joined and a b) (joined and c d) h = same_pair a b c d (joined and) (same_dependency a c) (same_dependency b d) h
+same_dependency (joined or a b) (joined or c d) h = same_pair a b c d (joined or) (same_dependency a c) (same_dependency b d) h
+same_dependency (joined with a b) (joined with c d) h = same_pair a b c d (joined with) (same_dependency a c) (same_dependency b d) h
+same_dependency (joined without a b) (joined without c d) h = same_pair a b c d (joined without) (same_dependency a c) (same_dependency b d) h
+same_dependency (under if_holds a b) (under if_holds c d) h = same_pair a b c d (under if_holds) (same_dependency a c) (same_dependency b d) h
+same_dependency (under unless_holds a b) (under unless_holds c d) h = same_pair a b c d (under unless_holds) (same_dependency a c) (same_dependency b d) h
+same_dependency (under_else if_holds a b e) (under_else if_holds c d g) h = same_triple a b e c d g (under_else if_holds) (same_dependency a c) (same_dependency b d) (same_dependency e g) h
+same_dependency (under_else unless_holds a b e) (under_else unless_holds c d g) h = same_triple a b e c d g (under_else unless_holds) (same_dependency a c) (same_dependency b d) (same_dependency e g) h
 same_dependency missing missing h = refl
 same_dependency a b h = cc

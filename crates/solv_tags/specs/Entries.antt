@@ -3,7 +3,7 @@ use Rattle.std.specs.Prelude.{ℕ, ◌≡◌, ◌↔◌, ◌&&◌, ◌||◌, Boo
 use Rattle.std.specs.List.{list_any}
 use Rattle.std.specs.Str.{bytes_eq}
 use Rattle.solv_base.specs.contracts.comparison.CmpPartialEq.TheImpl.{eq-value}
-use Rattle.solv_base.specs.Dependency.{Dep, Capability, plain, versioned, one, namespace, and, or, with, without, if_then, if_else, unless, unless_else, missing}
+use Rattle.solv_base.specs.Dependency.{Dep, Capability, plain, versioned, one, namespace, and, or, with, without, if_holds, unless_holds, joined, under, under_else, missing}
 use Rattle.solv_pool.specs.Written.{WrittenPackage, WrittenNeed}
 use Rattle.solv_tags.specs.declared.tag.Tag.{Tag}
 use Rattle.solv_tags.specs.declared.tag.Tag.TheVariants.{Pkg, Prv, Req, Prq, Con, Obs, Rec, Sug, Sup, Enh, Vnd, Fls}
@@ -18,14 +18,14 @@ is_same_capability a b = false
 abbrev pub is_same : Dep (List ℕ) → Dep (List ℕ) → Bool
 is_same (one a) (one b) = is_same_capability a b
 is_same (namespace a) (namespace b) = bytes_eq a b
-is_same (and a b) (and c d) = is_same a c && is_same b d
-is_same (or a b) (or c d) = is_same a c && is_same b d
-is_same (with a b) (with c d) = is_same a c && is_same b d
-is_same (without a b) (without c d) = is_same a c && is_same b d
-is_same (if_then a b) (if_then c d) = is_same a c && is_same b d
-is_same (unless a b) (unless c d) = is_same a c && is_same b d
-is_same (if_else a b e) (if_else c d f) = is_same a c && (is_same b d && is_same e f)
-is_same (unless_else a b e) (unless_else c d f) = is_same a c && (is_same b d && is_same e f)
+is_same (joined and a b) (joined and c d) = is_same a c && is_same b d
+is_same (joined or a b) (joined or c d) = is_same a c && is_same b d
+is_same (joined with a b) (joined with c d) = is_same a c && is_same b d
+is_same (joined without a b) (joined without c d) = is_same a c && is_same b d
+is_same (under if_holds a b) (under if_holds c d) = is_same a c && is_same b d
+is_same (under unless_holds a b) (under unless_holds c d) = is_same a c && is_same b d
+is_same (under_else if_holds a b e) (under_else if_holds c d f) = is_same a c && (is_same b d && is_same e f)
+is_same (under_else unless_holds a b e) (under_else unless_holds c d f) = is_same a c && (is_same b d && is_same e f)
 is_same missing missing = true
 is_same a b = false
 
