@@ -10,7 +10,7 @@ use Rattle.solv_prov.specs.declared.merging.Joint.TheVariants.{Either, Both, Fir
 use Rattle.solv_prov.specs.Inner.Merging.{is_kept, merged}
 use Rattle.solv_prov.proofs.Merged.{merging}
 use Rattle.solv_base.specs.Inner.Pool.{uses_below}
-use Rattle.solv_base.specs.Dependency.{Capability, Dep, one, namespace, or, with, without, tree, tree_of_node, capability_of_node}
+use Rattle.solv_base.specs.Dependency.{Capability, Dep, one, namespace, or, with, without, joined, tree, tree_of_node, capability_of_node}
 use Rattle.std.proofs.lemmas.List.{length-map}
 use Rattle.solv_base.specs.declared.comparison.Cmp.{Cmp}
 use Rattle.solv_base.specs.declared.relation.DepNode.{DepNode}
@@ -136,17 +136,17 @@ module _ (catalog : Catalog) (id a b : ℕ) (closed : List (List ℕ)) (before :
   closed_many = ap length before ∙ length-map (range_with_len 0 id) (providers_of catalog) ∙ length-range_with_len 0 id
 
 module _ (catalog : Catalog) (id a b : ℕ) where
-  joined : (joint : Joint) → merged joint (providers_of catalog a) (providers_of catalog b) ≡ filter (λ p. is_kept joint (package_meets catalog (dependency catalog a) p) (package_meets catalog (dependency catalog b) p)) (members catalog)
-  joined joint = merging joint (package_meets catalog (dependency catalog a)) (package_meets catalog (dependency catalog b)) 0 (suc (length catalog.universe.packages))
+  both_lists : (joint : Joint) → merged joint (providers_of catalog a) (providers_of catalog b) ≡ filter (λ p. is_kept joint (package_meets catalog (dependency catalog a) p) (package_meets catalog (dependency catalog b) p)) (members catalog)
+  both_lists joint = merging joint (package_meets catalog (dependency catalog a)) (package_meets catalog (dependency catalog b)) 0 (suc (length catalog.universe.packages))
 
-  pub or_list : dependency catalog id ≡ or (dependency catalog a) (dependency catalog b) → providers_of catalog id ≡ merged Either (providers_of catalog a) (providers_of catalog b)
-  or_list e = ap (λ d. providers_by catalog d) e ∙ sym (joined Either)
+  pub or_list : dependency catalog id ≡ joined or (dependency catalog a) (dependency catalog b) → providers_of catalog id ≡ merged Either (providers_of catalog a) (providers_of catalog b)
+  or_list e = ap (λ d. providers_by catalog d) e ∙ sym (both_lists Either)
 
-  pub with_list : dependency catalog id ≡ with (dependency catalog a) (dependency catalog b) → providers_of catalog id ≡ merged Both (providers_of catalog a) (providers_of catalog b)
-  with_list e = ap (λ d. providers_by catalog d) e ∙ sym (joined Both)
+  pub with_list : dependency catalog id ≡ joined with (dependency catalog a) (dependency catalog b) → providers_of catalog id ≡ merged Both (providers_of catalog a) (providers_of catalog b)
+  with_list e = ap (λ d. providers_by catalog d) e ∙ sym (both_lists Both)
 
-  pub without_list : dependency catalog id ≡ without (dependency catalog a) (dependency catalog b) → providers_of catalog id ≡ merged FirstAlone (providers_of catalog a) (providers_of catalog b)
-  without_list e = ap (λ d. providers_by catalog d) e ∙ sym (joined FirstAlone)
+  pub without_list : dependency catalog id ≡ joined without (dependency catalog a) (dependency catalog b) → providers_of catalog id ≡ merged FirstAlone (providers_of catalog a) (providers_of catalog b)
+  without_list e = ap (λ d. providers_by catalog d) e ∙ sym (both_lists FirstAlone)
 
 -- operands are below
 pub first_below : (names id a b : ℕ) → (nat_lt a id && (nat_lt b id && true)) ≡ true → a < id
