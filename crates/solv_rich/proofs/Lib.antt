@@ -6,3 +6,4 @@ pub mod Counted
 pub mod Shortened
 pub mod Around
 pub mod Appended
+pub mod Lengths

@@ -1,5 +1,5 @@
 -- The clause of a number among joined and crossed clauses.
-use Rattle.std.proofs.Common.{◌≡◌, ◌+◌, ◌*◌, ◌-◌, ◌/◌, ◌%◌, ◌<◌, ◌≤◌, ℕ, zero, suc, Bool, true, false, List, [], ◌∷◌, ◌++◌, length, map, Option, Some, None, option_map, refl, sym, ap, ◌∙◌, arith, length-append, add-one}
+use Rattle.std.proofs.Common.{◌≡◌, ◌*◌, ◌-◌, ◌/◌, ◌%◌, ◌<◌, ◌≤◌, ℕ, zero, suc, Bool, true, false, List, [], ◌∷◌, ◌++◌, length, map, Option, Some, None, option_map, refl, sym, ap, ◌∙◌, arith, length-append, add-one}
 use Rattle.std.specs.Prelude.{slice_get, nat_lt}
 use Rattle.std.proofs.lemmas.Bool.{ltb-true}
 use Rattle.std.proofs.lemmas.Bool.Decides.{nat_tests}
@@ -9,7 +9,7 @@ use Rattle.std.proofs.Math.Nat.{mod-eq-sub-mod, div-eq_of_lt, mod-eq_of_lt, div-
 use Rattle.solv_pool.specs.Clauses.{Clause, times}
 use Rattle.solv_rich.specs.Counts.{saturated}
 use Rattle.solv_rich.specs.Inner.Expansions.{CrossesAt}
-use Rattle.solv_pool.proofs.Counts.{length-times}
+use Rattle.solv_rich.proofs.Lengths.{length-times}
 
 pub get_front : (xs ys : List Clause) (k : ℕ) → k < length xs → slice_get (xs ++ ys) k ≡ slice_get xs k
 get_front [] ys k h = absurd (omega (arith, h))

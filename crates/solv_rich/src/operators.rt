@@ -32,11 +32,10 @@ fn parts_if(may_stand: bool, parts: Parts) -> Parts
     if may_stand { parts } else { Parts::Nothing }
 }
 
-/// What the clauses of a relation are made of.
-pub(crate) fn parts_of(task: &Task, dep: DepId, positive: bool) -> Parts
+/// What the clauses of a relation are made of, by its form.
+fn parts_by_form(task: &Task, dep: DepId, positive: bool) -> Parts
     requires { dep < length task.now.pool.nodes }
     ensures clauses { (x : Option ℕ) → clauses_of (catalog_of task.now) x positive (dependency (catalog_of task.now) dep) ≡ clauses_by (catalog_of task.now) x positive dep result }
-    ensures counts { (x : Option ℕ) → clause_count (catalog_of task.now) x positive (dependency (catalog_of task.now) dep) ≡ count_by (catalog_of task.now) x positive dep result }
     ensures below { are_below dep result ≡ true }
 {
     let wise = task.pool.package_wise(dep);
@@ -63,4 +62,14 @@ pub(crate) fn parts_of(task: &Task, dep: DepId, positive: bool) -> Parts
         DepNode::UnlessElse(a, b, c) => parts_if(!positive, Parts::Chosen(a, b, c)),
         _ => Parts::Packages,
     }
+}
+
+/// What the clauses of a relation are made of, and so how many they are.
+pub(crate) fn parts_of(task: &Task, dep: DepId, positive: bool) -> Parts
+    requires { dep < length task.now.pool.nodes }
+    ensures clauses { (x : Option ℕ) → clauses_of (catalog_of task.now) x positive (dependency (catalog_of task.now) dep) ≡ clauses_by (catalog_of task.now) x positive dep result }
+    ensures counts { (x : Option ℕ) → clause_count (catalog_of task.now) x positive (dependency (catalog_of task.now) dep) ≡ count_by (catalog_of task.now) x positive dep result }
+    ensures below { are_below dep result ≡ true }
+{
+    parts_by_form(task, dep, positive)
 }

@@ -1,9 +1,10 @@
 //! How many clauses a relation of any form gives, before any of them is made.
 ghost use Rattle.std.specs.Prelude.{◌≡◌, ◌≤◌, ◌<◌, ◌+◌, ◌*◌, ℕ, length};
 ghost use Rattle.solv_pool.specs.Catalog.{catalog_of, dependency};
-ghost use Rattle.solv_pool.specs.Clauses.{clause_count, count_package_wise};
+ghost use Rattle.solv_pool.specs.Clauses.{clause_count};
 ghost use Rattle.solv_prov.specs.Index.{IsIndexOf};
 ghost use Rattle.solv_rich.specs.Counts.{saturated};
+ghost use Rattle.solv_rich.specs.Inner.Operators.{count_package_wise};
 
 use crate::operators::{Parts, parts_of};
 use crate::singles::count_of;

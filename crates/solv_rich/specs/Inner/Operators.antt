@@ -1,7 +1,8 @@
 -- The clauses of a relation by those of its operands.
-use Rattle.std.specs.Prelude.{ℕ, ◌+◌, ◌*◌, Bool, true, not, ◌&&◌, nat_lt, List, [], ◌++◌, Option}
+use Rattle.std.specs.Prelude.{ℕ, ◌+◌, ◌*◌, Bool, true, false, not, ◌&&◌, nat_lt, List, [], ◌++◌, length, Option}
+use Rattle.solv_base.specs.Dependency.{Dep}
 use Rattle.solv_pool.specs.Catalog.{Catalog, dependency}
-use Rattle.solv_pool.specs.Clauses.{Clause, times, clauses_package_wise, clauses_of, count_package_wise, clause_count}
+use Rattle.solv_pool.specs.Clauses.{Clause, times, all_meeting, clauses_package_wise, clauses_of, clause_count}
 use Rattle.solv_rich.specs.declared.operators.Parts.{Parts}
 use Rattle.solv_rich.specs.declared.operators.Parts.TheVariants.{Packages, Joined, Crossed, Chosen, Nothing}
 
@@ -17,9 +18,14 @@ module _ (catalog : Catalog) (x : Option ℕ) where
       ++ times (clauses_of catalog x at (dependency catalog c)) (clauses_of catalog x at (dependency catalog b))
   clauses_by at d Nothing = []
 
+  -- how many clauses a package-wise dependency gives
+  abbrev pub count_package_wise : Bool → Dep ℕ → ℕ
+  count_package_wise true d = 1
+  count_package_wise false d = length (all_meeting catalog x d)
+
   -- how many they are
   abbrev pub count_by : Bool → ℕ → Parts → ℕ
-  count_by at d Packages = count_package_wise catalog x at (dependency catalog d)
+  count_by at d Packages = count_package_wise at (dependency catalog d)
   count_by at d (Joined a b) = clause_count catalog x at (dependency catalog a) + clause_count catalog x at (dependency catalog b)
   count_by at d (Crossed a b other) = clause_count catalog x at (dependency catalog a) * clause_count catalog x other (dependency catalog b)
   count_by at d (Chosen a b c) =

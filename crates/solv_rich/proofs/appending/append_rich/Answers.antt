@@ -1,15 +1,13 @@
 use Rattle.std.proofs.Common.{◌∙◌, ap, length}
 use Rattle.std.specs.List.{list_all}
 use Rattle.solv_pool.specs.Catalog.{Catalog, catalog_of, dependency}
-use Rattle.solv_pool.proofs.Counts.{length-clauses_of}
 use Rattle.solv_rich.specs.Inner.Shortening.{has_number}
 use Rattle.solv_rich.proofs.Appended.{numbered}
 use Rattle.solv_rich.proofs.appending.append_rich.Goals as goal
 
 pub append_all-requires-clause-few : goal.append_all-requires-clause-few
 append_all-requires-clause-few c =
-    let catalog : Catalog = catalog_of c.args.task.now in
-    rw (ap length c.in_ok-expansion.ensures.clauses_are ∙ length-clauses_of catalog c.args.except.now c.args.positive (dependency catalog c.args.dep)) c.requires.few
+    rw (ap length c.in_ok-expansion.ensures.clauses_are) c.requires.few
 
 pub append_all-requires-clause-numbers : goal.append_all-requires-clause-numbers
 append_all-requires-clause-numbers c =

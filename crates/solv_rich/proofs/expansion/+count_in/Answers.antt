@@ -4,7 +4,7 @@ use Rattle.std.proofs.lemmas.Bool.{and_parts, eqb-true}
 use Rattle.solv_rich.specs.Counts.{saturated}
 use Rattle.solv_rich.specs.Inner.Expansions.{clauses_in, are_counted}
 use Rattle.solv_rich.proofs.expansion.+count_in.Goals as goal
-use Rattle.solv_pool.proofs.Counts.{length-times}
+use Rattle.solv_rich.proofs.Lengths.{length-times}
 
 pub returns-in-Crossed-clause-exact : goal.returns-in-Crossed-clause-exact
 returns-in-Crossed-clause-exact t c =
