@@ -2,7 +2,7 @@
 use Rattle.std.specs.Prelude.{ℕ, Bool, true, false, not, ◌&&◌, List, [], ◌∷◌, ◌++◌, length, map, filter, flat_map, slice_get, ◌==◌, nat_lt, if◌then◌else◌}
 use Rattle.std.specs.List.{list_any, enumerate_from, range_with_len}
 use Rattle.std.specs.Option.{option_map_or}
-use Rattle.solv_base.specs.Dependency.{Dep, one, namespace, and, or, with, without, if_then, if_else, unless, unless_else, missing, package_wise, operands}
+use Rattle.solv_base.specs.Dependency.{Dep, and, or, joined, under, under_else, package_wise, operands}
 use Rattle.solv_base.specs.declared.relation.DepNode.{DepNode}
 use Rattle.solv_pool.specs.Words.{when, is_among}
 use Rattle.solv_pool.specs.Catalog.{Catalog, packages, members, package_at, dependency, is_installed, same_name}
@@ -65,17 +65,11 @@ numbers_of test rules = map (λ x. x.0) (filter (λ x. test x.1) rules)
 
 -- a single package meets it, or does not, and nobody where it is none
 abbrev pub is_by_row : Dep ℕ → Bool
-is_by_row (one c) = true
-is_by_row (namespace n) = true
-is_by_row (with a b) = true
-is_by_row (without a b) = true
-is_by_row (or a b) = package_wise a && package_wise b
-is_by_row (and a b) = false
-is_by_row (if_then a b) = false
-is_by_row (if_else a b c) = false
-is_by_row (unless a b) = false
-is_by_row (unless_else a b c) = false
-is_by_row missing = true
+is_by_row (joined and a b) = false
+is_by_row (joined or a b) = package_wise a && package_wise b
+is_by_row (under k a b) = false
+is_by_row (under_else k a b c) = false
+is_by_row d = true
 
 -- dependencies, and how they are read
 module _ (catalog : Catalog) where
