@@ -1,27 +1,26 @@
 -- Which of the hard rules are made where packages are left out, and whose selections they carry.
-use Rattle.std.proofs.Common.{◌≡◌, ◌⊎◌, ℕ, ◌+◌, Bool, true, false, not, ◌&&◌, ◌||◌, List, [], ◌∷◌, ◌++◌, map, inl, inr, refl, sym, ◌∙◌, ap, subst, if◌then◌else◌}
+use Rattle.std.proofs.Common.{◌≡◌, ◌⊎◌, ℕ, ◌+◌, Bool, true, false, not, ◌&&◌, List, [], ◌∷◌, ◌++◌, map, inl, inr, refl, sym, ◌∙◌, ap, subst, if◌then◌else◌}
 use Rattle.std.specs.Prelude.{filter}
 use Rattle.std.specs.List.{enumerate_from}
 use Rattle.std.proofs.lemmas.Bool.{and_parts, and_from, cases_Bool}
 use Rattle.solv_pool.specs.Words.{when, is_among}
-use Rattle.solv_pool.specs.Catalog.{Catalog, packages, package_at, dependency, installed_set}
+use Rattle.solv_pool.specs.Catalog.{Catalog, packages, package_at}
 use Rattle.solv_pool.specs.Best.{best}
 use Rattle.solv_pool.specs.Counting.{requirement_counts}
 use Rattle.solv_pool.specs.HardRules.{not_installable_rules, counted_requirements, requirement_rules, conflict_rules, package_wise_conflicts, conflicting, rich_conflict_rules, counted_rich_conflicts, obsoletion_rules, obsoleted, same_name_rules, later_namesakes, rules_asked_by, rules_of_package, package_rules, inferior_packages, infarch_rules, successors, successor_rule, feature_candidates, kept_packages, has_update_rule, update_rules, feature_rules, numbered_jobs, rule_of_job, job_rules, best_job_rule, best_job_rules, selected_installed, best_update_rule, best_update_rules, hard_rules_by}
 use Rattle.solv_pool.specs.Installable.{is_installable}
 use Rattle.solv_pool.specs.JobKinds.{is_install, is_update, job_selects}
 use Rattle.solv_pool.specs.JobMarks.{marked}
-use Rattle.solv_pool.specs.RuleMeaning.{HardRule, not_installable, req, con, rich_con, obs, same, infarch, update, dup, feature, install, erase, lock, best_job, best_update}
+use Rattle.solv_pool.specs.RuleMeaning.{HardRule, not_installable, req, con, rich_con, obs, same, infarch, update, dup, feature, install, best_job}
 use Rattle.solv_pool.specs.Selections.{selects, selection}
 use Rattle.solv_pool.specs.declared.jobs.Action.{Action}
 use Rattle.solv_pool.specs.declared.jobs.Action.TheVariants as action
 use Rattle.solv_pool.specs.declared.jobs.Job.{Job}
 use Rattle.solv_pool.specs.declared.job_marks.Marks.{Marks}
-use Rattle.solv_pool.specs.declared.packages.Need.{Need}
 use Rattle.solv_pool.specs.declared.packages.Package.{Package}
 use Rattle.solv_pool.specs.declared.tasks.Flags.{Flags}
 use Rattle.solv_pool.proofs.Among.{among_filter}
-use Rattle.solv_pool.proofs.Members.{Has, has_front, has_back, has_split, has_mapped, has_flat, has_filtered, has_option, has_among, of_mapped, of_flat, of_filtered, of_when, of_option, any_at}
+use Rattle.solv_pool.proofs.Members.{Has, has_front, has_back, has_split, has_mapped, has_flat, has_filtered, has_option, of_mapped, of_flat, of_filtered, of_when, of_option, any_at}
 use Rattle.solv_leaving.specs.Leaving.{leaving}
 
 -- a numbered job is a job

@@ -1,5 +1,5 @@
 -- Nothing may be left out.
-use Rattle.std.proofs.Common.{◌≡◌, ℕ, Bool, true, false, List, [], refl}
+use Rattle.std.proofs.Common.{List, [], refl}
 use Rattle.std.proofs.lemmas.Bool.{false≢true}
 use Rattle.solv_pool.specs.Catalog.{Catalog}
 use Rattle.solv_pool.specs.declared.jobs.Job.{Job}

@@ -3,7 +3,7 @@ use Rattle.std.proofs.Common.{◌≡◌, ℕ, zero, suc, ◌+◌, ◌<◌, Bool,
 use Rattle.std.specs.Prelude.{slice_get}
 use Rattle.std.specs.List.{list_all}
 use Rattle.std.proofs.lemmas.Bool.{false≢true, or_left}
-use Rattle.solv_base.specs.Dependency.{Dep, one, namespace, and, or, with, without, if_then, if_else, unless, unless_else, missing, package_wise}
+use Rattle.solv_base.specs.Dependency.{Dep, and, or, joined, under, under_else, missing, package_wise}
 use Rattle.solv_pool.specs.Words.{passes}
 use Rattle.solv_pool.specs.Catalog.{Catalog, package_at, dependency}
 use Rattle.solv_pool.specs.declared.packages.Package.{Package}
@@ -12,29 +12,24 @@ use Rattle.solv_leaving.specs.Leaving.{asks_plainly, is_plainly_met}
 
 -- what packages meet alone is plainly met
 pub wise_is_plain : (d : Dep ℕ) → package_wise d ≡ true → is_plainly_met d ≡ true
-wise_is_plain (one c) h = refl
-wise_is_plain (namespace n) h = refl
-wise_is_plain (with a b) h = refl
-wise_is_plain (without a b) h = refl
-wise_is_plain (and a b) h = absurd (false≢true h)
-wise_is_plain (or a b) h = or_left (package_wise a && package_wise b) (is_plainly_met a && is_plainly_met b) h
-wise_is_plain (if_then a b) h = absurd (false≢true h)
-wise_is_plain (if_else a b c) h = absurd (false≢true h)
-wise_is_plain (unless a b) h = absurd (false≢true h)
-wise_is_plain (unless_else a b c) h = absurd (false≢true h)
+wise_is_plain (joined and a b) h = absurd (false≢true h)
+wise_is_plain (joined or a b) h = or_left (package_wise a && package_wise b) (is_plainly_met a && is_plainly_met b) h
+wise_is_plain (under k a b) h = absurd (false≢true h)
+wise_is_plain (under_else k a b c) h = absurd (false≢true h)
 wise_is_plain missing h = absurd (false≢true h)
+wise_is_plain d h = refl
 
 -- a disjunction that packages do not meet alone
-pub or_is_plain : (a b : Dep ℕ) → package_wise (or a b) ≡ false → is_plainly_met (or a b) ≡ (is_plainly_met a && is_plainly_met b)
+pub or_is_plain : (a b : Dep ℕ) → package_wise (joined or a b) ≡ false → is_plainly_met (joined or a b) ≡ (is_plainly_met a && is_plainly_met b)
 or_is_plain a b h = ap (λ t. t || (is_plainly_met a && is_plainly_met b)) h
 
 all_append : (f : ℕ → Bool) (xs ys : List ℕ) → list_all f (xs ++ ys) ≡ (list_all f xs && list_all f ys)
 all_append f [] ys = refl
-all_append f (x ∷ xs) ys = ap (λ t. f x && t) (all_append f xs ys) ∙ joined (f x) (list_all f xs) (list_all f ys)
+all_append f (x ∷ xs) ys = ap (λ t. f x && t) (all_append f xs ys) ∙ regrouped (f x) (list_all f xs) (list_all f ys)
   where
-    joined : (a b c : Bool) → (a && (b && c)) ≡ ((a && b) && c)
-    joined true b c = refl
-    joined false b c = refl
+    regrouped : (a b c : Bool) → (a && (b && c)) ≡ ((a && b) && c)
+    regrouped true b c = refl
+    regrouped false b c = refl
 
 all_mapped : (f : ℕ → Bool) (needs : List Need) → list_all f (map (λ (need : Need). need.dep) needs) ≡ list_all (λ (need : Need). f need.dep) needs
 all_mapped f [] = refl

@@ -4,7 +4,7 @@ use Rattle.std.specs.Prelude.{filter}
 use Rattle.std.specs.List.{list_all}
 use Rattle.std.proofs.lemmas.Bool.{false≢true}
 use Rattle.std.proofs.lemmas.List.{length-map}
-use Rattle.solv_base.specs.Dependency.{Dep, one, namespace, and, or, with, without, if_then, if_else, unless, unless_else, missing, package_wise}
+use Rattle.solv_base.specs.Dependency.{Dep, and, or, joined, under, under_else, missing, package_wise}
 use Rattle.solv_list.proofs.Booleans.{first_of_both, second_of_both}
 use Rattle.solv_pool.specs.Catalog.{Catalog, dependency}
 use Rattle.solv_pool.specs.Clauses.{Clause, is_in, with_package, all_meeting, clauses_package_wise, clauses_of, clause_count, shape_clauses}
@@ -17,30 +17,15 @@ use Rattle.solv_leaving.proofs.Totals.{total}
 module _ (catalog : Catalog) where
   -- one clause says that a package-wise dependency holds
   clauses_alone : (d : Dep ℕ) → package_wise d ≡ true → clauses_of catalog None true d ≡ clauses_package_wise catalog None true d
-  clauses_alone (one c) h = refl
-  clauses_alone (namespace n) h = refl
-  clauses_alone (with a b) h = refl
-  clauses_alone (without a b) h = refl
-  clauses_alone (or a b) h = rw h refl
-  clauses_alone (and a b) h = absurd (false≢true h)
-  clauses_alone (if_then a b) h = absurd (false≢true h)
-  clauses_alone (if_else a b c) h = absurd (false≢true h)
-  clauses_alone (unless a b) h = absurd (false≢true h)
-  clauses_alone (unless_else a b c) h = absurd (false≢true h)
+  clauses_alone (joined and a b) h = absurd (false≢true h)
+  clauses_alone (joined or a b) h = rw h refl
+  clauses_alone (under k a b) h = absurd (false≢true h)
+  clauses_alone (under_else k a b c) h = absurd (false≢true h)
   clauses_alone missing h = absurd (false≢true h)
+  clauses_alone d h = refl
 
   count_alone : (d : Dep ℕ) → package_wise d ≡ true → clause_count catalog None true d ≡ 1
-  count_alone (one c) h = refl
-  count_alone (namespace n) h = refl
-  count_alone (with a b) h = refl
-  count_alone (without a b) h = refl
-  count_alone (or a b) h = rw h refl
-  count_alone (and a b) h = absurd (false≢true h)
-  count_alone (if_then a b) h = absurd (false≢true h)
-  count_alone (if_else a b c) h = absurd (false≢true h)
-  count_alone (unless a b) h = absurd (false≢true h)
-  count_alone (unless_else a b c) h = absurd (false≢true h)
-  count_alone missing h = absurd (false≢true h)
+  count_alone d h = ap length (clauses_alone d h)
 
   -- the clause has the package, and each that meets the requirement
   pub words_alone : (p d : ℕ) → package_wise (dependency catalog d) ≡ true → size catalog (req p d) ≤ 5 + length (all_meeting catalog None (dependency catalog d))

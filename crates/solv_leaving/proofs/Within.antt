@@ -4,7 +4,7 @@ use Rattle.std.specs.List.{list_any, list_all}
 use Rattle.std.specs.Bool.{beq}
 use Rattle.std.proofs.lemmas.Bool.{and_parts, and_from, or_cases, or_left, or_right, false≢true}
 use Rattle.std.proofs.lemmas.List.Folds.{list_any-append}
-use Rattle.solv_base.specs.Dependency.{Dep, one, namespace, and, or, with, without, if_then, if_else, unless, unless_else, missing, package_wise}
+use Rattle.solv_base.specs.Dependency.{Dep, one, namespace, and, or, with, without, if_holds, joined, under, package_wise}
 use Rattle.solv_base.specs.Places.{fits_place, unconditional}
 use Rattle.solv_pool.specs.Catalog.{Catalog, members, is_installed}
 use Rattle.solv_pool.specs.Holding.{package_meets, member_meets, holds}
@@ -48,13 +48,13 @@ module _ (catalog : Catalog) (set inside : ℕ → Bool) where
   holds_wider : (d : Dep ℕ) → unconditional d ≡ true → holds catalog d within ≡ true → holds catalog d set ≡ true
   holds_wider (one c) u h = met_wider (one c) h
   holds_wider (namespace n) u h = met_wider (namespace n) h
-  holds_wider (with a b) u h = met_wider (with a b) h
-  holds_wider (without a b) u h = met_wider (without a b) h
-  holds_wider (and a b) u h =
+  holds_wider (joined with a b) u h = met_wider (joined with a b) h
+  holds_wider (joined without a b) u h = met_wider (joined without a b) h
+  holds_wider (joined and a b) u h =
       let f = and_parts (unconditional a) (unconditional b) u in
       let both = and_parts (holds catalog a within) (holds catalog b within) h in
       and_from (holds catalog a set) (holds catalog b set) (holds_wider a f.0 both.0) (holds_wider b f.1 both.1)
-  holds_wider (or a b) u h =
+  holds_wider (joined or a b) u h =
       let f = and_parts (unconditional a) (unconditional b) u in
       elim (or_cases (holds catalog a within) (holds catalog b within) h) [
         | inl k ↦ or_left (holds catalog a set) (holds catalog b set) (holds_wider a f.0 k)
@@ -83,30 +83,30 @@ module _ (catalog : Catalog) (set inside : ℕ → Bool) where
   pub holds_within : (d : Dep ℕ) → fits_place true d ≡ true → is_plainly_met d ≡ true → IsServed d → holds catalog d set ≡ true → holds catalog d within ≡ true
   holds_within (one c) f p all h = alone (one c) all h
   holds_within (namespace n) f p all h = alone (namespace n) all h
-  holds_within (with a b) f p all h = alone (with a b) all h
-  holds_within (without a b) f p all h = alone (without a b) all h
-  holds_within (and a b) f p all h =
+  holds_within (joined with a b) f p all h = alone (joined with a b) all h
+  holds_within (joined without a b) f p all h = alone (joined without a b) all h
+  holds_within (joined and a b) f p all h =
       let g = and_parts (fits_place true a) (fits_place true b) f in
       let m = and_parts (is_plainly_met a) (is_plainly_met b) p in
       let both = and_parts (holds catalog a set) (holds catalog b set) h in
       and_from (holds catalog a within) (holds catalog b within) (holds_within a g.0 m.0 (in_first a b all) both.0) (holds_within b g.1 m.1 (in_second a b all) both.1)
-  holds_within (or a b) f p all h =
+  holds_within (joined or a b) f p all h =
       let g = and_parts (fits_place true a) (fits_place true b) f in
-      step (package_wise (or a b)) refl p all (λ m k. holds_within a g.0 m k) (λ m k. holds_within b g.1 m k)
+      step (package_wise (joined or a b)) refl p all (λ m k. holds_within a g.0 m k) (λ m k. holds_within b g.1 m k)
     where
-      step : (w : Bool) → package_wise (or a b) ≡ w → (w || (is_plainly_met a && is_plainly_met b)) ≡ true
-          → ((q : ℕ) → list_any (λ part. package_meets catalog part q) (if w then or a b ∷ [] else parts a ++ parts b) ≡ true → set q ≡ true → inside q ≡ true)
+      step : (w : Bool) → package_wise (joined or a b) ≡ w → (w || (is_plainly_met a && is_plainly_met b)) ≡ true
+          → ((q : ℕ) → list_any (λ part. package_meets catalog part q) (if w then joined or a b ∷ [] else parts a ++ parts b) ≡ true → set q ≡ true → inside q ≡ true)
           → (is_plainly_met a ≡ true → IsServed a → holds catalog a set ≡ true → holds catalog a within ≡ true)
           → (is_plainly_met b ≡ true → IsServed b → holds catalog b set ≡ true → holds catalog b within ≡ true)
-          → holds catalog (or a b) within ≡ true
-      step true e plain own first second = holds-package_wise catalog within (or a b) e ∙ alone (or a b) own (sym (holds-package_wise catalog set (or a b) e) ∙ h)
+          → holds catalog (joined or a b) within ≡ true
+      step true e plain own first second = holds-package_wise catalog within (joined or a b) e ∙ alone (joined or a b) own (sym (holds-package_wise catalog set (joined or a b) e) ∙ h)
       step false e plain own first second =
           let m = and_parts (is_plainly_met a) (is_plainly_met b) plain in
           elim (or_cases (holds catalog a set) (holds catalog b set) h) [
             | inl k ↦ or_left (holds catalog a within) (holds catalog b within) (first m.0 (in_first a b own) k)
             | inr k ↦ or_right (holds catalog a within) (holds catalog b within) (second m.1 (in_second a b own) k)
           ]
-  holds_within (if_then a b) f p all h =
+  holds_within (under if_holds a b) f p all h =
       let g = and_parts (fits_place true a) (unconditional b) f in
       elim (or_cases (holds catalog a set) (not (holds catalog b set)) h) [
         | inl k ↦ or_left (holds catalog a within) (not (holds catalog b within)) (holds_within a g.0 p all k)

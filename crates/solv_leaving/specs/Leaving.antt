@@ -1,7 +1,7 @@
 -- Packages that nothing can ask for. Of what they require no rules are made, since no set that answers a task holds them.
 use Rattle.std.specs.Prelude.{ℕ, ◌≡◌, Bool, true, false, not, ◌&&◌, ◌||◌, List, [], ◌∷◌}
 use Rattle.std.specs.List.{list_all}
-use Rattle.solv_base.specs.Dependency.{Dep, one, namespace, and, or, with, without, if_then, if_else, unless, unless_else, missing, package_wise}
+use Rattle.solv_base.specs.Dependency.{Dep, and, or, if_holds, joined, under, under_else, missing, package_wise}
 use Rattle.solv_pool.specs.Words.{is_among, passes}
 use Rattle.solv_pool.specs.Catalog.{Catalog, packages, package_at, dependency, is_installed}
 use Rattle.solv_pool.specs.HardRules.{feature_candidates}
@@ -15,17 +15,13 @@ use Rattle.solv_pool.specs.declared.tasks.Flags.{Flags}
 
 -- whatever can be taken so that the dependency holds meets one of its parts: nothing is taken for a condition
 abbrev pub is_plainly_met : {N : Type 0} → Dep N → Bool
-is_plainly_met (one c) = true
-is_plainly_met (namespace n) = true
-is_plainly_met (with a b) = true
-is_plainly_met (without a b) = true
-is_plainly_met (and a b) = is_plainly_met a && is_plainly_met b
-is_plainly_met (or a b) = package_wise (or a b) || (is_plainly_met a && is_plainly_met b)
-is_plainly_met (if_then a b) = is_plainly_met a
-is_plainly_met (if_else a b c) = false
-is_plainly_met (unless a b) = false
-is_plainly_met (unless_else a b c) = false
+is_plainly_met (joined and a b) = is_plainly_met a && is_plainly_met b
+is_plainly_met (joined or a b) = package_wise (joined or a b) || (is_plainly_met a && is_plainly_met b)
+is_plainly_met (under if_holds a b) = is_plainly_met a
+is_plainly_met (under k a b) = false
+is_plainly_met (under_else k a b c) = false
 is_plainly_met missing = false
+is_plainly_met d = true
 
 module _ (catalog : Catalog) where
   -- so it is with all that a package asks for, and packages meet its conflicts alone
