@@ -5,7 +5,7 @@ use Rattle.std.specs.List.{list_any, list_all}
 use Rattle.std.proofs.lemmas.Bool.{and_parts, or_cases, or_left, or_right, cases_Bool, false≢true}
 use Rattle.std.proofs.lemmas.List.Folds.{list_any-append}
 use Rattle.solv_list.proofs.Booleans.{false_of_not}
-use Rattle.solv_base.specs.Dependency.{Dep, one, namespace, and, or, with, without, if_then, package_wise}
+use Rattle.solv_base.specs.Dependency.{Dep, one, namespace, and, or, with, without, if_holds, joined, under, package_wise}
 use Rattle.solv_pool.specs.Words.{when, is_among, passes}
 use Rattle.solv_pool.specs.Best.{best}
 use Rattle.solv_pool.specs.Catalog.{Catalog, packages, package_at, dependency, is_installed, same_name}
@@ -62,9 +62,9 @@ module _ (catalog : Catalog) (out : ℕ → Bool) (set : ℕ → Bool) where
   take_alone : (d : Dep ℕ) (q : ℕ) → package_wise d ≡ true → takes d q ≡ true → package_meets catalog d q ≡ true
   take_alone (one c) q w h = h
   take_alone (namespace n) q w h = h
-  take_alone (with a b) q w h = h
-  take_alone (without a b) q w h = h
-  take_alone (or a b) q w h =
+  take_alone (joined with a b) q w h = h
+  take_alone (joined without a b) q w h = h
+  take_alone (joined or a b) q w h =
       let both = and_parts (package_wise a) (package_wise b) w in
       elim (or_cases (takes a q) (takes b q) h) [
         | inl k ↦ or_left (package_meets catalog a q) (package_meets catalog b q) (take_alone a q both.0 k)
@@ -82,9 +82,9 @@ module _ (catalog : Catalog) (out : ℕ → Bool) (set : ℕ → Bool) where
   pub take_serves : (d : Dep ℕ) (q : ℕ) → is_plainly_met d ≡ true → takes d q ≡ true → serves catalog q d ≡ true
   take_serves (one c) q p h = or_left (package_meets catalog (one c) q) false h
   take_serves (namespace n) q p h = or_left (package_meets catalog (namespace n) q) false h
-  take_serves (with a b) q p h = or_left (package_meets catalog (with a b) q) false h
-  take_serves (without a b) q p h = or_left (package_meets catalog (without a b) q) false h
-  take_serves (and a b) q p h =
+  take_serves (joined with a b) q p h = or_left (package_meets catalog (joined with a b) q) false h
+  take_serves (joined without a b) q p h = or_left (package_meets catalog (joined without a b) q) false h
+  take_serves (joined and a b) q p h =
       let m = and_parts (is_plainly_met a) (is_plainly_met b) p in
       step (holds catalog a set) (λ k. take_serves a q m.0 k) (λ k. take_serves b q m.1 k) h
     where
@@ -92,20 +92,20 @@ module _ (catalog : Catalog) (out : ℕ → Bool) (set : ℕ → Bool) where
           → (if x then takes b q else takes a q) ≡ true → list_any (λ part. package_meets catalog part q) (parts a ++ parts b) ≡ true
       step true first second k = second_serves a b q (second k)
       step false first second k = first_serves a b q (first k)
-  take_serves (or a b) q p h = step (package_wise (or a b)) refl p (λ m k. take_serves a q m k) (λ m k. take_serves b q m k)
+  take_serves (joined or a b) q p h = step (package_wise (joined or a b)) refl p (λ m k. take_serves a q m k) (λ m k. take_serves b q m k)
     where
-      step : (w : Bool) → package_wise (or a b) ≡ w → (w || (is_plainly_met a && is_plainly_met b)) ≡ true
+      step : (w : Bool) → package_wise (joined or a b) ≡ w → (w || (is_plainly_met a && is_plainly_met b)) ≡ true
           → (is_plainly_met a ≡ true → takes a q ≡ true → serves catalog q a ≡ true)
           → (is_plainly_met b ≡ true → takes b q ≡ true → serves catalog q b ≡ true)
-          → list_any (λ part. package_meets catalog part q) (if w then or a b ∷ [] else parts a ++ parts b) ≡ true
-      step true e plain first second = or_left (package_meets catalog (or a b) q) false (take_alone (or a b) q e h)
+          → list_any (λ part. package_meets catalog part q) (if w then joined or a b ∷ [] else parts a ++ parts b) ≡ true
+      step true e plain first second = or_left (package_meets catalog (joined or a b) q) false (take_alone (joined or a b) q e h)
       step false e plain first second =
           let m = and_parts (is_plainly_met a) (is_plainly_met b) plain in
           elim (or_cases (takes a q) (takes b q) h) [
             | inl k ↦ first_serves a b q (first m.0 k)
             | inr k ↦ second_serves a b q (second m.1 k)
           ]
-  take_serves (if_then a b) q p h = take_serves a q p h
+  take_serves (under if_holds a b) q p h = take_serves a q p h
   take_serves _ q p h = absurd (false≢true p)
 
 module _ (catalog : Catalog) (flags : Flags) (jobs : List Job) (marks : Marks) (left : List Bool) (out : LeavesOut catalog flags jobs marks left) where
