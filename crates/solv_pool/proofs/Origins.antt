@@ -6,11 +6,12 @@ use Rattle.solv_pool.specs.Words.{when}
 use Rattle.solv_pool.specs.Catalog.{Catalog, packages, members, package_at, is_installed}
 use Rattle.solv_pool.specs.Installable.{is_installable}
 use Rattle.solv_pool.specs.Selections.{selects, selection}
-use Rattle.solv_pool.specs.JobKinds.{is_install, is_update}
+use Rattle.solv_pool.specs.Inner.JobKinds.{is_install, is_update}
 use Rattle.solv_pool.specs.JobMarks.{marked}
 use Rattle.solv_pool.specs.Updates.{is_feature, itself_and, feature_set, may_stay, dup_set}
 use Rattle.solv_pool.specs.RuleMeaning.{HardRule, not_installable, req, con, rich_con, obs, same, infarch, update, dup, feature, install, erase, lock, best_job, best_update, Shape, some_of, none_of, as_installed, shape_of}
-use Rattle.solv_pool.specs.HardRules.{not_installable_rules, counted_requirements, requirement_rules, is_conflicting, conflicting, conflict_rules, package_wise_conflicts, counted_rich_conflicts, rich_conflict_rules, obsoleted, obsoletion_rules, later_namesakes, same_name_rules, rules_asked_by, rules_of_package, package_rules, inferior_packages, infarch_rules, update_candidates, feature_candidates, successors, successor_rule, kept_packages, has_update_rule, update_rules, feature_rules, numbered_jobs, rule_of_job, job_rules, best_job_rule, best_job_rules, selected_installed, best_update_rule, best_update_rules, hard_rules_by}
+use Rattle.solv_pool.specs.HardRules.{counted_requirements, is_conflicting, conflict_rules, counted_rich_conflicts, obsoletion_rules, rules_asked_by, package_rules, infarch_rules, update_candidates, feature_candidates, successors, successor_rule, kept_packages, update_rules, feature_rules, rule_of_job, job_rules, best_job_rule, best_job_rules, best_update_rules, hard_rules_by}
+use Rattle.solv_pool.specs.Inner.HardRules.{not_installable_rules, requirement_rules, conflicting, package_wise_conflicts, rich_conflict_rules, obsoleted, later_namesakes, same_name_rules, rules_of_package, inferior_packages, has_update_rule, numbered_jobs, selected_installed, best_update_rule}
 use Rattle.solv_pool.specs.Best.{best}
 use Rattle.solv_pool.specs.declared.packages.Package.{Package}
 use Rattle.solv_pool.specs.declared.packages.Need.{Need}

@@ -1,4 +1,5 @@
--- The hard rules of a task, in their order.
+-- The hard rules of a task, in seven lists, one behind another: what packages ask of each other; inferior architectures; what installed packages are held to, by
+-- update rules and by feature rules; and what jobs ask for: some of their selections, the best of these, and the best updates of installed packages.
 use Rattle.std.specs.Prelude.{ℕ, length, Bool, true, false, not, ◌&&◌, ◌||◌, List, [], ◌∷◌, ◌++◌, map, filter, flat_map, ◌==◌, nat_lt, if◌then◌else◌}
 use Rattle.std.specs.Option.{option_map_or}
 use Rattle.std.specs.List.{list_any, list_all, enumerate_from}
@@ -9,7 +10,7 @@ use Rattle.solv_pool.specs.Providing.{covers}
 use Rattle.solv_pool.specs.Holding.{package_meets}
 use Rattle.solv_pool.specs.Installable.{is_installable, is_noarch, arch_rank}
 use Rattle.solv_pool.specs.Selections.{selects, selection}
-use Rattle.solv_pool.specs.JobKinds.{is_install, is_update}
+use Rattle.solv_pool.specs.JobKinds.{acts}
 use Rattle.solv_pool.specs.JobMarks.{marked, marks_of}
 use Rattle.solv_pool.specs.Counting.{requirement_counts, pair_counts, rich_conflict_counts}
 use Rattle.solv_pool.specs.RuleMeaning.{HardRule, not_installable, req, con, rich_con, obs, same, infarch, update, dup, feature, install, erase, lock, best_job, best_update}
@@ -21,18 +22,10 @@ use Rattle.solv_pool.specs.declared.tasks.Task.{Task}
 use Rattle.solv_pool.specs.declared.tasks.Flags.{Flags}
 use Rattle.solv_pool.specs.declared.jobs.Job.{Job}
 use Rattle.solv_pool.specs.declared.jobs.Choice.{Choice}
-use Rattle.solv_pool.specs.declared.jobs.Choice.TheVariants.{Pkg, Name, Provides, OneOf, All, Nothing}
+use Rattle.solv_pool.specs.declared.jobs.Choice.TheVariants.{Pkg, Name, OneOf}
 use Rattle.solv_pool.specs.declared.jobs.Action.{Action}
-use Rattle.solv_pool.specs.declared.jobs.Action.TheVariants.{Install, Erase, Lock}
+use Rattle.solv_pool.specs.declared.jobs.Action.TheVariants.{Install, Erase, Lock, Update}
 use Rattle.solv_pool.specs.declared.job_marks.Marks.{Marks}
-
--- a package that is not installable is out
-abbrev pub not_installable_rules : Catalog → ℕ → List HardRule
-not_installable_rules catalog p = when (not (is_installable catalog p)) (not_installable p ∷ [])
-
--- the conflicts that a package meets alone or not at all
-abbrev pub package_wise_conflicts : Catalog → Package → List ℕ
-package_wise_conflicts catalog a = filter (λ d. package_wise (dependency catalog d)) a.conflicts
 
 -- the rules of each package in turn
 module _ (catalog : Catalog) (marks : Marks) where
@@ -40,71 +33,43 @@ module _ (catalog : Catalog) (marks : Marks) where
   abbrev pub counted_requirements : ℕ → Package → List Need
   counted_requirements p a = filter (λ need. requirement_counts catalog marks p need.dep) a.requires_
 
-  -- each as a rule, by place
-  abbrev pub requirement_rules : ℕ → Package → List HardRule
-  requirement_rules p a = map (λ need. req p need.dep) (counted_requirements p a)
-
-  -- q is another member that meets the conflict of p, and counts
+  -- q is another member that meets the conflict of p, and counts; the system may be one
   abbrev pub is_conflicting : ℕ → ℕ → ℕ → Bool
   is_conflicting p d q = not (q == p) && (package_meets catalog (dependency catalog d) q && pair_counts catalog marks p q)
 
-  -- all such members, ascending; the system may be one
-  abbrev pub conflicting : ℕ → ℕ → List ℕ
-  conflicting p d = filter (is_conflicting p d) (members catalog)
-
-  -- each as a rule, by the conflict's place and then by member
+  -- a rule for each such member, by the place of the conflict, which is one that a package meets alone or not at all, and then by member
   abbrev pub conflict_rules : ℕ → Package → List HardRule
-  conflict_rules p a = flat_map (λ d. map (con p d) (conflicting p d)) (package_wise_conflicts catalog a)
+  conflict_rules p a = flat_map (λ d. map (con p d) (filter (is_conflicting p d) (members catalog))) (filter (λ d. package_wise (dependency catalog d)) a.conflicts)
 
   -- the other conflicts of p, where they count
   abbrev pub counted_rich_conflicts : ℕ → Package → List ℕ
   counted_rich_conflicts p a = filter (λ d. not (package_wise (dependency catalog d)) && rich_conflict_counts catalog marks p d) a.conflicts
 
-  -- each as a rule, by place
-  abbrev pub rich_conflict_rules : ℕ → Package → List HardRule
-  rich_conflict_rules p a = map (rich_con p) (counted_rich_conflicts p a)
-
   -- q is another package that the obsoletion of p covers, and counts
   abbrev pub is_obsoleted : ℕ → ℕ → ℕ → Bool
   is_obsoleted p d q = not (q == p) && (covers catalog d q && pair_counts catalog marks p q)
 
-  -- all such packages, ascending
-  abbrev pub obsoleted : ℕ → ℕ → List ℕ
-  obsoleted p d = filter (is_obsoleted p d) (packages catalog)
-
-  -- each as a rule, by the obsoletion's place and then by package
+  -- a rule for each such package, by the obsoletion's place and then by package
   abbrev pub obsoletion_rules : ℕ → Package → List HardRule
-  obsoletion_rules p a = flat_map (λ d. map (obs p d) (obsoleted p d)) a.obsoletes
+  obsoletion_rules p a = flat_map (λ d. map (obs p d) (filter (is_obsoleted p d) (packages catalog))) a.obsoletes
 
   -- q is a later package of p's name that may not be installed beside it; two installed packages are left alone
   abbrev pub is_later_namesake : ℕ → ℕ → Bool
   is_later_namesake p q = nat_lt p q && (same_name catalog p q && (not (coexist catalog marks p q) && not (is_installed catalog p && is_installed catalog q)))
 
-  -- all such packages, ascending
-  abbrev pub later_namesakes : ℕ → List ℕ
-  later_namesakes p = filter (is_later_namesake p) (packages catalog)
-
-  -- each as a rule
-  abbrev pub same_name_rules : ℕ → List HardRule
-  same_name_rules p = map (same p) (later_namesakes p)
-
-  -- what a package asks for, kind by kind
+  -- what a package asks for, kind by kind: it is out where it is not installable; then each requirement that counts, and so on
   abbrev pub rules_asked_by : ℕ → Package → List HardRule
   rules_asked_by p a =
-      not_installable_rules catalog p
-      ++ requirement_rules p a
+      when (not (is_installable catalog p)) (not_installable p ∷ [])
+      ++ map (λ need. req p need.dep) (counted_requirements p a)
       ++ conflict_rules p a
-      ++ rich_conflict_rules p a
+      ++ map (rich_con p) (counted_rich_conflicts p a)
       ++ obsoletion_rules p a
-      ++ same_name_rules p
-
-  -- the same by its number
-  abbrev pub rules_of_package : ℕ → List HardRule
-  rules_of_package p = option_map_or (rules_asked_by p) (package_at catalog p) []
+      ++ map (same p) (filter (is_later_namesake p) (packages catalog))
 
   -- the rules that packages ask for, package by package
   abbrev pub package_rules : List HardRule
-  package_rules = flat_map rules_of_package (packages catalog)
+  package_rules = flat_map (λ p. option_map_or (rules_asked_by p) (package_at catalog p) []) (packages catalog)
 
 -- inferior architectures
 module _ (catalog : Catalog) (flags : Flags) where
@@ -117,13 +82,28 @@ module _ (catalog : Catalog) (flags : Flags) where
   is_inferior p = has_own_arch p
       && list_any (λ q. same_name catalog p q && (has_own_arch q && nat_lt (arch_rank catalog q) (arch_rank catalog p))) (packages catalog)
 
-  -- what is not installed and inferior, ascending
-  abbrev pub inferior_packages : List ℕ
-  inferior_packages = filter (λ p. not (is_installed catalog p) && is_inferior p) (packages catalog)
-
-  -- each as a rule, unless the flags say that it is not looked at
+  -- what is not installed and inferior is out, unless the flags say that it is not looked at
   abbrev pub infarch_rules : List HardRule
-  infarch_rules = when (not flags.no_infarch_check) (map infarch inferior_packages)
+  infarch_rules = when (not flags.no_infarch_check) (map infarch (filter (λ p. not (is_installed catalog p) && is_inferior p) (packages catalog)))
+
+-- there is a comparison with an EVR
+abbrev pub is_versioned : {N : Type 0} → Capability N → Bool
+is_versioned (plain n) = false
+is_versioned (versioned n c e) = true
+
+module _ (catalog : Catalog) where
+  -- by `pkg`, by `oneof`, or by a name with a version
+  abbrev pub is_exact : Choice → Bool
+  is_exact (Pkg q) = true
+  is_exact (OneOf qs) = true
+  is_exact (Name d) = passes (capability_at catalog d) is_versioned
+  is_exact _ = false
+
+module _ (catalog : Catalog) (jobs : List Job) (marks : Marks) where
+  -- an install job asks exactly for packages of p's name, at least one
+  abbrev pub is_asked_exactly : ℕ → Bool
+  is_asked_exactly p = list_any (λ job. acts Install job.action
+      && (is_exact catalog job.choice && (nat_lt 0 (length (selection catalog job.choice)) && list_all (same_name catalog p) (selection catalog job.choice)))) jobs
 
 -- installed packages
 module _ (catalog : Catalog) (flags : Flags) (marks : Marks) where
@@ -151,46 +131,18 @@ module _ (catalog : Catalog) (flags : Flags) (marks : Marks) where
   abbrev pub kept_packages : List ℕ
   kept_packages = filter is_kept (packages catalog)
 
--- there is a comparison with an EVR
-abbrev pub is_versioned : {N : Type 0} → Capability N → Bool
-is_versioned (plain n) = false
-is_versioned (versioned n c e) = true
-
-module _ (catalog : Catalog) where
-  -- by `pkg`, by `oneof`, or by a name with a version
-  abbrev pub is_exact : Choice → Bool
-  is_exact (Pkg q) = true
-  is_exact (OneOf qs) = true
-  is_exact (Name d) = passes (capability_at catalog d) is_versioned
-  is_exact (Provides d) = false
-  is_exact All = false
-  is_exact Nothing = false
-
-  -- at least one package, and each is of p's name
-  abbrev pub are_of_name : ℕ → List ℕ → Bool
-  are_of_name p xs = nat_lt 0 (length xs) && list_all (same_name catalog p) xs
-
-module _ (catalog : Catalog) (jobs : List Job) (marks : Marks) where
-  -- an install job asks exactly for packages of p's name
-  abbrev pub is_asked_exactly : ℕ → Bool
-  is_asked_exactly p = list_any (λ job. is_install job.action && (is_exact catalog job.choice && are_of_name catalog p (selection catalog job.choice))) jobs
-
-  -- p has an update rule, where it is kept: it is multiversion, or no job asks exactly for what is to take its place
-  abbrev pub has_update_rule : ℕ → Bool
-  has_update_rule p = marked marks.multiversion p || not (is_asked_exactly p)
-
-module _ (catalog : Catalog) (flags : Flags) (marks : Marks) where
-  -- for each package that is kept and has such a rule, with what it is held to
+  -- for each of these, with what it is held to, unless a job asks exactly for what is to take its place: that lifts the rule of all but a multiversion package
   abbrev pub update_rules : List Job → List HardRule
-  update_rules jobs = map (successor_rule catalog flags marks) (filter (has_update_rule catalog jobs marks) (kept_packages catalog flags marks))
+  update_rules jobs = map successor_rule (filter (λ p. marked marks.multiversion p || not (is_asked_exactly catalog jobs marks p)) kept_packages)
 
-  -- for each package that is kept, with what may take its place were every change allowed
+  -- for each of these, with what may take its place were every change allowed
   abbrev pub feature_rules : List HardRule
-  feature_rules = map (λ p. feature p (feature_candidates catalog flags marks p)) (kept_packages catalog flags marks)
+  feature_rules = map (λ p. feature p (feature_candidates p)) kept_packages
 
--- the jobs by their places
-abbrev pub numbered_jobs : List Job → List (ℕ × Job)
-numbered_jobs jobs = enumerate_from 0 jobs
+  -- update jobs that ask for the best, of each installed package that they select and what may take its place
+  abbrev pub best_update_rules : List Job → List HardRule
+  best_update_rules jobs = flat_map (λ job. when (acts Update job.1.action && job.1.forcebest)
+      (map (λ p. best_update job.0 p (best catalog (update_candidates p))) (filter (λ p. is_installed catalog p && selects catalog job.1.choice p) (packages catalog)))) (enumerate_from 0 jobs)
 
 -- an install, erase or lock job gives a rule over its selection
 abbrev pub rule_of_job : ℕ → Action → List ℕ → List HardRule
@@ -204,28 +156,15 @@ abbrev pub best_job_rule : ℕ → List ℕ → List HardRule
 best_job_rule j [] = []
 best_job_rule j (x ∷ xs) = best_job j (x ∷ xs) ∷ []
 
--- jobs
+-- jobs, by their places
 module _ (catalog : Catalog) (jobs : List Job) where
   -- install, erase and lock jobs, with their selections
   abbrev pub job_rules : List HardRule
-  job_rules = flat_map (λ job. rule_of_job job.0 job.1.action (selection catalog job.1.choice)) (numbered_jobs jobs)
+  job_rules = flat_map (λ job. rule_of_job job.0 job.1.action (selection catalog job.1.choice)) (enumerate_from 0 jobs)
 
   -- install jobs that ask for the best of their selection
   abbrev pub best_job_rules : List HardRule
-  best_job_rules = flat_map (λ job. when (is_install job.1.action && job.1.forcebest) (best_job_rule job.0 (best catalog (selection catalog job.1.choice)))) (numbered_jobs jobs)
-
--- the installed packages that a choice selects
-abbrev pub selected_installed : Catalog → Choice → List ℕ
-selected_installed catalog choice = filter (λ p. is_installed catalog p && selects catalog choice p) (packages catalog)
-
-module _ (catalog : Catalog) (flags : Flags) (marks : Marks) where
-  -- the best of p and what may take its place
-  abbrev pub best_update_rule : ℕ → ℕ → HardRule
-  best_update_rule j p = best_update j p (best catalog (update_candidates catalog flags marks p))
-
-  -- update jobs that ask for the best update of each installed package that they select
-  abbrev pub best_update_rules : List Job → List HardRule
-  best_update_rules jobs = flat_map (λ job. when (is_update job.1.action && job.1.forcebest) (map (best_update_rule job.0) (selected_installed catalog job.1.choice))) (numbered_jobs jobs)
+  best_job_rules = flat_map (λ job. when (acts Install job.1.action && job.1.forcebest) (best_job_rule job.0 (best catalog (selection catalog job.1.choice)))) (enumerate_from 0 jobs)
 
 -- the hard rules over given marks
 abbrev pub hard_rules_by : Catalog → Flags → List Job → Marks → List HardRule

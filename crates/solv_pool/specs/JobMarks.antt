@@ -2,13 +2,13 @@
 use Rattle.std.specs.Prelude.{ℕ, ℤ, pos, negsuc, Bool, false, ◌||◌, List, [], ◌∷◌, map, fold, unwrap_or, slice_get, if◌then◌else◌}
 use Rattle.solv_pool.specs.Catalog.{Catalog, catalog_of, packages}
 use Rattle.solv_pool.specs.Selections.{selects}
-use Rattle.solv_pool.specs.JobKinds.{is_update, is_distupgrade, is_verify, is_multiversion, is_allow_uninstall, is_erase, job_selects, job_selects_installed}
+use Rattle.solv_pool.specs.JobKinds.{acts, job_selects, job_selects_installed}
 use Rattle.solv_pool.specs.Cleaning.{is_gone, cleaned}
 use Rattle.solv_pool.specs.declared.tasks.Task.{Task}
 use Rattle.solv_pool.specs.declared.jobs.Job.{Job}
 use Rattle.solv_pool.specs.declared.job_marks.Marks.{Marks}
 use Rattle.solv_pool.specs.declared.jobs.Action.{Action}
-use Rattle.solv_pool.specs.declared.jobs.Action.TheVariants.{Favor, Disfavor}
+use Rattle.solv_pool.specs.declared.jobs.Action.TheVariants.{Update, Distupgrade, Verify, Multiversion, AllowUninstall, Favor, Disfavor}
 
 -- the favour of a package after a job that selects it: 1 is favoured, -1 disfavoured
 abbrev pub favour_after : Action → ℤ → ℤ
@@ -33,22 +33,18 @@ module _ (catalog : Catalog) (jobs : List Job) where
   abbrev pub mark_each : (ℕ → Bool) → List Bool
   mark_each test = false ∷ map test (packages catalog)
 
-  -- update, distupgrade, verify and allowuninstall jobs mark installed packages; multiversion and erase jobs all that they select
-  abbrev pub marks_by : Marks
-  marks_by = record {
-    update = mark_each (job_selects_installed catalog jobs is_update);
-    dup = mark_each (job_selects_installed catalog jobs is_distupgrade);
-    verify = mark_each (job_selects_installed catalog jobs is_verify);
-    multiversion = mark_each (job_selects catalog jobs is_multiversion);
-    allow_uninstall = mark_each (job_selects_installed catalog jobs is_allow_uninstall);
-    erased = mark_each (job_selects catalog jobs is_erase);
+  -- update, distupgrade, verify and allowuninstall jobs mark installed packages; multiversion and erase jobs all that they select; what is cleaned is marked as erased, too
+  abbrev pub marks_with_cleaned : Marks
+  marks_with_cleaned = record {
+    update = mark_each (job_selects_installed catalog jobs (acts Update));
+    dup = mark_each (job_selects_installed catalog jobs (acts Distupgrade));
+    verify = mark_each (job_selects_installed catalog jobs (acts Verify));
+    multiversion = mark_each (job_selects catalog jobs (acts Multiversion));
+    allow_uninstall = mark_each (job_selects_installed catalog jobs (acts AllowUninstall));
+    erased = mark_each (is_gone catalog jobs (cleaned catalog jobs));
     favour = pos 0 ∷ map favour_of (packages catalog);
     left_out = [];
   }
-
-  -- the same, and what is cleaned is marked as what erase jobs select
-  abbrev pub marks_with_cleaned : Marks
-  marks_with_cleaned = record marks_by { erased = mark_each (is_gone catalog jobs (cleaned catalog jobs)) }
 
 -- the marks of a task
 abbrev pub marks_of : Task → Marks
