@@ -1,22 +1,12 @@
--- What a list of facts makes of a clause: satisfied, falsified, or one that forces a literal.
-use Rattle.std.specs.Prelude.{ℤ, Bool, List, [], ◌∷◌, filter, Option, Some, None, if◌then◌else◌}
+-- What a list of facts makes of a clause: falsified, or one that forces a literal.
+use Rattle.std.specs.Prelude.{ℤ, Bool, List, filter, Option, None, if◌then◌else◌}
 use Rattle.std.specs.List.{list_any, list_all}
-use Rattle.solv_pool.specs.Propagation.{is_fact, is_refuted, is_open}
-
--- some literal of the clause is a fact
-abbrev pub is_satisfied : List ℤ → List ℤ → Bool
-is_satisfied facts c = list_any (is_fact facts) c
+use Rattle.solv_pool.specs.Propagation.{is_fact, is_refuted, is_open, only}
 
 -- each literal of the clause is refuted
 abbrev pub is_falsified : List ℤ → List ℤ → Bool
 is_falsified facts c = list_all (is_refuted facts) c
 
--- the element of a list that has one and no more
-abbrev pub only : List ℤ → Option ℤ
-only [] = None
-only (l ∷ []) = Some l
-only (l ∷ m ∷ ls) = None
-
 -- the one open literal, counted by places, of a clause with no true one
 abbrev pub forced : List ℤ → List ℤ → Option ℤ
-forced facts c = if is_satisfied facts c then None else only (filter (is_open facts) c)
+forced facts c = if list_any (is_fact facts) c then None else only (filter (is_open facts) c)

@@ -13,13 +13,9 @@ abbrev pub rule_of : Hint → List ℕ
 rule_of (hint.Book rule) = rule ∷ []
 rule_of (hint.Step step) = []
 
--- the rules that hints name, hint by hint
-abbrev pub rules_of : List Hint → List ℕ
-rules_of hints = flat_map rule_of hints
-
--- the rules that the hints of steps name, step by step
+-- the rules that the hints of steps name, step by step and hint by hint
 abbrev pub named_rules : List Step → List ℕ
-named_rules steps = flat_map (λ s. rules_of s.hints) steps
+named_rules steps = flat_map (λ s. flat_map rule_of s.hints) steps
 
 -- those rules, ascending, each once
 abbrev pub leaves : List Step → List ℕ

@@ -11,10 +11,7 @@ use Rattle.solv_derive.specs.declared.logs.Checked.TheVariants.{Yes, No}
 abbrev pub ends_in_conflict : (Hint → Option (List ℤ)) → List ℤ → List Hint → Bool
 ends_in_conflict look facts [] = false
 ends_in_conflict look facts (h ∷ []) = elim (look h) [ None ↦ false | Some c ↦ is_falsified facts c ]
-ends_in_conflict look facts (h ∷ g ∷ hints) = elim (look h) [
-  | None ↦ false
-  | Some c ↦ elim (forced facts c) [ None ↦ false | Some l ↦ ends_in_conflict look (l ∷ facts) (g ∷ hints) ]
-]
+ends_in_conflict look facts (h ∷ g ∷ hints) = elim (look h) [ None ↦ false | Some c ↦ elim (forced facts c) [ None ↦ false | Some l ↦ ends_in_conflict look (l ∷ facts) (g ∷ hints) ] ]
 
 -- the clause that a hint names: one of the book, or that of an earlier step
 abbrev pub hint_clause : List (List ℤ) → List (List ℤ) → Hint → Option (List ℤ)
@@ -53,7 +50,4 @@ first_bad book earlier (s ∷ steps) =
 
 -- what a check answers: the first step that is not good, else the number of steps where no empty clause ends them, else yes
 abbrev pub checked : List (List ℤ) → List Step → Checked
-checked book steps = elim (first_bad book [] steps) [
-  | Some n ↦ No n
-  | None ↦ if ends_empty steps then Yes else No (length steps)
-]
+checked book steps = elim (first_bad book [] steps) [ Some n ↦ No n | None ↦ if ends_empty steps then Yes else No (length steps) ]

@@ -1,6 +1,7 @@
 //! What a log rests on.
 ghost use Rattle.std.specs.Prelude.{◌≡◌, ◌++◌, IfOk, OnOk};
-ghost use Rattle.solv_derive.specs.Leaves.{leaves as leaves_of, named_rules as names_of, rules_of};
+ghost use Rattle.solv_derive.specs.Leaves.{leaves as leaves_of, named_rules as names_of};
+ghost use Rattle.solv_derive.specs.Inner.Leaves.{rules_of};
 
 use crate::logs::{Hint, Log, Step};
 use solv_pack::RuleNo;

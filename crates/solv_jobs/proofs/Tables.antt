@@ -10,8 +10,10 @@ use Rattle.solv_pool.specs.Catalog.{Catalog, catalog_of, packages}
 use Rattle.solv_pool.specs.declared.tasks.Task.{Task}
 use Rattle.solv_pool.specs.Selections.{selects, selection}
 use Rattle.solv_pool.specs.TaskBelonging.{is_pack}
-use Rattle.solv_pool.specs.JobKinds.{job_selects, job_selects_installed, is_update, is_distupgrade, is_verify, is_multiversion, is_allow_uninstall, is_erase}
-use Rattle.solv_pool.specs.JobMarks.{mark_each, favour_of, favour_after, marks_by}
+use Rattle.solv_pool.specs.JobKinds.{job_selects, job_selects_installed}
+use Rattle.solv_pool.specs.Inner.JobKinds.{is_update, is_distupgrade, is_verify, is_multiversion, is_allow_uninstall, is_erase}
+use Rattle.solv_pool.specs.JobMarks.{mark_each, favour_of, favour_after}
+use Rattle.solv_pool.specs.Inner.JobMarks.{marks_by}
 use Rattle.solv_pool.specs.declared.jobs.Job.{Job}
 use Rattle.solv_pool.specs.declared.jobs.Action.{Action}
 use Rattle.solv_pool.specs.declared.jobs.Action.TheVariants.{Install, Erase, Update, Distupgrade, Lock, Verify, Multiversion, AllowUninstall, Favor, Disfavor, UserInstalled, Noop}

@@ -23,7 +23,8 @@ use Rattle.solv_prov.specs.declared.capability.Provide.{Provide}
 use Rattle.solv_prov.specs.Inner.Capabilities.{version_of}
 use Rattle.solv_prov.specs.Inner.Groups.{group_at}
 use Rattle.solv_prov.specs.Inner.Gathering.{meeting_after, named_among, AreProvides}
-use Rattle.solv_prov.specs.Index.{relations, names, providers_of, named_by, obsoleters_of, packages_named, index_of, Index, IsIndexOf}
+use Rattle.solv_prov.specs.Index.{providers_of, named_by, obsoleters_of, packages_named, index_of, Index, IsIndexOf}
+use Rattle.solv_prov.specs.Inner.Index.{relations, names}
 use Rattle.solv_prov.proofs.Booleans.{filter_none, at_range, made_at}
 use Rattle.solv_list.proofs.Booleans.{first_of_both}
 use Rattle.std.proofs.lemmas.List.FromFn.{length-range_with_len}

@@ -2,6 +2,7 @@
 pub mod Capabilities
 pub mod Gathering
 pub mod Groups
+pub mod Index
 pub mod Lists
 pub mod Merging
 pub mod PartsBy

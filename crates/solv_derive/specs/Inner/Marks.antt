@@ -2,8 +2,7 @@
 use Rattle.std.specs.Prelude.{◌≡◌, ℕ, ◌+◌, ◌*◌, ◌≤◌, ◌==◌, ℤ, neg_ℤ, Bool, true, not, ◌&&◌, List, slice_index, length, filter, Option, None, if◌then◌else◌}
 use Rattle.std.specs.List.{list_any}
 use Rattle.solv_pack.specs.Inner.Literals.{place_of}
-use Rattle.solv_pool.specs.Propagation.{is_fact}
-use Rattle.solv_derive.specs.Forced.{only}
+use Rattle.solv_pool.specs.Propagation.{is_fact, only}
 use Rattle.solv_derive.specs.Range.{names_package}
 
 -- the mark of the literal is that of now

@@ -3,7 +3,8 @@ use Rattle.std.specs.Prelude.{ℕ, ℤ, pos, negsuc, Bool, true, false, not, ◌
 use Rattle.std.specs.Option.{option_map_or}
 use Rattle.solv_pool.specs.Catalog.{Catalog, is_installed}
 use Rattle.solv_pool.specs.Selections.{selection}
-use Rattle.solv_pool.specs.JobKinds.{is_install, is_user_installed, is_cleaning, is_update, is_distupgrade, is_verify, is_multiversion, is_allow_uninstall, is_erase, job_selects, job_selects_installed}
+use Rattle.solv_pool.specs.JobKinds.{job_selects, job_selects_installed}
+use Rattle.solv_pool.specs.Inner.JobKinds.{is_install, is_user_installed, is_cleaning, is_update, is_distupgrade, is_verify, is_multiversion, is_allow_uninstall, is_erase}
 use Rattle.solv_pool.specs.Cleaning.{is_given_up}
 use Rattle.solv_pool.specs.declared.jobs.Job.{Job}
 use Rattle.solv_pool.specs.declared.jobs.Action.{Action}

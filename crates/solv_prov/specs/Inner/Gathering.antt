@@ -3,12 +3,14 @@ use Rattle.std.specs.Prelude.{ℕ, ◌≡◌, ◌<◌, ◌+◌, Bool, true, not,
 use Rattle.std.specs.Option.{option_map_or, option_eq}
 use Rattle.solv_base.specs.Pool.{Held}
 use Rattle.solv_base.specs.Dependency.{Capability, plain}
-use Rattle.solv_pool.specs.Contents.{Contents, package_in}
+use Rattle.solv_pool.specs.Contents.{Contents}
+use Rattle.solv_pool.specs.Inner.Contents.{package_in}
 use Rattle.solv_pool.specs.Catalog.{Catalog, packages, members, package_at}
 use Rattle.solv_pool.specs.Providing.{name_of, has, has_namespace, is_named}
 use Rattle.solv_prov.specs.declared.capability.Version.{Version}
 use Rattle.solv_prov.specs.declared.capability.Provide.{Provide}
-use Rattle.solv_prov.specs.Index.{relations, named_by, obsoleters_of}
+use Rattle.solv_prov.specs.Index.{named_by, obsoleters_of}
+use Rattle.solv_prov.specs.Inner.Index.{relations}
 use Rattle.solv_prov.specs.Inner.Capabilities.{version_of, versions_meet, entries}
 use Rattle.solv_prov.specs.Inner.Groups.{group_at, in_front}
 

@@ -1,5 +1,5 @@
 use Rattle.std.proofs.Common.{◌≡◌, ◌++◌, drop}
-use Rattle.solv_derive.specs.Leaves.{rules_of}
+use Rattle.solv_derive.specs.Inner.Leaves.{rules_of}
 use Rattle.solv_derive.proofs.rests.add_rules.Given as goal
 
 abbrev pub invariant-loop-hint : goal.invariant-loop-hint
