@@ -9,7 +9,7 @@ use Rattle.solv_graph.specs.Inner.Graphs.{edge_to}
 use Rattle.solv_graph.specs.Inner.Classes.{TellClasses}
 use Rattle.solv_graph.specs.Inner.Orders.{waits_in}
 use Rattle.solv_graph.specs.Orders.{IsGoodOrder}
-use Rattle.solv_trans.specs.Orders.{Counts, a_pre_edge, another_edge}
+use Rattle.solv_trans.specs.Orders.{MustPrecede, a_pre_edge, another_edge}
 use Rattle.solv_trans.specs.Inner.Joining.{apart}
 use Rattle.solv_graph.proofs.Numbered.{edge_bound}
 use Rattle.solv_list.proofs.Booleans.{or_cases, or_false, same_truth}
@@ -134,7 +134,7 @@ module _ (all pre counting : List (List ℕ)) (n : ℕ) (marks pre_marks : List 
   differ_from ms p q h = ap not (false_from_ne_true (eqb (slice_index ms p) (slice_index ms q)) (λ e. h (eqb-true (slice_index ms p) (slice_index ms q) e)))
 
   -- the graph has exactly the edges that count
-  counted : (p q : ℕ) → Counts (edge_to all) (edge_to pre) p q → edge_to counting p q ≡ true
+  counted : (p q : ℕ) → MustPrecede (edge_to all) (edge_to pre) p q → edge_to counting p q ≡ true
   counted p q (a_pre_edge e out) =
       joined p q
       ∙ or_right (apart marks all p q) (apart pre_marks pre p q)
@@ -145,13 +145,13 @@ module _ (all pre counting : List (List ℕ)) (n : ℕ) (marks pre_marks : List 
       ∙ or_left (apart marks all p q) (apart pre_marks pre p q)
       (and_from (edge_to all p q) (not (eqb (slice_index marks p) (slice_index marks q))) e (differ_from marks p q (λ s. out (tells.sound p q (start_bound p q e) (ends p q e) s))))
 
-  counting_counts : (p q : ℕ) → edge_to counting p q ≡ true → Counts (edge_to all) (edge_to pre) p q
+  counting_counts : (p q : ℕ) → edge_to counting p q ≡ true → MustPrecede (edge_to all) (edge_to pre) p q
   counting_counts p q h = elim (two_kinds p q h) [
     | inl k ↦ another_edge k.0 (λ c. not_same marks p q k.1 (tells.whole p q (start_bound p q k.0) (ends p q k.0) c))
     | inr k ↦ a_pre_edge k.0 (λ c. not_same pre_marks p q k.1 (tells_pre.whole p q (start_bound p q (within p q k.0)) (ends p q (within p q k.0)) c))
   ]
 
-  pub good_order : (part late : ℕ → Bool) (order : List ℕ) → IsGoodOrder part late (waits_in counting) order → IsGoodOrder part late (λ p q. Counts (edge_to all) (edge_to pre) q p) order
+  pub good_order : (part late : ℕ → Bool) (order : List ℕ) → IsGoodOrder part late (waits_in counting) order → IsGoodOrder part late (λ p q. MustPrecede (edge_to all) (edge_to pre) q p) order
   good_order part late order good = record {
     each_once = good.each_once;
     keeps = λ i j less lt w. good.keeps i j less lt (counted (slice_index order j) (slice_index order i) w);

@@ -17,7 +17,8 @@ use Rattle.solv_pool.specs.declared.tasks.Task.{Task}
 use Rattle.solv_graph.specs.Inner.Orders.{turn_at, part_of, late_of, is_placed, is_late}
 use Rattle.solv_graph.specs.declared.orders.Turn.{Turn}
 use Rattle.solv_graph.specs.declared.orders.Turn.TheVariants.{Never, Early, Late}
-use Rattle.solv_trans.specs.Moving.{comes, goes, is_kept, is_part}
+use Rattle.solv_trans.specs.Moving.{comes, goes, is_part}
+use Rattle.solv_trans.specs.Inner.Edges.{is_kept}
 use Rattle.solv_trans.specs.Edges.{is_met_already, brings}
 use Rattle.solv_trans.specs.Inner.Joining.{AreTurns, is_early_in, settles}
 use Rattle.solv_trans.proofs.Lists.{in_filter, filter_in}

@@ -15,7 +15,7 @@ use Rattle.solv_graph.proofs.Placed.{in_at}
 use Rattle.solv_graph.proofs.Steps.{not_times}
 use Rattle.solv_graph.proofs.Walking.{leads_here, leads_step, leads_through}
 use Rattle.solv_list.proofs.Booleans.{or_cases, true_or_false}
-use Rattle.solv_trans.specs.Orders.{Counts, a_pre_edge, another_edge, IsOrdered}
+use Rattle.solv_trans.specs.Orders.{MustPrecede, a_pre_edge, another_edge, IsOrdered}
 use Rattle.solv_trans.specs.Inner.Parting.{parts_at}
 use Rattle.solv_trans.specs.declared.ordering.Ordered.{Ordered}
 use Rattle.solv_trans.proofs.Places.{ArePlaces, in_map, mapped_in, in_take, one_place, place_less, in_same, ascending, times_same}
@@ -135,24 +135,24 @@ module _ (parts : List ℕ) (n : ℕ) (part : ℕ → Bool) (are : ArePlaces par
       }
 
   module _ (own own_pre edge pre : ℕ → ℕ → Bool) (em : AreEmbedded parts part own edge) (em_pre : AreEmbedded parts part own_pre pre) where
-    counts_inside : (a b : ℕ) → Counts own own_pre a b → (a < length parts) × (b < length parts)
+    counts_inside : (a b : ℕ) → MustPrecede own own_pre a b → (a < length parts) × (b < length parts)
     counts_inside a b (a_pre_edge e out) = em_pre.inside a b e
     counts_inside a b (another_edge e out) = em.inside a b e
 
-    counts_up : (a b : ℕ) → Counts own own_pre a b → Counts edge pre (slice_index parts a) (slice_index parts b)
+    counts_up : (a b : ℕ) → MustPrecede own own_pre a b → MustPrecede edge pre (slice_index parts a) (slice_index parts b)
     counts_up a b (a_pre_edge e out) = let k = em_pre.inside a b e in a_pre_edge (sym (em_pre.same a b k.0 k.1) ∙ e) (λ c. out (class_down own_pre pre em_pre a b k.0 k.1 c))
     counts_up a b (another_edge e out) = let k = em.inside a b e in another_edge (sym (em.same a b k.0 k.1) ∙ e) (λ c. out (class_down own edge em a b k.0 k.1 c))
 
-    counts_down : (a b : ℕ) → a < length parts → b < length parts → Counts edge pre (slice_index parts a) (slice_index parts b) → Counts own own_pre a b
+    counts_down : (a b : ℕ) → a < length parts → b < length parts → MustPrecede edge pre (slice_index parts a) (slice_index parts b) → MustPrecede own own_pre a b
     counts_down a b x y (a_pre_edge e out) = a_pre_edge (em_pre.same a b x y ∙ e) (λ c. out (class_up own_pre pre em_pre a b c))
     counts_down a b x y (another_edge e out) = another_edge (em.same a b x y ∙ e) (λ c. out (class_up own edge em a b c))
 
-    counts_start : (a b : ℕ) → Counts edge pre a b → part a ≡ true
+    counts_start : (a b : ℕ) → MustPrecede edge pre a b → part a ≡ true
     counts_start a b (a_pre_edge e out) = em_pre.starts a b e
     counts_start a b (another_edge e out) = em.starts a b e
 
     module _ (own_part own_late late : ℕ → Bool) (parts_all : (i : ℕ) → i < length parts → own_part i ≡ true) (parts_only : (i : ℕ) → own_part i ≡ true → i < length parts)
-        (lates : (i : ℕ) → i < length parts → own_late i ≡ late (slice_index parts i)) (order : List ℕ) (good : IsGoodOrder own_part own_late (λ p q. Counts own own_pre q p) order) where
+        (lates : (i : ℕ) → i < length parts → own_late i ≡ late (slice_index parts i)) (order : List ℕ) (good : IsGoodOrder own_part own_late (λ p q. MustPrecede own own_pre q p) order) where
       once : (b : Bool) → b ≡ true → one_if b ≡ 1
       once true h = refl
       once false h = absurd (false≢true h)
@@ -194,20 +194,20 @@ module _ (parts : List ℕ) (n : ℕ) (part : ℕ → Bool) (are : ArePlaces par
             not_times (parts_at parts order) p out ∙ sym (never (part p) h)
       ]
 
-      ready_at : (i : ℕ) → i < length order → IsReady part late (λ p q. Counts edge pre q p) (take i (parts_at parts order)) (slice_index (parts_at parts order) i)
+      ready_at : (i : ℕ) → i < length order → IsReady part late (λ p q. MustPrecede edge pre q p) (take i (parts_at parts order)) (slice_index (parts_at parts order) i)
       ready_at i lt =
           let r = good.ready i lt in
           let b = placed_inside i lt in
-          subst (λ (x : ℕ). IsReady part late (λ p q. Counts edge pre q p) (take i (parts_at parts order)) x) (sym (index_at i lt)) (record {
+          subst (λ (x : ℕ). IsReady part late (λ p q. MustPrecede edge pre q p) (take i (parts_at parts order)) x) (sym (index_at i lt)) (record {
             is_part = are.each (slice_index order i) b;
             unplaced = took_same i (slice_index order i) b ∙ r.unplaced;
             free = λ q w.
                 let k = are.place q (counts_start q (slice_index parts (slice_index order i)) w) in
-                let own_w : Counts own own_pre k.0 (slice_index order i) = counts_down k.0 (slice_index order i) k.1 b (subst (λ (x : ℕ). Counts edge pre x (slice_index parts (slice_index order i))) (sym k.2) w) in
+                let own_w : MustPrecede own own_pre k.0 (slice_index order i) = counts_down k.0 (slice_index order i) k.1 b (subst (λ (x : ℕ). MustPrecede edge pre x (slice_index parts (slice_index order i))) (sym k.2) w) in
                 ap (is_in (take i (parts_at parts order))) (sym k.2) ∙ took_same i k.0 k.1 ∙ r.free k.0 own_w;
           })
 
-      ready_down : (i k : ℕ) → k < length parts → IsReady part late (λ p q. Counts edge pre q p) (take i (parts_at parts order)) (slice_index parts k) → IsReady own_part own_late (λ p q. Counts own own_pre q p) (take i order) k
+      ready_down : (i k : ℕ) → k < length parts → IsReady part late (λ p q. MustPrecede edge pre q p) (take i (parts_at parts order)) (slice_index parts k) → IsReady own_part own_late (λ p q. MustPrecede own own_pre q p) (take i order) k
       ready_down i k lt r = record {
         is_part = parts_all k lt;
         unplaced = sym (took_same i k lt) ∙ r.unplaced;
@@ -217,29 +217,29 @@ module _ (parts : List ℕ) (n : ℕ) (part : ℕ → Bool) (are : ArePlaces par
       first_same : (a b c d e f : Bool) → a ≡ d → b ≡ e → c ≡ f → (if a then b && c else b || c) ≡ (if d then e && f else e || f)
       first_same a b c d e f x y z = rw (x, y, z) refl
 
-      due_at : (i p : ℕ) → i < length order → IsReady part late (λ p q. Counts edge pre q p) (take i (parts_at parts order)) p
-          → (p ≡ slice_index (parts_at parts order) i) ⊎ (precedes part late (λ p q. Counts edge pre q p) (slice_index (parts_at parts order) i) p ≡ true)
+      due_at : (i p : ℕ) → i < length order → IsReady part late (λ p q. MustPrecede edge pre q p) (take i (parts_at parts order)) p
+          → (p ≡ slice_index (parts_at parts order) i) ⊎ (precedes part late (λ p q. MustPrecede edge pre q p) (slice_index (parts_at parts order) i) p ≡ true)
       due_at i p lt r =
           let k = are.place p r.is_part in
           let b = placed_inside i lt in
-          let own_r = ready_down i k.0 k.1 (subst (λ (x : ℕ). IsReady part late (λ p q. Counts edge pre q p) (take i (parts_at parts order)) x) (sym k.2) r) in
+          let own_r = ready_down i k.0 k.1 (subst (λ (x : ℕ). IsReady part late (λ p q. MustPrecede edge pre q p) (take i (parts_at parts order)) x) (sym k.2) r) in
           elim (good.due i k.0 lt own_r) [
             | inl e ↦ inl (sym k.2 ∙ ap (slice_index parts) e ∙ sym (index_at i lt))
             | inr e ↦ inr (
-                ap (λ x. precedes part late (λ p q. Counts edge pre q p) x p) (index_at i lt) ∙ ap (precedes part late (λ p q. Counts edge pre q p) (slice_index parts (slice_index order i))) (sym k.2)
+                ap (λ x. precedes part late (λ p q. MustPrecede edge pre q p) x p) (index_at i lt) ∙ ap (precedes part late (λ p q. MustPrecede edge pre q p) (slice_index parts (slice_index order i))) (sym k.2)
                 ∙ first_same (late (slice_index parts (slice_index order i))) (late (slice_index parts k.0)) (nat_lt (slice_index parts (slice_index order i)) (slice_index parts k.0)) (own_late (slice_index order i)) (own_late k.0) (nat_lt (slice_index order i) k.0)
                 (sym (lates (slice_index order i) b)) (sym (lates k.0 k.1)) (place_less parts are.rising (slice_index order i) k.0 b k.1)
                 ∙ e)
           ]
 
       -- a good order of places, as one of the parts
-      pub order_at : IsGoodOrder part late (λ p q. Counts edge pre q p) (parts_at parts order)
+      pub order_at : IsGoodOrder part late (λ p q. MustPrecede edge pre q p) (parts_at parts order)
       order_at = record {
         each_once = each_once_at;
         keeps = λ i j less lt w.
             let b : j < length order = omega (arith, lt, size_order) in
             let a : i < length order = omega (arith, less, b) in
-            let w_at : Counts edge pre (slice_index parts (slice_index order j)) (slice_index parts (slice_index order i)) = subst (λ (x : ℕ). Counts edge pre x (slice_index parts (slice_index order i))) (index_at j b) (subst (λ (x : ℕ). Counts edge pre (slice_index (parts_at parts order) j) x) (index_at i a) w) in
+            let w_at : MustPrecede edge pre (slice_index parts (slice_index order j)) (slice_index parts (slice_index order i)) = subst (λ (x : ℕ). MustPrecede edge pre x (slice_index parts (slice_index order i))) (index_at j b) (subst (λ (x : ℕ). MustPrecede edge pre (slice_index (parts_at parts order) j) x) (index_at i a) w) in
             good.keeps i j less b (counts_down (slice_index order j) (slice_index order i) (placed_inside j b) (placed_inside i a) w_at);
         ready = λ i lt. ready_at i (omega (arith, lt, size_order));
         due = λ i p lt r. due_at i p (omega (arith, lt, size_order)) r;

@@ -19,7 +19,8 @@ use Rattle.solv_graph.specs.Inner.Orders.{late_of}
 use Rattle.solv_graph.specs.declared.orders.Turn.{Turn}
 use Rattle.solv_graph.specs.declared.orders.Turn.TheVariants.{Never, Early, Late}
 use Rattle.solv_trans.specs.Moving.{comes, goes}
-use Rattle.solv_trans.specs.Edges.{is_met_already, brings, requires_some, coming_edge, going_edge, edge_by}
+use Rattle.solv_trans.specs.Edges.{is_met_already, brings, requires_some, edge_by}
+use Rattle.solv_trans.specs.Inner.Edges.{coming_edge, going_edge}
 use Rattle.solv_trans.specs.Inner.Readiness.{IsReady}
 use Rattle.solv_trans.specs.Inner.Joining.{Joins, turn_of, AreTurns, is_early_in, from_one, to_one, settles, unsettled, to_coming, from_going, owned_by}
 use Rattle.solv_trans.proofs.Lists.{in_filter, filter_in, all_members}

@@ -12,9 +12,12 @@ use Rattle.solv_pool.specs.Catalog.{Catalog, packages, members, is_installed, sa
 use Rattle.solv_pool.specs.Words.{is_among}
 use Rattle.solv_trans.specs.declared.kinds.Change.{Change}
 use Rattle.solv_trans.specs.declared.kinds.Change.TheVariants.{Install, Erase, Obsolete}
-use Rattle.solv_trans.specs.Changes.{is_exceeded, same_build, change_by, change_to, leaves, successors, partner, obsoleter, line_of, lines_of_leaving, is_installed_anew, changes}
+use Rattle.solv_trans.specs.Changes.{change_by, partner, obsoleter, line_of, lines_of_leaving, changes}
+use Rattle.solv_pool.specs.Updates.{same_build}
+use Rattle.solv_trans.specs.Inner.Changes.{is_exceeded, change_to, leaves, successors, is_installed_anew}
 use Rattle.solv_trans.specs.Moving.{comes}
-use Rattle.solv_trans.specs.Effects.{takes, brings, is_taken, is_brought, is_there_after, after}
+use Rattle.solv_trans.specs.Effects.{is_taken, is_brought, is_there_after, after}
+use Rattle.solv_trans.specs.Inner.Effects.{takes, brings}
 use Rattle.solv_trans.proofs.Same.{filter_range}
 use Rattle.solv_list.proofs.Booleans.{first_of_both, true_or_false, second_of_both}
 use Rattle.solv_list.proofs.Lists.{none_of}

@@ -12,7 +12,8 @@ use Rattle.solv_pool.specs.declared.packages.Need.{Need}
 use Rattle.solv_graph.specs.Inner.Orders.{part_of, late_of}
 use Rattle.solv_graph.specs.declared.orders.Turn.{Turn}
 use Rattle.solv_trans.specs.Moving.{comes, goes, is_part}
-use Rattle.solv_trans.specs.Edges.{brings, requires_some, coming_edge, going_edge, edge, pre_edge}
+use Rattle.solv_trans.specs.Edges.{brings, requires_some, edge, pre_edge}
+use Rattle.solv_trans.specs.Inner.Edges.{coming_edge, going_edge}
 use Rattle.solv_trans.specs.Orders.{IsOrdered}
 use Rattle.solv_trans.specs.Inner.Joining.{is_marked, linked, pre_linked, AreTurns, AreEdges}
 use Rattle.solv_trans.specs.declared.ordering.Ordered.{Ordered}

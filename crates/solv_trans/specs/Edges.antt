@@ -3,17 +3,17 @@ use Rattle.std.specs.Prelude.{ℕ, Bool, true, not, ◌&&◌, ◌||◌, ◌==◌
 use Rattle.std.specs.List.{list_any}
 use Rattle.solv_base.specs.Dependency.{Dep}
 use Rattle.solv_pool.specs.Words.{passes}
-use Rattle.solv_pool.specs.Catalog.{Catalog, packages, package_at, dependency}
+use Rattle.solv_pool.specs.Catalog.{Catalog, packages, package_at, dependency, is_installed}
 use Rattle.solv_pool.specs.Holding.{package_meets}
 use Rattle.solv_pool.specs.Parts.{parts}
 use Rattle.solv_pool.specs.Needs.{serves}
 use Rattle.solv_pool.specs.declared.packages.Need.{Need}
-use Rattle.solv_trans.specs.Moving.{comes, goes, is_kept}
+use Rattle.solv_trans.specs.Moving.{comes, goes}
 
 module _ (catalog : Catalog) (set : ℕ → Bool) where
-  -- p itself, the system or a kept installed package meets it
+  -- p itself, the system or an installed package that stays meets it
   abbrev pub is_met_already : ℕ → Dep ℕ → Bool
-  is_met_already p d = package_meets catalog d p || (package_meets catalog d 0 || list_any (λ q. is_kept catalog set q && package_meets catalog d q) (packages catalog))
+  is_met_already p d = package_meets catalog d p || (package_meets catalog d 0 || list_any (λ q. (is_installed catalog q && set q) && package_meets catalog d q) (packages catalog))
 
   -- q meets a part of the dependency that is not met already where p asks for it
   abbrev pub brings : ℕ → ℕ → Dep ℕ → Bool
@@ -23,17 +23,10 @@ module _ (catalog : Catalog) (set : ℕ → Bool) where
   abbrev pub requires_some : (Need → Bool) → (Dep ℕ → Bool) → ℕ → Bool
   requires_some these asks p = passes (package_at catalog p) (λ a. list_any (λ need. these need && asks (dependency catalog need.dep)) a.requires_)
 
-  -- both come, and q brings what p requires
-  abbrev pub coming_edge : (Need → Bool) → ℕ → ℕ → Bool
-  coming_edge these q p = comes catalog set q && (comes catalog set p && requires_some these (brings q p) p)
-
-  -- both go, and q serves what p requires
-  abbrev pub going_edge : (Need → Bool) → ℕ → ℕ → Bool
-  going_edge these p q = goes catalog set p && (goes catalog set q && requires_some these (serves catalog q) p)
-
-  -- the first comes before the second, by one of these requirements
+  -- a comes before b, by one of these requirements: both come, and a brings what b requires; or both go, and b serves what a requires
   abbrev pub edge_by : (Need → Bool) → ℕ → ℕ → Bool
-  edge_by these a b = not (a == b) && (coming_edge these a b || going_edge these a b)
+  edge_by these a b = not (a == b) && ((comes catalog set a && (comes catalog set b && requires_some these (brings a b) b))
+      || (goes catalog set a && (goes catalog set b && requires_some these (serves catalog b) a)))
 
   -- by any requirement
   abbrev pub edge : ℕ → ℕ → Bool

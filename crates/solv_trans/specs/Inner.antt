@@ -1,5 +1,8 @@
 -- Words of contracts between layers, and what holds inside.
-pub mod Order
+pub mod Changes
+pub mod Edges
+pub mod Effects
 pub mod Joining
-pub mod Readiness
+pub mod Order
 pub mod Parting
+pub mod Readiness

@@ -16,7 +16,3 @@ module _ (catalog : Catalog) (set : ℕ → Bool) where
   -- what has a place in an order
   abbrev pub is_part : ℕ → Bool
   is_part p = comes p || goes p
-
-  -- an installed package that stays
-  abbrev pub is_kept : ℕ → Bool
-  is_kept q = is_installed catalog q && set q

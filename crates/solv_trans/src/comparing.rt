@@ -4,7 +4,8 @@ ghost use Rattle.solv_pool.specs.Belonging.{IsOver};
 ghost use Rattle.solv_pool.specs.Best.{evr_of, compare_evrs};
 ghost use Rattle.solv_pool.specs.Catalog.{catalog_of, package_at};
 ghost use Rattle.solv_pool.specs.TaskBelonging.{is_pack};
-ghost use Rattle.solv_trans.specs.Changes.{is_same_build, same_build, change_to};
+ghost use Rattle.solv_pool.specs.Updates.{same_build};
+ghost use Rattle.solv_trans.specs.Inner.Changes.{is_same_build, change_to};
 ghost use Rattle.solv_trans.specs.Inner.Order.{greater_of};
 
 use crate::kinds::Change;

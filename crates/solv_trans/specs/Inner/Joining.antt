@@ -9,7 +9,8 @@ use Rattle.solv_graph.specs.Inner.Graphs.{edge_to}
 use Rattle.solv_graph.specs.Inner.Orders.{turn_at, part_of, late_of}
 use Rattle.solv_graph.specs.declared.orders.Turn.{Turn}
 use Rattle.solv_graph.specs.declared.orders.Turn.TheVariants.{Never, Early, Late}
-use Rattle.solv_trans.specs.Moving.{comes, goes, is_kept}
+use Rattle.solv_trans.specs.Moving.{comes, goes}
+use Rattle.solv_trans.specs.Inner.Edges.{is_kept}
 use Rattle.solv_trans.specs.Edges.{brings, requires_some, edge, pre_edge}
 use Rattle.solv_trans.specs.declared.edges.Link.{Link}
 

@@ -1,6 +1,7 @@
 use Rattle.std.proofs.Common.{◌≡◌, ◌++◌}
 use Rattle.solv_pool.specs.Catalog.{catalog_of}
-use Rattle.solv_trans.specs.Changes.{leaves, line_of}
+use Rattle.solv_trans.specs.Changes.{line_of}
+use Rattle.solv_trans.specs.Inner.Changes.{leaves}
 use Rattle.solv_trans.specs.Inner.Joining.{is_marked}
 use Rattle.solv_trans.proofs.Listing.{made_from}
 use Rattle.solv_trans.proofs.leaving.lines_of_leaving.Given as goal
