@@ -3,8 +3,10 @@ use Rattle.std.proofs.Common.{◌≡◌, ℕ, zero, suc, List, [], ◌∷◌, Op
 use Rattle.std.specs.Prelude.{ℤ}
 use Rattle.std.proofs.lemmas.Bool.{cases_Bool}
 use Rattle.solv_pool.specs.Propagation as defined
-use Rattle.solv_pool.specs.Propagation.{is_open, facts_after, with_single}
-use Rattle.solv_derive.specs.Forced.{is_satisfied, only, forced}
+use Rattle.solv_pool.specs.Propagation.{is_open, facts_after, only}
+use Rattle.solv_pool.specs.Inner.Propagation.{with_single, round as round_of}
+use Rattle.solv_derive.specs.Forced.{forced}
+use Rattle.solv_derive.specs.Inner.Forced.{is_satisfied}
 
 abbrev pub grown : Option ℤ → List ℤ → List ℤ
 grown None facts = facts
@@ -34,9 +36,9 @@ after_is facts c = elim (cases_Bool (is_satisfied facts c)) [
   | inr f ↦ rw f (after_only facts (filter (is_open facts) c))
 ]
 
-round_is : (clauses : List (List ℤ)) (facts : List ℤ) → defined.round clauses facts ≡ round clauses facts
+round_is : (clauses : List (List ℤ)) (facts : List ℤ) → round_of clauses facts ≡ round clauses facts
 round_is [] facts = refl
-round_is (c ∷ clauses) facts = ap (defined.round clauses) (after_is facts c) ∙ round_is clauses (settled facts c)
+round_is (c ∷ clauses) facts = ap (round_of clauses) (after_is facts c) ∙ round_is clauses (settled facts c)
 
 rounds_out : (k : ℕ) (clauses : List (List ℤ)) (facts : List ℤ) → rounds k clauses (round clauses facts) ≡ round clauses (rounds k clauses facts)
 rounds_out zero clauses facts = refl

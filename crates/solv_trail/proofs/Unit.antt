@@ -7,7 +7,8 @@ use Rattle.std.proofs.lemmas.Bool.{or_left, or_right, or_cases, or_parts, or_fro
 use Rattle.std.proofs.lemmas.List.{take_more, take_all}
 use Rattle.std.proofs.lemmas.List.Folds.{list_any-append}
 use Rattle.solv_pool.specs.Propagation.{is_fact, is_refuted, is_open, unit, clashes}
-use Rattle.solv_derive.specs.Forced.{is_satisfied, is_falsified, forced}
+use Rattle.solv_derive.specs.Forced.{is_falsified, forced}
+use Rattle.solv_derive.specs.Inner.Forced.{is_satisfied}
 use Rattle.solv_trail.proofs.Rounds.{grown, settled, round, rounds, rounds_are}
 use Rattle.solv_trail.specs.Inner.Derivation.{Within, IsConsistent, IsQuiet, AllQuiet, none, more, Among, here, there}
 use Rattle.solv_derive.proofs.Facts.{known_here, known_later, known_cases, all_member, all_from, none_member, none_from, filter_same, Forces, forces_from, forced_from, open_parts, open_from, forced_member, forced_others}

@@ -11,7 +11,8 @@ use Rattle.solv_pool.specs.Propagation.{is_fact, clashes}
 use Rattle.solv_derive.specs.Forced.{is_falsified}
 use Rattle.solv_trail.specs.Inner.Derivation.{Within, IsConsistent, Among}
 use Rattle.solv_trail.specs.Inner.Derivation.{chosen, forced_by, IsTrail}
-use Rattle.solv_trail.specs.Walk.{known_after, choice_after, walk_within, walk, asserts, without_last, met_by_choices}
+use Rattle.solv_trail.specs.Walk.{known_after, walk_within, walk, asserts, met_by_choices}
+use Rattle.solv_trail.specs.Inner.Walk.{choice_after, without_last}
 use Rattle.solv_derive.proofs.Facts.{known_here, known_later, known_same, known_cases}
 use Rattle.solv_trail.proofs.Unit.{given, implied, IsDerived, clash_in_unit, unit_is_clear, unit_is_reached}
 

@@ -6,3 +6,4 @@ pub mod Held
 pub mod Numbers
 pub mod Propagated
 pub mod Used
+pub mod Walk

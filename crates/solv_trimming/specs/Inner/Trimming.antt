@@ -6,7 +6,12 @@ use Rattle.solv_derive.specs.Range.{steps_over}
 use Rattle.solv_derive.specs.declared.logs.Hint.{Hint}
 use Rattle.solv_derive.specs.declared.logs.Hint.TheVariants as hint
 use Rattle.solv_derive.specs.declared.logs.Step.{Step}
-use Rattle.solv_trimming.specs.Trimming.{hints_at, is_trimmed}
+use Rattle.std.specs.List.{list_any}
+use Rattle.solv_trimming.specs.Trimming.{names_step, is_trimmed}
+
+-- some of the hints names the step of this number
+abbrev pub hints_at : ℕ → List Hint → Bool
+hints_at n hints = list_any (names_step n) hints
 
 -- a later step in use rests on the step of this number
 pub record IsRestedOn (steps : List Step) (used : ℕ → Bool) (n : ℕ) : Type 0 where
