@@ -7,7 +7,8 @@ use Rattle.solv_pool.specs.Catalog.{Catalog}
 use Rattle.solv_pool.specs.Clauses.{rule_clauses, words_of_all}
 use Rattle.solv_pool.specs.RuleMeaning.{HardRule}
 use Rattle.solv_pool.specs.declared.hard_rules.Rule.{Rule}
-use Rattle.solv_rules.specs.Books.{or_else, rule_fault, first_fault, owners_from, spans_from}
+use Rattle.solv_rules.specs.Books.{first_fault, owners_from, spans_from}
+use Rattle.solv_rules.specs.Inner.Books.{or_else, rule_fault}
 use Rattle.solv_rules.specs.Inner.Drafting.{HasRules, IsBegun, IsDraft, IsFront, clauses_before}
 use Rattle.solv_rules.specs.declared.drafts.Draft.{Draft}
 use Rattle.solv_rules.specs.declared.fault.BookFault.{BookFault}
