@@ -5,7 +5,8 @@ use Rattle.std.specs.Ordering.{int_eq}
 use Rattle.std.proofs.lemmas.Bool.{false≢true, cases_Bool, cases_lt, lt-ltb, ltb-true, false_from_ne_true}
 use Rattle.std.proofs.lemmas.List.{take_all}
 use Rattle.solv_pool.specs.Propagation.{is_fact, is_refuted, is_open}
-use Rattle.solv_derive.specs.Forced.{is_satisfied, is_falsified, forced}
+use Rattle.solv_derive.specs.Forced.{is_falsified, forced}
+use Rattle.solv_derive.specs.Inner.Forced.{is_satisfied}
 use Rattle.solv_derive.specs.Logs.{ends_in_conflict}
 use Rattle.solv_derive.specs.declared.logs.Hint.{Hint}
 use Rattle.solv_derive.proofs.Facts.{known_later, known_same, known_cases, all_from, none_from, filter_same, Forces, forces_from, forced_from, forced_member, forced_others, open_parts, open_from}

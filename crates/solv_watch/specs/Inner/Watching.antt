@@ -1,7 +1,8 @@
 -- What the watches of rules keep.
 use Rattle.std.specs.Prelude.{ℕ, ℤ, pos, ◌≡◌, ◌+◌, ◌*◌, ◌/◌, ◌^◌, ◌<◌, ◌≤◌, ◌⊎◌, Bool, true, false, List, length, take, slice_get, slice_index, slice_index_or, Some}
 use Rattle.solv_pool.specs.Propagation.{is_fact, is_refuted}
-use Rattle.solv_derive.specs.Forced.{is_satisfied, is_falsified, forced}
+use Rattle.solv_derive.specs.Forced.{is_falsified, forced}
+use Rattle.solv_derive.specs.Inner.Forced.{is_satisfied}
 use Rattle.solv_pack.specs.Inner.Literals.{place_of}
 use Rattle.solv_trail.specs.Inner.Propagated.{IsUsed}
 use Rattle.solv_watch.specs.Inner.Chains.{no_link, other, AreHung, AreAllHung}

@@ -1,6 +1,6 @@
 use Rattle.std.proofs.Common.{◌≡◌, ℕ, Bool, true, List, ◌<◌, length}
 use Rattle.std.specs.Prelude.{ℤ}
-use Rattle.solv_derive.specs.Forced.{is_satisfied}
+use Rattle.solv_derive.specs.Inner.Forced.{is_satisfied}
 use Rattle.solv_trail.specs.Inner.Propagated.{IsUsed, IsGrown}
 use Rattle.solv_watch.specs.Inner.Watching.{IsPart, always}
 use Rattle.solv_watch.proofs.propagation.look_at_learnt.Given as goal
