@@ -4,11 +4,11 @@ use Rattle.std.specs.Prelude.{ℤ, slice_get, slice_index_or, nat_lt, unwrap_or}
 use Rattle.std.specs.List.{list_all, range_with_len}
 use Rattle.std.proofs.lemmas.Bool.{and_from, cases_Bool, cases_lt, cond-true, cond-false, false≢true, lt-ltb, ltb-true}
 use Rattle.std.proofs.lemmas.List.Folds.{list_all-append}
-use Rattle.solv_derive.specs.Leaves.{rules_of, named_rules}
+use Rattle.solv_derive.specs.Leaves.{named_rules}
+use Rattle.solv_derive.specs.Inner.Leaves.{rules_of}
 use Rattle.solv_derive.specs.declared.logs.Step.{Step}
 use Rattle.solv_pack.specs.Inner.Packing.{kept}
-use Rattle.solv_trimming.specs.Trimming.{hints_at}
-use Rattle.solv_trimming.specs.Inner.Trimming.{in_use_from, rank_from, renumbered, renumbered_step, used_alone, is_on}
+use Rattle.solv_trimming.specs.Inner.Trimming.{in_use_from, rank_from, renumbered, renumbered_step, used_alone, is_on, hints_at}
 use Rattle.solv_trimming.proofs.Ranks.{rank_few, rank_on, rank_off}
 use Rattle.solv_trimming.proofs.Staying.{steps_good, over_still}
 use Rattle.solv_core.specs.Inner.Holding.{entry_of, IsStepAt, AreEntries, AreDerived, numbers_on}

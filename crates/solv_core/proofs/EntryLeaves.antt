@@ -4,13 +4,13 @@ use Rattle.std.specs.Prelude.{ℤ, slice_get, nat_lt, unwrap_or}
 use Rattle.std.specs.List.{list_all}
 use Rattle.std.proofs.lemmas.Bool.{and_parts, and_from, or_cases, or_left, or_right, false≢true, eqb-true}
 use Rattle.std.proofs.lemmas.List.Folds.{list_all-append}
-use Rattle.solv_derive.specs.Leaves.{rules_of}
+use Rattle.solv_derive.specs.Inner.Leaves.{rules_of}
 use Rattle.solv_derive.specs.declared.logs.Hint.{Hint}
 use Rattle.solv_derive.specs.declared.logs.Hint.TheVariants as hint
 use Rattle.solv_trail.specs.Propagated.{in_use}
-use Rattle.solv_trimming.specs.Trimming.{hints_at}
-use Rattle.solv_trimming.specs.Inner.Trimming.{is_on}
-use Rattle.solv_core.specs.Ledgers.{is_book_in_use, leaves_of_hints, leaves_after, entry_leaves, rests_on_enabled}
+use Rattle.solv_trimming.specs.Inner.Trimming.{is_on, hints_at}
+use Rattle.solv_core.specs.Ledgers.{is_book_in_use, leaves_after, rests_on_enabled}
+use Rattle.solv_core.specs.Inner.Ledgers.{leaves_of_hints, entry_leaves}
 use Rattle.solv_core.specs.Inner.Holding.{hint_stays}
 use Rattle.solv_core.specs.declared.ledger.Entry.{Entry}
 use Rattle.solv_list.proofs.Lists.{at_end, get_front, place_there}

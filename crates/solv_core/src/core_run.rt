@@ -124,7 +124,14 @@ fn begin(
     Ok(())
 }
 
-/// A run that is noted, over the parts of a core. It looks at its end for the rules of these clauses.
+/// A run that is noted: its number in the ledger, and the clauses for whose rules it looks at its end.
+#[derive(Drop)]
+struct Noted<'a> {
+    run: usize,
+    clauses: &'a [RuleNo],
+}
+
+/// A run that is noted, over the parts of a core.
 fn run_over<G: Guide + Recaller>(
     alloc: Global,
     parts: &mut Parts,
@@ -132,8 +139,7 @@ fn run_over<G: Guide + Recaller>(
     packages: u32,
     guide: &G,
     ledger: &mut Ledger,
-    run: usize,
-    clauses: &[RuleNo],
+    noted: &Noted<'_>,
 ) -> Result<Looked, AllocError>
     requires count { packages ≡ parts.old.known.count }
     requires over { are_over parts.old.known.count used.now.book.now.rules ≡ true }
@@ -154,20 +160,20 @@ fn run_over<G: Guide + Recaller>(
     ensures budget { ledger.new.budget ≡ ledger.old.budget }
     ensures runs { ledger.new.runs ≡ ledger.old.runs }
     ensures few { length ledger.new.entries ≤ ledger.new.budget + 1 }
-    ensures learnt { (new : List Entry) × HasLearnt used.now.book.now.rules parts.old.learnt.rules (in_use used.now.owners.now used.now.enabled.now) (λ facts. G.asks guide.now facts used.now.enabled.now) (entry_of parts.old.numbers.kept.items parts.old.numbers.first) parts.old.known.count run ledger.old.entries ledger.new.entries parts.new.learnt.rules new }
+    ensures learnt { (new : List Entry) × HasLearnt used.now.book.now.rules parts.old.learnt.rules (in_use used.now.owners.now used.now.enabled.now) (λ facts. G.asks guide.now facts used.now.enabled.now) (entry_of parts.old.numbers.kept.items parts.old.numbers.first) parts.old.known.count noted.now.run ledger.old.entries ledger.new.entries parts.new.learnt.rules new }
     ensures numbers { parts.new.numbers ≡ parts.old.numbers }
     ensures spent { IfOk result (λ v. is_spent_verdict (verdict_of v) ≡ (length ledger.new.entries == ledger.new.budget + 1)) }
     ensures refutation { IfOk result (λ v. IsRefutation used.now.book.now.rules used.now.owners.now used.now.enabled.now (verdict_of v)) }
     ensures log_over { IfOk result (λ v. is_log_over parts.old.known.count (verdict_of v) ≡ true) }
     ensures found { IfOk result (λ v. IsFound parts.old.known.count used.now.book.now.rules used.now.owners.now used.now.enabled.now (λ facts. G.asks guide.now facts used.now.enabled.now) (verdict_of v)) }
-    ensures looked { IfOk result (AreRefutedBeside used.now.book.now.rules used.now.owners.now parts.old.known.count used.now.enabled.now clauses.now) }
+    ensures looked { IfOk result (AreRefutedBeside used.now.book.now.rules used.now.owners.now parts.old.known.count used.now.enabled.now noted.now.clauses.now) }
     ensures chained { AreChained parts.old.known.count used.now.book.now.rules parts.new.watches.book.heads.items parts.new.watches.book.links.items parts.new.watches.book.watched.items }
     ensures narrow { AreNarrow used.now.book.now.rules parts.new.watches.narrow.items }
     ensures heads { AreHeads parts.old.known.count parts.new.watches.learnt.heads.items parts.new.watches.learnt.watched.items }
 {
     parts.known.clear();
     parts.watches.learnt.hang_anew(&parts.learnt, packages)?;
-    match settle(alloc, parts, used, guide, ledger, run)? {
+    match settle(alloc, parts, used, guide, ledger, noted.run)? {
         Outcome::Spent => Ok(Looked::Spent),
         Outcome::Refuted => {
             let count = parts.learnt.len();
@@ -183,7 +189,7 @@ fn run_over<G: Guide + Recaller>(
         Outcome::Settled => {
             parts.known.keep_apart();
             let events = events_of(alloc, &parts.known)?;
-            let refuted = refuted_at_end(alloc, parts, used, ledger.entries.held(), clauses)?;
+            let refuted = refuted_at_end(alloc, parts, used, ledger.entries.held(), noted.clauses)?;
             let trail = Trail {
                 events: Items::wrap(events),
             };
@@ -329,6 +335,7 @@ impl<'a> Core<'a> {
         if ledger.spent() {
             return Ok(Looked::Spent);
         }
+        let noted = Noted { run, clauses };
         run_over(
             alloc,
             &mut self.parts,
@@ -336,8 +343,7 @@ impl<'a> Core<'a> {
             self.packages,
             guide,
             ledger,
-            run,
-            clauses,
+            &noted,
         )
     }
 

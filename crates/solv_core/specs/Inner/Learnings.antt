@@ -14,6 +14,10 @@ use Rattle.solv_learn.specs.Inner.Refuting.{Finds, is_in_use}
 use Rattle.solv_core.specs.Inner.Holding.{numbered_entry}
 use Rattle.solv_core.specs.declared.ledger.Entry.{Entry}
 
+-- the clauses of entries
+abbrev pub clauses_of : List Entry → List (List ℤ)
+clauses_of entries = map (λ e. e.clause) entries
+
 -- an entry that is learnt over these rules, the learnt ones being entries from `first` on
 pub record IsEntry (rules : List (List ℤ)) (used : ℕ → Bool) (asks : (ℤ → Bool) → Option ℕ) (count first packages run : ℕ) (e : Entry) : Type 0 where
   pub of_run : e.run ≡ run

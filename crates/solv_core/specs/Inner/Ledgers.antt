@@ -1,11 +1,20 @@
 -- What runs leave of a ledger.
-use Rattle.std.specs.Prelude.{◌≡◌, ◌⊎◌, ◌≤◌, ◌+◌, ◌-◌, ◌==◌, ◌++◌, ◌∷◌, [], ℕ, Bool, true, List, length, filter, take, drop}
+use Rattle.std.specs.Prelude.{◌≡◌, ◌⊎◌, ◌≤◌, ◌+◌, ◌-◌, ◌==◌, ◌++◌, ◌∷◌, [], ℕ, Bool, true, List, length, filter, flat_map, take, drop}
 use Rattle.std.specs.List.{list_all, range_with_len}
-use Rattle.solv_core.specs.Ledgers.{rests_on_enabled}
+use Rattle.solv_derive.specs.declared.logs.Hint.{Hint}
+use Rattle.solv_core.specs.Ledgers.{leaves_of_hint, leaves_after, rests_on_enabled}
 use Rattle.solv_core.specs.Inner.Cores.{LearningCore, numbers_in_use}
 use Rattle.solv_core.specs.declared.ledger.Entry.{Entry}
 use Rattle.solv_core.specs.declared.ledger.Ledger.{Ledger}
 use Rattle.solv_core.specs.declared.ledger.Run.{Run}
+
+-- the book's clauses that hints rest on, where the leaves of each entry are given
+abbrev pub leaves_of_hints : List (List ℕ) → List Hint → List ℕ
+leaves_of_hints before hints = flat_map (leaves_of_hint before) hints
+
+-- the leaves of each entry
+abbrev pub entry_leaves : List Entry → List (List ℕ)
+entry_leaves entries = leaves_after [] entries
 
 -- each entry is of this run
 abbrev pub are_of_run : ℕ → List Entry → Bool

@@ -9,8 +9,7 @@ use Rattle.solv_trail.specs.Inner.Propagated.{IsAtRest}
 use Rattle.solv_trail.specs.declared.questions.Ask.{Ask}
 use Rattle.solv_learn.specs.Inner.Learning.{IsRefuted}
 use Rattle.solv_core.specs.Inner.Holding.{numbered_entry}
-use Rattle.solv_core.specs.Inner.Learnings.{AreLearnt}
-use Rattle.solv_core.specs.Learnings.{clauses_of}
+use Rattle.solv_core.specs.Inner.Learnings.{AreLearnt, clauses_of}
 use Rattle.solv_core.specs.declared.ledger.Entry.{Entry}
 use Rattle.solv_core.specs.declared.settling.Outcome.{Outcome}
 use Rattle.solv_core.specs.declared.settling.Outcome.TheVariants as outcome
