@@ -35,8 +35,8 @@ use Rattle.solv_questions.proofs.Origins.{is_from, of_enabled}
 use Rattle.solv_questions.proofs.Placed.{placed}
 use Rattle.solv_plan.specs.Inner.Plans.{plan_asks}
 use Rattle.solv_plan.specs.Inner.PlanLaw.{PlansAskTheQuestions}
-use Rattle.solv_decide.specs.Deciding.{IsSolution, IsRefuted, rules_on, clauses_on, meets_all}
-use Rattle.solv_decide.specs.Inner.Deciding.{Asker, IsAskedFor, IsDecided, IsLawful}
+use Rattle.solv_decide.specs.Deciding.{IsSolution, IsRefuted, rules_on, meets_all}
+use Rattle.solv_decide.specs.Inner.Deciding.{Asker, IsAskedFor, IsDecided, IsLawful, clauses_on}
 use Rattle.solv_decide.proofs.Enabling.{clauses_are, used_there, lengths_are}
 
 module _ (r : Request) (asker : Asker) (core : CoreOf) (asked : IsAskedFor r asker core) (plans : PlansAskTheQuestions) where

@@ -13,7 +13,8 @@ use Rattle.solv_pool.specs.RuleMeaning.{HardRule, rule_with, shape_of}
 use Rattle.solv_pool.specs.declared.hard_rules.Rules.{Rules}
 use Rattle.solv_derive.specs.Range.{names_package, is_over, are_over}
 use Rattle.solv_core.specs.Cores.{CoreOf}
-use Rattle.solv_rules.specs.Books.{most_words, rich_fault, overrun, or_else, rule_fault, first_fault, is_bookable, has_form}
+use Rattle.solv_rules.specs.Books.{most_words, rich_fault, overrun, first_fault, is_bookable, has_form}
+use Rattle.solv_rules.specs.Inner.Books.{or_else, rule_fault}
 use Rattle.solv_rules.specs.declared.fault.BookFault.{BookFault}
 use Rattle.solv_rules.specs.declared.fault.BookFault.TheVariants.{TooManyWords}
 use Rattle.std.proofs.lemmas.Bool.Decides.{nat_tests}

@@ -1,5 +1,5 @@
 -- What deciding gives: sets by the questions of a task, and refutations.
-use Rattle.std.specs.Prelude.{◌≡◌, ℕ, ℤ, Bool, true, List, flat_map, length, nat_lt, ◌&&◌}
+use Rattle.std.specs.Prelude.{◌≡◌, ℕ, Bool, true, List, flat_map, length, nat_lt, ◌&&◌}
 use Rattle.std.specs.List.{list_all}
 use Rattle.solv_pool.specs.Clauses.{rule_clauses}
 use Rattle.solv_pool.specs.Propagation.{is_fact}
@@ -13,16 +13,12 @@ use Rattle.solv_trail.specs.Propagated.{in_use}
 use Rattle.solv_core.specs.Cores.{CoreOf}
 use Rattle.solv_core.specs.GoodTrails.{IsGoodTrail, facts_of}
 use Rattle.solv_core.specs.declared.verdicts.Trail.{Trail}
-use Rattle.solv_questions.specs.Questions.{Request, rules_of, enabled_rules, asks}
+use Rattle.solv_questions.specs.Questions.{Request, rules_of, enabled_from, asks}
 
 module _ (r : Request) (enabled : List Bool) where
   -- the rules that are enabled
   abbrev pub rules_on : List HardRule
-  rules_on = enabled_rules enabled (rules_of r)
-
-  -- their clauses
-  abbrev pub clauses_on : List (List ℤ)
-  clauses_on = flat_map (rule_clauses r.catalog) rules_on
+  rules_on = enabled_from enabled 0 (rules_of r)
 
   -- the set meets each of them
   abbrev pub meets_all : (ℕ → Bool) → Bool
@@ -30,7 +26,7 @@ module _ (r : Request) (enabled : List Bool) where
 
   -- each package of the trail follows, or is the first possible candidate of the first open question; and its set meets each enabled rule
   pub record IsSolution (trail : Trail) : Type 0 where
-    pub good : IsGoodTrail (length r.catalog.universe.packages) clauses_on (λ known. asks r known enabled) trail.events
+    pub good : IsGoodTrail (length r.catalog.universe.packages) (flat_map (rule_clauses r.catalog) rules_on) (λ known. asks r known enabled) trail.events
     pub meets : meets_all (set_of (is_fact (facts_of trail.events))) ≡ true
 
   -- the log is good and names packages, rests on enabled rules alone, and no set that holds the system meets them

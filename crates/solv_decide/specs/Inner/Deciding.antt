@@ -4,7 +4,7 @@ use Rattle.std.specs.Prelude.{ℕ, ℤ, Bool, List, ◌≡◌, true, flat_map, l
 use Rattle.solv_trail.specs.Inner.Asked.{KeepsLaw}
 use Rattle.solv_trail.specs.Asked.{enabled_clauses}
 use Rattle.solv_plan.specs.Inner.Plans.{plan_asks}
-use Rattle.solv_decide.specs.Deciding.{IsSolution, IsRefuted}
+use Rattle.solv_decide.specs.Deciding.{rules_on, IsSolution, IsRefuted}
 use Rattle.solv_base.specs.Dependency.{IsWellFounded}
 use Rattle.solv_pool.specs.Clauses.{rule_clauses}
 use Rattle.solv_derive.specs.Range.{are_over}
@@ -15,6 +15,10 @@ use Rattle.solv_questions.specs.Questions.{Request, rules_of}
 use Rattle.solv_questions.specs.Inner.Law.{AsksInForm}
 use Rattle.solv_plan.specs.Inner.PlanOf.{plan_of}
 use Rattle.solv_plan.specs.declared.plans.Plan.{Plan}
+
+-- the clauses of the rules that are enabled
+abbrev pub clauses_on : Request → List Bool → List (List ℤ)
+clauses_on r enabled = flat_map (rule_clauses r.catalog) (rules_on r enabled)
 
 -- who asks: a plan, for so many packages
 pub record Asker : Type 0 where
