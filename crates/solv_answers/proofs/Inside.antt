@@ -11,7 +11,8 @@ use Rattle.solv_pool.specs.Best.{best}
 use Rattle.solv_pool.specs.Catalog.{Catalog, packages, package_at, dependency, is_installed, same_name}
 use Rattle.solv_pool.specs.Counting.{requirement_counts, rich_conflict_counts}
 use Rattle.solv_pool.specs.Holding.{package_meets, holds}
-use Rattle.solv_pool.specs.HardRules.{counted_requirements, counted_rich_conflicts, update_candidates, successors, feature_candidates, kept_packages, is_kept, numbered_jobs}
+use Rattle.solv_pool.specs.HardRules.{counted_requirements, counted_rich_conflicts, update_candidates, successors, feature_candidates, kept_packages, is_kept}
+use Rattle.solv_pool.specs.Inner.HardRules.{numbered_jobs}
 use Rattle.solv_pool.specs.JobMarks.{marked, is_to_move}
 use Rattle.solv_pool.specs.Laws.{names_packages}
 use Rattle.solv_pool.specs.Needs.{asked_by, serves}
@@ -33,7 +34,8 @@ use Rattle.solv_trail.specs.declared.questions.Ask.{Ask}
 use Rattle.solv_trail.specs.declared.questions.Question.{Question}
 use Rattle.solv_trail.specs.declared.questions.Question.TheVariants as question
 use Rattle.solv_questions.specs.Candidates.{may_take}
-use Rattle.solv_questions.specs.Questions.{Request, Query, rules_of, is_outside, is_update_of, is_feature_of, query_of, best_job_query, job_query, queries_of_job, best_update_query, close_candidates, far_candidates, keep_query, without_those, queries_of_installed, installed_queries, is_candidate, dependency_query, requirement_queries, conflict_query, conflict_queries, queries_of_package, recommendation_queries, package_queries, recommended_queries, is_first_of_name, is_supplementing, may_supplement, supplement_query, supplement_queries, queries, first_ask}
+use Rattle.solv_questions.specs.Questions.{Request, Query, rules_of, is_outside, is_update_of, is_feature_of, query_of, best_job_query, job_query, queries_of_job, best_update_query, far_candidates, keep_query, queries_of_installed, installed_queries, requirement_queries, conflict_queries, recommendation_queries, package_queries, recommended_queries, may_supplement, supplement_query, supplement_queries, queries, first_ask}
+use Rattle.solv_questions.specs.Inner.Questions.{is_candidate, dependency_query, conflict_query, queries_of_package, is_first_of_name, is_supplementing, close_candidates, without_those}
 use Rattle.solv_questions.proofs.Asking.{ask_some}
 use Rattle.solv_questions.proofs.Fair.{legal_is_feature, successor_is_feature}
 use Rattle.solv_questions.proofs.Members.{sorted_has}

@@ -23,7 +23,8 @@ use Rattle.solv_core.specs.declared.verdicts.Event.TheVariants as event
 use Rattle.solv_core.specs.declared.verdicts.Trail.{Trail}
 use Rattle.solv_questions.specs.Questions.{rules_of}
 use Rattle.solv_questions.proofs.Origins.{of_enabled}
-use Rattle.solv_decide.specs.Deciding.{IsSolution, rules_on, clauses_on}
+use Rattle.solv_decide.specs.Deciding.{IsSolution, rules_on}
+use Rattle.solv_decide.specs.Inner.Deciding.{clauses_on}
 use Rattle.solv_remedy.proofs.Listed.{well_placed}
 use Rattle.solv_leaving.specs.Leaving.{LeavesOut, leaving}
 use Rattle.solv_leaving.proofs.Made.{IsUnmade, made_or_unmade}

@@ -1,7 +1,7 @@
 use Rattle.std.proofs.Common.{sym, subst}
 use Rattle.solv_core.specs.Cores.{CoreOf}
 use Rattle.solv_decide.specs.Inner.Deciding.{IsAskedFor}
-use Rattle.solv_answers.specs.Answers.{request}
+use Rattle.solv_answers.specs.Inner.Answers.{request}
 use Rattle.solv_answers.proofs.answering.refuted.Goals as goal
 
 pub returns-clause-left : goal.returns-clause-left
