@@ -7,7 +7,7 @@ use Rattle.solv_base.specs.declared.comparison.Cmp.{Cmp}
 use Rattle.solv_deps.specs.Grammar.{comparison, is_namespace}
 use Rattle.solv_pool.specs.declared.jobs.Action.{Action}
 use Rattle.solv_pool.specs.declared.jobs.Action.TheVariants.{Install, Erase, Update, Distupgrade, Lock, Verify, Multiversion, AllowUninstall, Favor, Disfavor, UserInstalled, Noop}
-use Rattle.solv_pool.specs.JobKinds.{is_erase}
+use Rattle.solv_pool.specs.JobKinds.{acts}
 use Rattle.solv_commands.specs.Commas.{between_commas}
 use Rattle.solv_commands.specs.Numbers.{priority}
 use Rattle.solv_commands.specs.declared.flags_of_jobs.JobFlags.{JobFlags}
@@ -173,7 +173,7 @@ has_job_words word (next ∷ others) = true
 
 -- may these flags stand at this action? The best may be forced where something comes, and only an erase job cleans
 abbrev pub fits_flags : Action → JobFlags → Bool
-fits_flags action flags = (not flags.forcebest || (elim action [ Install ↦ true | Update ↦ true | other ↦ false ])) && (not flags.cleandeps || is_erase action)
+fits_flags action flags = (not flags.forcebest || (elim action [ Install ↦ true | Update ↦ true | other ↦ false ])) && (not flags.cleandeps || acts Erase action)
 
 -- `job ACTION SELECTION [FLAG,..]`
 abbrev pub job_line : List (List ℕ) → Result Command Cause

@@ -18,9 +18,10 @@ use Rattle.solv_pool.specs.Parts.{parts}
 use Rattle.solv_pool.specs.declared.packages.Package.{Package}
 use Rattle.solv_pool.specs.declared.packages.Need.{Need}
 use Rattle.solv_pool.proofs.Members.{Has, any_at, any_has}
-use Rattle.solv_trans.specs.Moving.{comes, goes, is_part, is_kept}
-use Rattle.solv_trans.specs.Edges.{is_met_already, brings, requires_some, coming_edge, going_edge, edge_by, edge, pre_edge}
-use Rattle.solv_trans.specs.Orders.{IsOrdered, Counts}
+use Rattle.solv_trans.specs.Moving.{comes, goes, is_part}
+use Rattle.solv_trans.specs.Edges.{is_met_already, brings, requires_some, edge_by, edge, pre_edge}
+use Rattle.solv_trans.specs.Inner.Edges.{coming_edge, going_edge, is_kept}
+use Rattle.solv_trans.specs.Orders.{IsOrdered, MustPrecede}
 use Rattle.solv_trans.specs.declared.ordering.Ordered.{Ordered}
 use Rattle.solv_trans.proofs.Asking.{comes_pack, packages_bound}
 use Rattle.solv_trans.proofs.Places.{place_in}
@@ -122,13 +123,13 @@ module _ (catalog : Catalog) (set : ℕ → Bool) where
         place_in ordered.parts q (times_in ordered.parts q (omega (arith, once)))
 
     -- an edge that counts is kept
-    kept_first : (q p : ℕ) → comes catalog set q ≡ true → comes catalog set p ≡ true → q ≢ p → Counts (edge catalog set) (pre_edge catalog set) q p → StandsBefore ordered.parts q p
+    kept_first : (q p : ℕ) → comes catalog set q ≡ true → comes catalog set p ≡ true → q ≢ p → MustPrecede (edge catalog set) (pre_edge catalog set) q p → StandsBefore ordered.parts q p
     kept_first q p comes_q comes_p other counts =
         let i = placed q comes_q in
         let j = placed p comes_p in
         elim (below_or_above i.0 j.0) [
           | inl lt ↦ record { place = i.0; later = j.0; rises = lt; within = j.1; first = i.2; second = j.2 }
-          | inr (inl gt) ↦ absurd (good.order.keeps j.0 i.0 gt i.1 (subst (λ x. Counts (edge catalog set) (pre_edge catalog set) x (slice_index ordered.parts j.0)) (sym i.2) (subst (Counts (edge catalog set) (pre_edge catalog set) q) (sym j.2) counts)))
+          | inr (inl gt) ↦ absurd (good.order.keeps j.0 i.0 gt i.1 (subst (λ x. MustPrecede (edge catalog set) (pre_edge catalog set) x (slice_index ordered.parts j.0)) (sym i.2) (subst (MustPrecede (edge catalog set) (pre_edge catalog set) q) (sym j.2) counts)))
           | inr (inr one) ↦ absurd (other (sym i.2 ∙ ap (slice_index ordered.parts) one ∙ j.2))
         ]
 
@@ -139,11 +140,11 @@ module _ (catalog : Catalog) (set : ℕ → Bool) where
         by : (b : Bool) → need.pre ≡ b → StandsBefore ordered.parts q p ⊎ InOneClass (if b then pre_edge catalog set else edge catalog set) q p
         by true pre = elim (together_or_not (pre_edge catalog set) count ordered.pre_cycles good.pre_cycles q p (coming_below q comes_q) (coming_below p comes_p) other) [
           | inl h ↦ inr h
-          | inr apart ↦ inl (kept_first q p comes_q comes_p other (Counts.a_pre_edge (joins (λ need. need.pre) pre) apart))
+          | inr apart ↦ inl (kept_first q p comes_q comes_p other (MustPrecede.a_pre_edge (joins (λ need. need.pre) pre) apart))
         ]
         by false pre = elim (together_or_not (edge catalog set) count ordered.cycles good.cycles q p (coming_below q comes_q) (coming_below p comes_p) other) [
           | inl h ↦ inr h
-          | inr apart ↦ inl (kept_first q p comes_q comes_p other (Counts.another_edge (joins (λ need. true) refl) apart))
+          | inr apart ↦ inl (kept_first q p comes_q comes_p other (MustPrecede.another_edge (joins (λ need. true) refl) apart))
         ]
 
 pub required_there : RequiredIsThere

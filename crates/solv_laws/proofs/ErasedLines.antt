@@ -16,14 +16,15 @@ use Rattle.solv_pool.specs.Best.{evr_of, compare_evrs}
 use Rattle.solv_pool.specs.Installable.{is_installable}
 use Rattle.solv_pool.specs.JobMarks.{marks_of}
 use Rattle.solv_pool.specs.Providing.{obsoletes}
-use Rattle.solv_pool.specs.Updates.{coexist, is_feature}
-use Rattle.solv_pool.specs.RuleMeaning.{holds_some}
+use Rattle.solv_pool.specs.Updates.{coexist, is_feature, same_build}
+use Rattle.solv_pool.specs.Inner.RuleMeaning.{holds_some}
 use Rattle.solv_pool.specs.HardRules.{is_kept, feature_candidates}
 use Rattle.solv_pool.specs.declared.tasks.Flags.{Flags}
 use Rattle.solv_pool.specs.declared.job_marks.Marks.{Marks}
 use Rattle.solv_pool.proofs.Best.{top_of}
 use Rattle.solv_pool.proofs.Members.{Has, has_split, has_filtered, of_mapped, of_filtered, any_has}
-use Rattle.solv_trans.specs.Changes.{same_build, change_by, change_to, leaves, successors, partner, obsoleter, line_of, lines_of_leaving, is_installed_anew, changes}
+use Rattle.solv_trans.specs.Changes.{change_by, partner, obsoleter, line_of, lines_of_leaving, changes}
+use Rattle.solv_trans.specs.Inner.Changes.{change_to, leaves, successors, is_installed_anew}
 use Rattle.solv_trans.specs.Moving.{comes}
 use Rattle.solv_trans.specs.declared.kinds.Change.TheVariants.{Install, Erase, Alter, Reinstall, Obsolete}
 use Rattle.solv_questions.proofs.Leading.{contains_has}

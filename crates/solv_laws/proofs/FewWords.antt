@@ -15,12 +15,13 @@ use Rattle.solv_pool.specs.Clauses.{is_in, is_out, with_package, clauses_of, cla
 use Rattle.solv_pool.specs.Counting.{requirement_counts, rich_conflict_counts}
 use Rattle.solv_pool.specs.Holding.{package_meets, leaving_out}
 use Rattle.solv_pool.specs.Installable.{is_installable}
-use Rattle.solv_pool.specs.JobKinds.{is_install, is_update}
+use Rattle.solv_pool.specs.Inner.JobKinds.{is_install, is_update}
 use Rattle.solv_pool.specs.JobMarks.{marked, marks_of}
 use Rattle.solv_pool.specs.RuleMeaning.{HardRule, not_installable, req, con, rich_con, obs, same, infarch, update, dup, feature, install, erase, lock, best_job, shape_of}
 use Rattle.solv_pool.specs.Selections.{selects, selection}
 use Rattle.solv_pool.specs.Updates.{is_feature, is_legal, flags_allow, may_stay, feature_set, itself_and, dup_set}
-use Rattle.solv_pool.specs.HardRules.{not_installable_rules, counted_requirements, requirement_rules, package_wise_conflicts, is_conflicting, conflicting, conflict_rules, counted_rich_conflicts, rich_conflict_rules, obsoleted, obsoletion_rules, is_later_namesake, later_namesakes, same_name_rules, rules_asked_by, rules_of_package, package_rules, is_inferior, inferior_packages, infarch_rules, update_candidates, feature_candidates, successors, successor_rule, is_kept, kept_packages, has_update_rule, update_rules, feature_rules, numbered_jobs, rule_of_job, best_job_rule, job_rules, best_job_rules, selected_installed, best_update_rule, best_update_rules, hard_rules}
+use Rattle.solv_pool.specs.HardRules.{counted_requirements, is_conflicting, conflict_rules, counted_rich_conflicts, obsoletion_rules, is_later_namesake, rules_asked_by, package_rules, is_inferior, infarch_rules, update_candidates, feature_candidates, successors, successor_rule, is_kept, kept_packages, update_rules, feature_rules, rule_of_job, best_job_rule, job_rules, best_job_rules, best_update_rules, hard_rules}
+use Rattle.solv_pool.specs.Inner.HardRules.{not_installable_rules, requirement_rules, package_wise_conflicts, conflicting, rich_conflict_rules, obsoleted, later_namesakes, same_name_rules, rules_of_package, inferior_packages, has_update_rule, numbered_jobs, selected_installed, best_update_rule}
 use Rattle.solv_pool.specs.declared.job_marks.Marks.{Marks}
 use Rattle.solv_pool.specs.declared.jobs.Action.{Action}
 use Rattle.solv_pool.specs.declared.jobs.Action.TheVariants.{Install, Erase, Lock}

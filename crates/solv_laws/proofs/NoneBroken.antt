@@ -13,7 +13,8 @@ use Rattle.solv_pool.specs.JobMarks.{marked, marks_of}
 use Rattle.solv_pool.specs.Counting.{requirement_counts, rich_conflict_counts}
 use Rattle.solv_pool.specs.Updates.{coexist}
 use Rattle.solv_pool.specs.RuleMeaning.{HardRule, req, con, rich_con, obs, same}
-use Rattle.solv_pool.specs.HardRules.{not_installable_rules, requirement_rules, counted_requirements, conflict_rules, package_wise_conflicts, is_conflicting, conflicting, rich_conflict_rules, counted_rich_conflicts, obsoletion_rules, is_obsoleted, obsoleted, same_name_rules, is_later_namesake, later_namesakes, rules_asked_by}
+use Rattle.solv_pool.specs.HardRules.{counted_requirements, conflict_rules, is_conflicting, counted_rich_conflicts, obsoletion_rules, is_obsoleted, is_later_namesake, rules_asked_by}
+use Rattle.solv_pool.specs.Inner.HardRules.{not_installable_rules, requirement_rules, package_wise_conflicts, conflicting, rich_conflict_rules, obsoleted, same_name_rules, later_namesakes}
 use Rattle.solv_pool.specs.declared.packages.Package.{Package}
 use Rattle.solv_pool.specs.declared.packages.Need.{Need}
 use Rattle.solv_pool.specs.declared.job_marks.Marks.{Marks}

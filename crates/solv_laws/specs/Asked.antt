@@ -1,11 +1,10 @@
 -- What goes, and what the jobs come to, in a set that meets the hard rules.
 use Rattle.std.specs.Prelude.{◌≡◌, ℕ, Bool, true, false, not, List, Contains}
-use Rattle.std.specs.List.{list_all}
+use Rattle.std.specs.List.{list_all, list_any}
 use Rattle.std.specs.Bool.{beq}
 use Rattle.solv_pool.specs.Catalog.{Catalog, catalog_of, is_installed}
 use Rattle.solv_pool.specs.Selections.{selection}
 use Rattle.solv_pool.specs.JobMarks.{marks_of}
-use Rattle.solv_pool.specs.RuleMeaning.{holds_some}
 use Rattle.solv_pool.specs.HardRules.{is_kept, feature_candidates}
 use Rattle.solv_pool.specs.declared.jobs.Action.{Action}
 use Rattle.solv_pool.specs.declared.jobs.Action.TheVariants.{Install, Erase, Lock}
@@ -18,12 +17,12 @@ use Rattle.solv_answers.specs.Answers.{meets_hard_rules}
 abbrev pub NothingGoesUnasked : Type 0
 NothingGoesUnasked = (task : Task) (set : ℕ → Bool) (p : ℕ)
     → meets_hard_rules task set ≡ true → is_kept (catalog_of task) task.flags (marks_of task) p ≡ true
-    → holds_some (feature_candidates (catalog_of task) task.flags (marks_of task) p) set ≡ true
+    → list_any set (feature_candidates (catalog_of task) task.flags (marks_of task) p) ≡ true
 
 -- an install job has one of these packages in the set, an erase job none, and a lock job those that are installed; of other jobs nothing is said
 abbrev pub is_done_with : Catalog → (ℕ → Bool) → Action → List ℕ → Bool
-is_done_with catalog set Install xs = holds_some xs set
-is_done_with catalog set Erase xs = not (holds_some xs set)
+is_done_with catalog set Install xs = list_any set xs
+is_done_with catalog set Erase xs = not (list_any set xs)
 is_done_with catalog set Lock xs = list_all (λ q. beq (set q) (is_installed catalog q)) xs
 is_done_with catalog set _ xs = true
 

@@ -9,7 +9,8 @@ use Rattle.solv_pool.specs.Words.{passes}
 use Rattle.solv_pool.specs.Catalog.{Catalog, packages, package_at, dependency}
 use Rattle.solv_pool.specs.Clauses.{rule_clauses, words, words_of_all}
 use Rattle.solv_pool.specs.Counting.{requirement_counts}
-use Rattle.solv_pool.specs.HardRules.{not_installable_rules, requirement_rules, conflict_rules, rich_conflict_rules, obsoletion_rules, same_name_rules, rules_asked_by, rules_of_package, package_rules, infarch_rules, update_rules, feature_rules, job_rules, best_job_rules, best_update_rules, hard_rules_by}
+use Rattle.solv_pool.specs.HardRules.{conflict_rules, obsoletion_rules, rules_asked_by, package_rules, infarch_rules, update_rules, feature_rules, job_rules, best_job_rules, best_update_rules, hard_rules_by}
+use Rattle.solv_pool.specs.Inner.HardRules.{not_installable_rules, requirement_rules, rich_conflict_rules, same_name_rules, rules_of_package}
 use Rattle.solv_pool.specs.JobMarks.{marked}
 use Rattle.solv_pool.specs.RuleMeaning.{HardRule, req, shape_of}
 use Rattle.solv_pool.specs.declared.jobs.Job.{Job}
@@ -17,7 +18,8 @@ use Rattle.solv_pool.specs.declared.job_marks.Marks.{Marks}
 use Rattle.solv_pool.specs.declared.packages.Package.{Package}
 use Rattle.solv_pool.specs.declared.tasks.Flags.{Flags}
 use Rattle.solv_pool.proofs.Members.{Has}
-use Rattle.solv_rules.specs.Books.{rich_fault, overrun, rule_fault, first_fault}
+use Rattle.solv_rules.specs.Books.{rich_fault, overrun, first_fault}
+use Rattle.solv_rules.specs.Inner.Books.{rule_fault}
 use Rattle.solv_rules.specs.declared.fault.BookFault.{BookFault}
 use Rattle.solv_rules.proofs.Fronts.{neither_fault}
 use Rattle.solv_leaving.proofs.ClauseWords.{size, passes_no_limit}

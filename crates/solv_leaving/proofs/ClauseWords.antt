@@ -7,7 +7,8 @@ use Rattle.solv_pool.specs.Catalog.{Catalog}
 use Rattle.solv_pool.specs.Clauses.{is_out, Clause, shape_clauses, same_literal, contains_literal, is_always_true, firsts, shortened, kept, number_of, in_numbers, rule_clauses, words, words_of_all}
 use Rattle.solv_pool.specs.RuleMeaning.{HardRule, shape_of}
 use Rattle.solv_pool.proofs.Members.{Has}
-use Rattle.solv_rules.specs.Books.{most_words, overrun, or_else, rich_fault, rule_fault, first_fault}
+use Rattle.solv_rules.specs.Books.{most_words, overrun, rich_fault, first_fault}
+use Rattle.solv_rules.specs.Inner.Books.{or_else, rule_fault}
 use Rattle.solv_leaving.proofs.Totals.{total, total_is, fewer_pass}
 
 -- each literal once is no more literals

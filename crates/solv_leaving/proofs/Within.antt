@@ -10,7 +10,7 @@ use Rattle.solv_pool.specs.Catalog.{Catalog, members, is_installed}
 use Rattle.solv_pool.specs.Holding.{package_meets, member_meets, holds}
 use Rattle.solv_pool.specs.Needs.{serves}
 use Rattle.solv_pool.specs.Parts.{parts}
-use Rattle.solv_pool.specs.RuleMeaning.{holds_some}
+use Rattle.solv_pool.specs.Inner.RuleMeaning.{holds_some}
 use Rattle.solv_pool.proofs.Among.{any_from, any_gives}
 use Rattle.solv_pool.proofs.Clauses.{holds-package_wise}
 use Rattle.solv_pool.proofs.Members.{Has, all_at, all_by, any_at, any_has}

@@ -5,10 +5,11 @@ use Rattle.solv_base.specs.Dependency.{Dep, and, or, if_holds, joined, under, un
 use Rattle.solv_pool.specs.Words.{is_among, passes}
 use Rattle.solv_pool.specs.Catalog.{Catalog, packages, package_at, dependency, is_installed}
 use Rattle.solv_pool.specs.HardRules.{feature_candidates}
-use Rattle.solv_pool.specs.JobKinds.{is_install, job_selects}
+use Rattle.solv_pool.specs.JobKinds.{acts, job_selects}
 use Rattle.solv_pool.specs.JobMarks.{marked}
 use Rattle.solv_pool.specs.Needs.{asked_by, serves_package}
 use Rattle.solv_pool.specs.declared.jobs.Job.{Job}
+use Rattle.solv_pool.specs.declared.jobs.Action.TheVariants.{Install}
 use Rattle.solv_pool.specs.declared.job_marks.Marks.{Marks}
 use Rattle.solv_pool.specs.declared.packages.Package.{Package}
 use Rattle.solv_pool.specs.declared.tasks.Flags.{Flags}
@@ -47,7 +48,7 @@ pub record LeavesOut (catalog : Catalog) (flags : Flags) (jobs : List Job) (mark
   pub plain : (q : ℕ) → marked left q ≡ true → list_all (asks_plainly catalog) catalog.universe.packages ≡ true
   pub system : marked left 0 ≡ false
   pub kept : (p q : ℕ) → is_installed catalog p ≡ true → is_among (feature_candidates catalog flags marks p) q ≡ true → marked left q ≡ false
-  pub selected : (q : ℕ) → job_selects catalog jobs is_install q ≡ true → marked left q ≡ false
+  pub selected : (q : ℕ) → job_selects catalog jobs (acts Install) q ≡ true → marked left q ≡ false
   pub offered : (q : ℕ) → passes (package_at catalog q) (λ a. has_some a.supplements) ≡ true → marked left q ≡ false
   pub rich : (q : ℕ) → passes (package_at catalog q) (λ a. not (is_met_alone catalog a)) ≡ true → marked left q ≡ false
   pub needed : (p q : ℕ) → is_among (packages catalog) p ≡ true → marked left p ≡ false → serves_package catalog q p ≡ true → marked left q ≡ false

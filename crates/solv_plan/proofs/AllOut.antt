@@ -8,7 +8,8 @@ use Rattle.std.proofs.lemmas.List.Folds.{list_all-append}
 use Rattle.solv_pool.specs.Words.{when}
 use Rattle.solv_trail.specs.Asked.{is_enabled, set_of}
 use Rattle.solv_trail.specs.Inner.Numbers.{has}
-use Rattle.solv_questions.specs.Questions.{Query, first_ask, first_possible, is_outside}
+use Rattle.solv_questions.specs.Questions.{Query, first_ask, is_outside}
+use Rattle.solv_questions.specs.Inner.Questions.{first_possible}
 use Rattle.solv_plan.specs.declared.plans.Demand.{Demand}
 use Rattle.solv_plan.specs.declared.plans.Keep.{Keep}
 use Rattle.solv_plan.specs.Inner.Plans.{some_enabled, demand_queries, keep_query, keep_queries}

@@ -10,7 +10,8 @@ ghost use Rattle.solv_pool.specs.RuleMeaning.{rule_with, update, dup, feature, b
 ghost use Rattle.solv_pool.specs.TaskBelonging.{is_pack};
 ghost use Rattle.solv_pool.specs.Words.{when, is_among};
 ghost use Rattle.solv_rules.specs.Books.{read_rules};
-ghost use Rattle.solv_questions.specs.Questions.{Request, request_of, without_those, close_candidates, far_candidates};
+ghost use Rattle.solv_questions.specs.Questions.{Request, request_of, far_candidates};
+ghost use Rattle.solv_questions.specs.Inner.Questions.{without_those, close_candidates};
 ghost use Rattle.solv_plan.specs.Inner.PlanOf.{numbered, keeps_of};
 ghost use Rattle.solv_jobs.specs.Marking.{HasMarks};
 ghost use Rattle.solv_policy.specs.Inner.Candidates.{IsPlace};

@@ -4,7 +4,8 @@ use Rattle.std.specs.Prelude.{IsSomeAnd, slice_get}
 use Rattle.std.specs.List.{enumerate_from, list_all}
 use Rattle.std.proofs.lemmas.Bool.{and_parts, and_from}
 use Rattle.std.proofs.lemmas.List.{append-nil}
-use Rattle.solv_answers.specs.Answers.{IsAnswered, is_whole, made_core, request}
+use Rattle.solv_answers.specs.Answers.{IsAnswered, is_whole, made_core}
+use Rattle.solv_answers.specs.Inner.Answers.{request}
 use Rattle.solv_answers.proofs.Whole.{whole_problems}
 use Rattle.solv_answers.specs.declared.answers.Answer.{Answer}
 use Rattle.solv_answers.specs.declared.answers.Answer.TheVariants.{Transaction, Problems, Spent}

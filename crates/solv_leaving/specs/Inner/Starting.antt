@@ -3,7 +3,8 @@ use Rattle.std.specs.Prelude.{◌≡◌, ℕ, ◌<◌, ◌+◌, Bool, true, not,
 use Rattle.solv_pool.specs.Words.{is_among, passes}
 use Rattle.solv_pool.specs.Catalog.{Catalog, package_at, is_installed}
 use Rattle.solv_pool.specs.HardRules.{feature_candidates}
-use Rattle.solv_pool.specs.JobKinds.{is_install, job_selects}
+use Rattle.solv_pool.specs.JobKinds.{job_selects}
+use Rattle.solv_pool.specs.Inner.JobKinds.{is_install}
 use Rattle.solv_pool.specs.declared.jobs.Job.{Job}
 use Rattle.solv_pool.specs.declared.job_marks.Marks.{Marks}
 use Rattle.solv_pool.specs.declared.packages.Package.{Package}

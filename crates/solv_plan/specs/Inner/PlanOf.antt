@@ -12,12 +12,14 @@ use Rattle.solv_pool.specs.Installable.{arch_rank, is_installable}
 use Rattle.solv_pool.specs.Providing.{obsoletes}
 use Rattle.solv_pool.specs.JobMarks.{marked, is_to_move}
 use Rattle.solv_pool.specs.RuleMeaning.{HardRule, install, best_job, best_update}
-use Rattle.solv_pool.specs.HardRules.{numbered_jobs, counted_requirements, counted_rich_conflicts}
+use Rattle.solv_pool.specs.HardRules.{counted_requirements, counted_rich_conflicts}
+use Rattle.solv_pool.specs.Inner.HardRules.{numbered_jobs}
 use Rattle.solv_policy.specs.Policy.{stays, favour_at, by_policy}
 use Rattle.solv_policy.specs.declared.policy.Asked.TheVariants.{Other}
 use Rattle.solv_trail.specs.declared.questions.Question.{Question}
 use Rattle.solv_trail.specs.declared.questions.Question.TheVariants as question
-use Rattle.solv_questions.specs.Questions.{Request, rules_of, is_update_of, is_feature_of, close_candidates, far_candidates, is_first_of_name}
+use Rattle.solv_questions.specs.Questions.{Request, rules_of, is_update_of, is_feature_of, far_candidates}
+use Rattle.solv_questions.specs.Inner.Questions.{is_first_of_name, close_candidates}
 use Rattle.solv_plan.specs.Inside.{row_at}
 use Rattle.solv_plan.specs.Inner.Choosing.{unkept}
 use Rattle.solv_plan.specs.declared.plans.Demand.{Demand}

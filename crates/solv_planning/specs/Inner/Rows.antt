@@ -4,7 +4,8 @@ use Rattle.solv_pool.specs.Words.{when}
 use Rattle.solv_pool.specs.Catalog.{Catalog, is_installed}
 use Rattle.solv_pool.specs.JobMarks.{marked, is_to_move}
 use Rattle.solv_pool.specs.RuleMeaning.{HardRule, req, rich_con}
-use Rattle.solv_questions.specs.Questions.{Request, is_update_of, is_feature_of, close_candidates, far_candidates}
+use Rattle.solv_questions.specs.Questions.{Request, is_update_of, is_feature_of, far_candidates}
+use Rattle.solv_questions.specs.Inner.Questions.{close_candidates}
 use Rattle.solv_plan.specs.Inner.PlanOf.{want_of, conflict_of, best_job_demand, job_demand, best_update_demand}
 use Rattle.solv_plan.specs.declared.plans.Keep.{Keep}
 use Rattle.solv_plan.specs.declared.plans.Want.{Want}

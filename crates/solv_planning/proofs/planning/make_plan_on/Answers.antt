@@ -1,7 +1,7 @@
 use Rattle.std.proofs.Common.{◌∙◌, ap, length, refl}
 use Rattle.std.specs.Prelude.{flat_map}
 use Rattle.std.specs.List.{list_all}
-use Rattle.solv_pool.specs.HardRules.{numbered_jobs}
+use Rattle.solv_pool.specs.Inner.HardRules.{numbered_jobs}
 use Rattle.solv_questions.specs.Questions.{request_of}
 use Rattle.solv_plan.specs.Inner.PlanOf.{numbered, demands_of_job, keeps_of}
 use Rattle.solv_planning.specs.Inner.Readiness.{asks_for_packages}
