@@ -8,12 +8,12 @@ use Rattle.solv_remedy.proofs.dropping.drop_next.Goals as goal
 use Rattle.solv_remedy.proofs.dropping.drop_next.Goals.{In-Dropped}
 
 -- the rule is left
-was_left : (c : In-Dropped) → is_among c.args.left.now c.in-Dropped.rule ≡ true
+was_left : (c : In-Dropped) → is_among c.args.left.now c.in-Dropped.one.rule ≡ true
 was_left c =
     let needed = c.requires.needed in
     let way = c.args.way.now in
     let S : Dropping → Type 0 = λ d. IsStep needed.0 way.conflict.now.rules way.off c.args.core.now.made c.args.left.now d in
-    subst S c.in-Dropped.is (c.in_ok-trail.ensures.step needed.0 needed.1.0)
+    (subst S c.in-Dropped.is (c.in_ok-trail.ensures.step needed.0 needed.1.0)).0
 
 pub guess_after-requires-clause-may_run : goal.guess_after-requires-clause-may_run
 guess_after-requires-clause-may_run c = may_still c.requires.may_run c.drop_one.ensures.has_run (sym (ap is_spent_step c.in-Dropped.is) ∙ c.in_ok-trail.ensures.spent)
