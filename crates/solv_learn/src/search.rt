@@ -36,6 +36,14 @@ impl Drop for Search {
     }
 }
 
+/// The places of the first and of the last choice: what refutes a literal before the first is resolved, what stands between them is kept,
+/// and from the last on one literal is left. Where there is no choice to go by, both stand behind all that is known.
+#[derive(Clone, Copy)]
+struct ChoicePlaces {
+    first: usize,
+    last: usize,
+}
+
 /// The hint at a rule: the learnt ones stand behind those of the book, and are entries from this number on.
 fn hint_at(book: &RuleMem, base: usize, rule: u32) -> Hint
     requires { base + rule < 2 ^ 64 }
@@ -77,17 +85,17 @@ impl Search {
     }
 
     /// Marks the negation of a literal that is refuted.
-    fn mark(&mut self, known: &Known, first: usize, last: usize, lit: Lit) -> Result<(), AllocError>
+    fn mark(&mut self, known: &Known, choices: ChoicePlaces, lit: Lit) -> Result<(), AllocError>
         requires over { names_package known.now.count lit ≡ true }
         requires count { self.old.marked.count ≡ known.now.count }
-        requires order { first ≤ last }
+        requires order { choices.first ≤ choices.last }
         ensures count { self.new.marked.count ≡ self.old.marked.count }
         ensures hints { self.new.hints.items ≡ self.old.hints.items }
         ensures marks { OnOk result (HasMarked known.now.lits (lit ∷ []) (has self.old.marked) (has self.new.marked)) }
-        ensures collected { OnOk result (IsCollected known.now.lits first last (has self.old.marked) self.old.clause.items self.old.lowest → IsCollected known.now.lits first last (has self.new.marked) self.new.clause.items self.new.lowest) }
+        ensures collected { OnOk result (IsCollected known.now.lits choices.first choices.last (has self.old.marked) self.old.clause.items self.old.lowest → IsCollected known.now.lits choices.first choices.last (has self.new.marked) self.new.clause.items self.new.lowest) }
         ensures places { OnOk result (HavePlaces known.now.lits (has self.old.marked) (has_place self.old.marked) → HavePlaces known.now.lits (has self.new.marked) (has_place self.new.marked)) }
         ensures lowest { self.new.lowest ≤ self.old.lowest }
-        ensures nothing_kept { length known.now.lits ≤ first → self.new.clause.items ≡ self.old.clause.items }
+        ensures nothing_kept { length known.now.lits ≤ choices.first → self.new.clause.items ≡ self.old.clause.items }
     {
         let fact = lit.negated();
         if !known.is_fact(fact) || self.marked.has(fact) {
@@ -97,9 +105,9 @@ impl Search {
         let place = known.place(fact);
         prove!(place < known.len());
         self.marked.insert(fact, place);
-        if place >= last {
+        if place >= choices.last {
             self.lowest = self.lowest.min(place);
-        } else if place >= first {
+        } else if place >= choices.first {
             self.clause.push(lit)?;
         }
         Ok(())
@@ -109,23 +117,22 @@ impl Search {
     fn mark_all(
         &mut self,
         known: &Known,
-        first: usize,
-        last: usize,
+        choices: ChoicePlaces,
         clause: &[Lit],
     ) -> Result<(), AllocError>
         requires over { is_over known.now.count clause.now ≡ true }
         requires count { self.old.marked.count ≡ known.now.count }
-        requires order { first ≤ last }
+        requires order { choices.first ≤ choices.last }
         ensures count { self.new.marked.count ≡ self.old.marked.count }
         ensures hints { self.new.hints.items ≡ self.old.hints.items }
         ensures marks { OnOk result (HasMarked known.now.lits clause.now (has self.old.marked) (has self.new.marked)) }
-        ensures collected { OnOk result (IsCollected known.now.lits first last (has self.old.marked) self.old.clause.items self.old.lowest → IsCollected known.now.lits first last (has self.new.marked) self.new.clause.items self.new.lowest) }
+        ensures collected { OnOk result (IsCollected known.now.lits choices.first choices.last (has self.old.marked) self.old.clause.items self.old.lowest → IsCollected known.now.lits choices.first choices.last (has self.new.marked) self.new.clause.items self.new.lowest) }
         ensures places { OnOk result (HavePlaces known.now.lits (has self.old.marked) (has_place self.old.marked) → HavePlaces known.now.lits (has self.new.marked) (has_place self.new.marked)) }
         ensures lowest { self.new.lowest ≤ self.old.lowest }
-        ensures nothing_kept { length known.now.lits ≤ first → self.new.clause.items ≡ self.old.clause.items }
+        ensures nothing_kept { length known.now.lits ≤ choices.first → self.new.clause.items ≡ self.old.clause.items }
     {
         for lit in clause {
-            self.mark(known, first, last, *lit)?;
+            self.mark(known, choices, *lit)?;
         }
         Ok(())
     }
@@ -139,27 +146,26 @@ impl Search {
         book: &RuleMem,
         learnt: &RuleMem,
         base: usize,
-        first: usize,
-        last: usize,
+        choices: ChoicePlaces,
         rule: u32,
     ) -> Result<(), AllocError>
         requires over { are_over known.now.count (book.now.rules ++ learnt.now.rules) ≡ true }
         requires count { self.old.marked.count ≡ known.now.count }
-        requires order { first ≤ last }
+        requires order { choices.first ≤ choices.last }
         requires rule { rule < length (book.now.rules ++ learnt.now.rules) }
         requires base { base + rule < 2 ^ 64 }
         requires clash { (c : List ℤ) → slice_get (book.now.rules ++ learnt.now.rules) rule ≡ Some c → is_falsified known.now.lits c ≡ true }
         ensures count { self.new.marked.count ≡ self.old.marked.count }
-        ensures collected { OnOk result (IsCollected known.now.lits first last (has self.new.marked) self.new.clause.items self.new.lowest) }
+        ensures collected { OnOk result (IsCollected known.now.lits choices.first choices.last (has self.new.marked) self.new.clause.items self.new.lowest) }
         ensures places { OnOk result (HavePlaces known.now.lits (has self.new.marked) (has_place self.new.marked)) }
         ensures refutes { OnOk result ((look : Hint → Option (List ℤ)) (kept : ℤ → Bool) → Finds look (book.now.rules ++ learnt.now.rules) (length book.now.rules) base → Refutes look kept known.now.lits (length known.now.lits) (has self.new.marked) (reverse self.new.hints.items)) }
         ensures hints { OnOk result (self.new.hints.items ≡ hint_for (length book.now.rules) base rule ∷ []) }
         ensures marks { OnOk result ((c : List ℤ) → slice_get (book.now.rules ++ learnt.now.rules) rule ≡ Some c → (m : ℤ) → is_fact c m ≡ true → has self.new.marked (neg_ℤ m) ≡ true) }
-        ensures nothing_kept { OnOk result (length known.now.lits ≤ first → self.new.clause.items ≡ []) }
+        ensures nothing_kept { OnOk result (length known.now.lits ≤ choices.first → self.new.clause.items ≡ []) }
     {
         self.begin(known);
         self.hints.push(hint_at(book, base, rule))?;
-        self.mark_all(known, first, last, lits_of(book, learnt, rule))?;
+        self.mark_all(known, choices, lits_of(book, learnt, rule))?;
         Ok(())
     }
 
@@ -170,24 +176,23 @@ impl Search {
         book: &RuleMem,
         learnt: &RuleMem,
         base: usize,
-        first: usize,
-        last: usize,
+        choices: ChoicePlaces,
         place: usize,
     ) -> Result<(), AllocError>
         requires over { are_over known.now.count (book.now.rules ++ learnt.now.rules) ≡ true }
         requires count { self.old.marked.count ≡ known.now.count }
-        requires order { first ≤ last }
+        requires order { choices.first ≤ choices.last }
         requires place { place < length known.now.lits }
         requires small { base + length (book.now.rules ++ learnt.now.rules) < 2 ^ 64 }
         requires reasoned { IsReasoned (book.now.rules ++ learnt.now.rules) (λ _. true) known.now }
         requires no_choice { (k : ℕ) → k < length known.now.marks → slice_index known.now.marks k ≡ place → ⊥ }
         ensures count { self.new.marked.count ≡ self.old.marked.count }
-        ensures collected { OnOk result (IsCollected known.now.lits first last (has self.old.marked) self.old.clause.items self.old.lowest → IsCollected known.now.lits first last (has self.new.marked) self.new.clause.items self.new.lowest) }
+        ensures collected { OnOk result (IsCollected known.now.lits choices.first choices.last (has self.old.marked) self.old.clause.items self.old.lowest → IsCollected known.now.lits choices.first choices.last (has self.new.marked) self.new.clause.items self.new.lowest) }
         ensures places { OnOk result (HavePlaces known.now.lits (has self.old.marked) (has_place self.old.marked) → HavePlaces known.now.lits (has self.new.marked) (has_place self.new.marked)) }
         ensures refutes { OnOk result ((look : Hint → Option (List ℤ)) (kept : ℤ → Bool) → Finds look (book.now.rules ++ learnt.now.rules) (length book.now.rules) base → kept (slice_index_or known.now.lits place (pos 0)) ≡ false → Refutes look kept known.now.lits (place + 1) (has self.old.marked) (reverse self.old.hints.items) → Refutes look kept known.now.lits place (has self.new.marked) (reverse self.new.hints.items)) }
         ensures in_use { OnOk result ((used : ℕ → Bool) → IsReasoned (book.now.rules ++ learnt.now.rules) used known.now → list_all (is_in_use used (length book.now.rules) base (length (book.now.rules ++ learnt.now.rules))) self.old.hints.items ≡ true → list_all (is_in_use used (length book.now.rules) base (length (book.now.rules ++ learnt.now.rules))) self.new.hints.items ≡ true) }
         ensures lowest { OnOk result (self.new.lowest ≤ self.old.lowest) }
-        ensures nothing_kept { OnOk result (length known.now.lits ≤ first → self.new.clause.items ≡ self.old.clause.items) }
+        ensures nothing_kept { OnOk result (length known.now.lits ≤ choices.first → self.new.clause.items ≡ self.old.clause.items) }
     {
         known.keep_apart();
         let lit = known.lit_at(place);
@@ -196,7 +201,7 @@ impl Search {
         }
         let rule = known.reason_at(place);
         self.hints.push(hint_at(book, base, rule))?;
-        self.mark_all(known, first, last, lits_of(book, learnt, rule))?;
+        self.mark_all(known, choices, lits_of(book, learnt, rule))?;
         Ok(())
     }
 }
@@ -209,20 +214,19 @@ impl Search {
         book: &RuleMem,
         learnt: &RuleMem,
         base: usize,
-        first: usize,
-        last: usize,
+        choices: ChoicePlaces,
     ) -> Result<(), AllocError>
         requires over { are_over known.now.count (book.now.rules ++ learnt.now.rules) ≡ true }
         requires count { self.old.marked.count ≡ known.now.count }
-        requires order { first ≤ last }
+        requires order { choices.first ≤ choices.last }
         requires small { base + length (book.now.rules ++ learnt.now.rules) < 2 ^ 64 }
         requires reasoned { IsReasoned (book.now.rules ++ learnt.now.rules) (λ _. true) known.now }
-        requires no_choice { (k : ℕ) → k < length known.now.marks → slice_index known.now.marks k ≤ last }
-        requires collected { IsCollected known.now.lits first last (has self.old.marked) self.old.clause.items self.old.lowest }
+        requires no_choice { (k : ℕ) → k < length known.now.marks → slice_index known.now.marks k ≤ choices.last }
+        requires collected { IsCollected known.now.lits choices.first choices.last (has self.old.marked) self.old.clause.items self.old.lowest }
         requires there { self.old.lowest < length known.now.lits }
         ensures count { self.new.marked.count ≡ self.old.marked.count }
         ensures there { OnOk result (self.new.lowest < length known.now.lits) }
-        ensures collected { OnOk result (IsCollected known.now.lits first last (has self.new.marked) self.new.clause.items self.new.lowest) }
+        ensures collected { OnOk result (IsCollected known.now.lits choices.first choices.last (has self.new.marked) self.new.clause.items self.new.lowest) }
         ensures places { OnOk result (HavePlaces known.now.lits (has self.old.marked) (has_place self.old.marked) → HavePlaces known.now.lits (has self.new.marked) (has_place self.new.marked)) }
         ensures refutes { OnOk result ((look : Hint → Option (List ℤ)) → Finds look (book.now.rules ++ learnt.now.rules) (length book.now.rules) base → Refutes look (λ _. false) known.now.lits (length known.now.lits) (has self.old.marked) (reverse self.old.hints.items) → Refutes look (λ _. false) known.now.lits (self.new.lowest + 1) (has self.new.marked) (reverse self.new.hints.items)) }
         ensures in_use { OnOk result ((used : ℕ → Bool) → IsReasoned (book.now.rules ++ learnt.now.rules) used known.now → list_all (is_in_use used (length book.now.rules) base (length (book.now.rules ++ learnt.now.rules))) self.old.hints.items ≡ true → list_all (is_in_use used (length book.now.rules) base (length (book.now.rules ++ learnt.now.rules))) self.new.hints.items ≡ true) }
@@ -230,7 +234,7 @@ impl Search {
         let mut place = known.len();
         while place > self.lowest + 1 {
             place -= 1;
-            self.resolve(known, book, learnt, base, first, last, place)?;
+            self.resolve(known, book, learnt, base, choices, place)?;
         }
         Ok(())
     }
@@ -257,9 +261,13 @@ impl Search {
         ensures nothing_kept { OnOk result (self.new.clause.items ≡ self.old.clause.items) }
     {
         let all = known.len();
+        let none = ChoicePlaces {
+            first: all,
+            last: all,
+        };
         let mut ahead = end;
         while let Some(place) = self.marked.last_below(ahead) {
-            self.resolve(known, book, learnt, base, all, all, place)?;
+            self.resolve(known, book, learnt, base, none, place)?;
             ahead = place;
         }
         Ok(())
@@ -329,7 +337,11 @@ impl Search {
         ensures refuted { OnOk result ((used : ℕ → Bool) → IsReasoned (book.now.rules ++ learnt.now.rules) used known.now → used rule ≡ true → IsRefuted (book.now.rules ++ learnt.now.rules) used (length book.now.rules) base self.new.hints.items) }
     {
         let all = known.len();
-        self.start(known, book, learnt, base, all, all, rule)?;
+        let none = ChoicePlaces {
+            first: all,
+            last: all,
+        };
+        self.start(known, book, learnt, base, none, rule)?;
         self.below(known, book, learnt, base, all)?;
         self.hints.reverse();
         Ok(())
@@ -361,8 +373,9 @@ impl Search {
         known.keep_apart();
         let first = known.mark_at(0);
         let last = known.mark_at(known.choices() - 1);
-        self.start(known, book, learnt, base, first, last, rule)?;
-        self.to_unique(known, book, learnt, base, first, last)?;
+        let choices = ChoicePlaces { first, last };
+        self.start(known, book, learnt, base, choices, rule)?;
+        self.to_unique(known, book, learnt, base, choices)?;
         let unique = known.lit_at(self.lowest);
         self.below(known, book, learnt, base, first)?;
         self.hints.reverse();

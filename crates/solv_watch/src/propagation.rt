@@ -11,7 +11,7 @@ ghost use Rattle.solv_watch.specs.Inner.Watching.{AreChained, AreNarrow, AreNarr
 ghost use Rattle.solv_watch.specs.Inner.Propagating.{AreWatched, AreKeptAtChoices, AreReady, AreSeen};
 
 use crate::chains::{Chains, Watches};
-use crate::walking::walk;
+use crate::walking::{Part, walk};
 use solv_pack::{RuleMem, RuleNo};
 use solv_trail::{Known, is_in_use};
 
@@ -38,15 +38,18 @@ fn walk_in(
     ensures guards { result ≡ None → AreGuards rules.now.rules (in_use owners.now enabled.now) chains.new.watched.items Each (take (at + 1) known.new.lits) known.new.lits }
     ensures clash { IfSome result (λ rule. (all : List (List ℤ)) (used : ℕ → Bool) → IsPart all used base rules.now.rules (in_use owners.now enabled.now) → (c : List ℤ) × IsUsed all used rule c × (is_falsified known.new.lits c ≡ true)) }
 {
-    walk(
-        known,
+    let part = Part {
         rules,
-        chains.heads.as_mut_slice(),
-        chains.links.as_mut_slice(),
-        chains.watched.as_mut_slice(),
         owners,
         enabled,
         base,
+    };
+    walk(
+        known,
+        part,
+        chains.heads.as_mut_slice(),
+        chains.links.as_mut_slice(),
+        chains.watched.as_mut_slice(),
         at,
     )
 }

@@ -25,6 +25,15 @@ pub enum Visit {
     Moves(Lit),
 }
 
+/// Rules that stand among all from a number on, and what says which of them are in use.
+#[derive(Clone, Copy)]
+pub struct Part<'a> {
+    pub rules: &'a RuleMem,
+    pub owners: &'a [usize],
+    pub enabled: &'a [bool],
+    pub base: u32,
+}
+
 /// Looks at a rule, beside one of its watched literals.
 fn look(
     known: &Known,
@@ -61,30 +70,27 @@ fn look(
 }
 
 /// Walks through the rules that watch a literal whose negation stands at a place of what is known, and adds what they force, until one is
-/// falsified, which it names, by its number among all rules, where these begin at base. It takes no memory.
+/// falsified, which it names by its number among all rules. It takes no memory.
 pub fn walk(
     known: &mut Known,
-    rules: &RuleMem,
+    part: Part,
     heads: &mut [u32],
     links: &mut [u32],
     watched: &mut [Lit],
-    owners: &[usize],
-    enabled: &[bool],
-    base: u32,
     at: usize,
 ) -> Option<u32>
-    requires over { are_over known.old.count rules.now.rules ≡ true }
-    requires owners { list_all (λ o. nat_lt o (length enabled.now)) owners.now ≡ true }
-    requires base { base + length rules.now.rules ≤ 2 ^ 28 }
+    requires over { are_over known.old.count part.rules.now.rules ≡ true }
+    requires owners { list_all (λ o. nat_lt o (length part.enabled.now)) part.owners.now ≡ true }
+    requires base { part.base + length part.rules.now.rules ≤ 2 ^ 28 }
     requires at { at < length known.old.lits }
-    requires chained { AreChained known.old.count rules.now.rules heads.old links.old watched.old }
-    requires guards { AreGuards rules.now.rules (in_use owners.now enabled.now) watched.old Each (take at known.old.lits) known.old.lits }
-    requires choices { AreGuardsAtChoices rules.now.rules (in_use owners.now enabled.now) watched.old known.old.lits known.old.marks }
-    ensures grown { (all : List (List ℤ)) (used : ℕ → Bool) → IsPart all used base rules.now.rules (in_use owners.now enabled.now) → IsGrown all used known.old known.new }
-    ensures chained { AreChained known.old.count rules.now.rules heads.new links.new watched.new }
-    ensures choices { AreGuardsAtChoices rules.now.rules (in_use owners.now enabled.now) watched.new known.new.lits known.new.marks }
-    ensures guards { result ≡ None → AreGuards rules.now.rules (in_use owners.now enabled.now) watched.new Each (take (at + 1) known.new.lits) known.new.lits }
-    ensures clash { IfSome result (λ rule. (all : List (List ℤ)) (used : ℕ → Bool) → IsPart all used base rules.now.rules (in_use owners.now enabled.now) → (c : List ℤ) × IsUsed all used rule c × (is_falsified known.new.lits c ≡ true)) }
+    requires chained { AreChained known.old.count part.rules.now.rules heads.old links.old watched.old }
+    requires guards { AreGuards part.rules.now.rules (in_use part.owners.now part.enabled.now) watched.old Each (take at known.old.lits) known.old.lits }
+    requires choices { AreGuardsAtChoices part.rules.now.rules (in_use part.owners.now part.enabled.now) watched.old known.old.lits known.old.marks }
+    ensures grown { (all : List (List ℤ)) (used : ℕ → Bool) → IsPart all used part.entry.base part.entry.rules.now.rules (in_use part.entry.owners.now part.entry.enabled.now) → IsGrown all used known.old known.new }
+    ensures chained { AreChained known.old.count part.entry.rules.now.rules heads.new links.new watched.new }
+    ensures choices { AreGuardsAtChoices part.entry.rules.now.rules (in_use part.entry.owners.now part.entry.enabled.now) watched.new known.new.lits known.new.marks }
+    ensures guards { result ≡ None → AreGuards part.entry.rules.now.rules (in_use part.entry.owners.now part.entry.enabled.now) watched.new Each (take (at + 1) known.new.lits) known.new.lits }
+    ensures clash { IfSome result (λ rule. (all : List (List ℤ)) (used : ℕ → Bool) → IsPart all used part.entry.base part.entry.rules.now.rules (in_use part.entry.owners.now part.entry.enabled.now) → (c : List ℤ) × IsUsed all used rule c × (is_falsified known.new.lits c ≡ true)) }
 {
     let place = known.lit_at(at).negated().place();
     let mut last = NOWHERE;
@@ -94,11 +100,11 @@ pub fn walk(
         let next = links[watch as usize];
         let other = watched[beside(watch) as usize];
         known.keep_apart();
-        match look(known, rules, owners, enabled, rule, other) {
-            Visit::Falsified => return Some(base + rule),
+        match look(known, part.rules, part.owners, part.enabled, rule, other) {
+            Visit::Falsified => return Some(part.base + rule),
             Visit::Stays => last = watch,
             Visit::Forces => {
-                known.push(other, base + rule);
+                known.push(other, part.base + rule);
                 last = watch;
             }
             Visit::Moves(to) => rewatch(heads, links, watched, place, last, watch, to),

@@ -27,100 +27,100 @@ loop-watch-init c =
     let within : c.place-place.result < length c.args.heads.now = let m : place_of c.negated.result < 2 * c.args.known.now.count + 2 = place_within c.args.known.now.count c.negated.result named in omega (arith, c.requires.chained.room, placed) in
     let stands : get_or c.args.known.now.lits c.args.at (pos 0) ≡ neg_ℤ c.negated.result = sym c.lit_at.ensures.lit ∙ sym (neg-neg c.lit_at.result) ∙ ap neg_ℤ (sym c.negated.ensures.number) in
     record {
-      walk = walk_start c.args.known.now.count c.args.rules.now.rules (in_use c.args.owners.now c.args.enabled.now) c.args.heads.now c.args.links.now c.args.watched.now c.args.known.now.lits c.args.known.now.marks c.args.at c.place-place.result c.negated.result placed within c.requires.at stands c.requires.chained c.requires.guards c.requires.choices;
+      walk = walk_start c.args.known.now.count c.args.part.rules.now.rules (in_use c.args.part.owners.now c.args.part.enabled.now) c.args.heads.now c.args.links.now c.args.watched.now c.args.known.now.lits c.args.known.now.marks c.args.at c.place-place.result c.negated.result placed within c.requires.at stands c.requires.chained c.requires.guards c.requires.choices;
       grown = λ all used part. grown_self all used c.args.known.now;
       count = refl;
       within = c.requires.at;
     }
 
-bound : (c : In-loop-watch) → c.loop-watch.watch < 2 * length c.args.rules.now.rules
-bound c = (walk_at c.args.known.now.count c.args.rules.now.rules (in_use c.args.owners.now c.args.enabled.now) c.loop-watch.heads c.loop-watch.links c.loop-watch.watched c.loop-watch.known.lits c.loop-watch.known.marks c.args.at c.place-place.result c.loop-watch.last c.loop-watch.watch c.loop-watch.invariant.walk c.loop-watch-test.true).0
+bound : (c : In-loop-watch) → c.loop-watch.watch < 2 * length c.args.part.rules.now.rules
+bound c = (walk_at c.args.known.now.count c.args.part.rules.now.rules (in_use c.args.part.owners.now c.args.part.enabled.now) c.loop-watch.heads c.loop-watch.links c.loop-watch.watched c.loop-watch.known.lits c.loop-watch.known.marks c.args.at c.place-place.result c.loop-watch.last c.loop-watch.watch c.loop-watch.invariant.walk c.loop-watch-test.true).0
 
 pub bounds-links-watch : goal.bounds-links-watch
-bounds-links-watch c = let m : c.loop-watch.watch < 2 * length c.args.rules.now.rules = bound (goal.at.bounds-links-watch c).In-loop-watch in let e : length c.loop-watch.links ≡ 2 * length c.args.rules.now.rules = c.loop-watch.invariant.walk.linked in omega arith
+bounds-links-watch c = let m : c.loop-watch.watch < 2 * length c.args.part.rules.now.rules = bound (goal.at.bounds-links-watch c).In-loop-watch in let e : length c.loop-watch.links ≡ 2 * length c.args.part.rules.now.rules = c.loop-watch.invariant.walk.linked in omega arith
 
 pub beside-requires : goal.beside-requires
-beside-requires c = beside_few (length c.args.rules.now.rules) c.loop-watch.watch (bound (goal.at.beside-requires c).In-loop-watch) c.loop-watch.invariant.walk.few
+beside-requires c = beside_few (length c.args.part.rules.now.rules) c.loop-watch.watch (bound (goal.at.beside-requires c).In-loop-watch) c.loop-watch.invariant.walk.few
 
 pub bounds-watched-beside : goal.bounds-watched-beside
-bounds-watched-beside c = let m : other c.loop-watch.watch < 2 * length c.args.rules.now.rules = beside_within (length c.args.rules.now.rules) c.loop-watch.watch (bound (goal.at.bounds-watched-beside c).In-loop-watch) in let e : length c.loop-watch.watched ≡ 2 * length c.args.rules.now.rules = c.loop-watch.invariant.walk.two in omega (arith, c.beside.ensures)
+bounds-watched-beside c = let m : other c.loop-watch.watch < 2 * length c.args.part.rules.now.rules = beside_within (length c.args.part.rules.now.rules) c.loop-watch.watch (bound (goal.at.bounds-watched-beside c).In-loop-watch) in let e : length c.loop-watch.watched ≡ 2 * length c.args.part.rules.now.rules = c.loop-watch.invariant.walk.two in omega (arith, c.beside.ensures)
 
 pub look-requires-clause-rule : goal.look-requires-clause-rule
-look-requires-clause-rule c = (rule_within (length c.args.rules.now.rules) c.loop-watch.watch (bound (goal.at.look-requires-clause-rule c).In-loop-watch))
+look-requires-clause-rule c = (rule_within (length c.args.part.rules.now.rules) c.loop-watch.watch (bound (goal.at.look-requires-clause-rule c).In-loop-watch))
 
 -- the other watched literal
 beside_is : (c : After-index-watched-beside) → c.index-watched-beside.result ≡ literal_of c.loop-watch.watched (other c.loop-watch.watch)
 beside_is c =
-    let m : other c.loop-watch.watch < 2 * length c.args.rules.now.rules = beside_within (length c.args.rules.now.rules) c.loop-watch.watch (walk_at c.args.known.now.count c.args.rules.now.rules (in_use c.args.owners.now c.args.enabled.now) c.loop-watch.heads c.loop-watch.links c.loop-watch.watched c.loop-watch.known.lits c.loop-watch.known.marks c.args.at c.place-place.result c.loop-watch.last c.loop-watch.watch c.loop-watch.invariant.walk c.loop-watch-test.true).0 in
-    let e : length c.loop-watch.watched ≡ 2 * length c.args.rules.now.rules = c.loop-watch.invariant.walk.two in
+    let m : other c.loop-watch.watch < 2 * length c.args.part.rules.now.rules = beside_within (length c.args.part.rules.now.rules) c.loop-watch.watch (walk_at c.args.known.now.count c.args.part.rules.now.rules (in_use c.args.part.owners.now c.args.part.enabled.now) c.loop-watch.heads c.loop-watch.links c.loop-watch.watched c.loop-watch.known.lits c.loop-watch.known.marks c.args.at c.place-place.result c.loop-watch.last c.loop-watch.watch c.loop-watch.invariant.walk c.loop-watch-test.true).0 in
+    let e : length c.loop-watch.watched ≡ 2 * length c.args.part.rules.now.rules = c.loop-watch.invariant.walk.two in
     let within : c.beside.result < length c.loop-watch.watched = omega (arith, c.beside.ensures) in
     get_or_read c.loop-watch.watched c.beside.result c.index-watched-beside.result within c.index-watched-beside.is (pos 0) ∙ ap (literal_of c.loop-watch.watched) c.beside.ensures
 
 pub look-requires-clause-beside : goal.look-requires-clause-beside
 look-requires-clause-beside c = λ clause found.
-    let f : slice_get c.args.rules.now.rules (c.loop-watch.watch / 2) ≡ Some clause = found in
-    rw (beside_is (goal.at.look-requires-clause-beside c).After-index-watched-beside) (walk_beside c.args.known.now.count c.args.rules.now.rules (in_use c.args.owners.now c.args.enabled.now) c.loop-watch.heads c.loop-watch.links c.loop-watch.watched c.loop-watch.known.lits c.loop-watch.known.marks c.args.at c.place-place.result c.loop-watch.last c.loop-watch.watch c.loop-watch.invariant.walk c.loop-watch-test.true clause f)
+    let f : slice_get c.args.part.rules.now.rules (c.loop-watch.watch / 2) ≡ Some clause = found in
+    rw (beside_is (goal.at.look-requires-clause-beside c).After-index-watched-beside) (walk_beside c.args.known.now.count c.args.part.rules.now.rules (in_use c.args.part.owners.now c.args.part.enabled.now) c.loop-watch.heads c.loop-watch.links c.loop-watch.watched c.loop-watch.known.lits c.loop-watch.known.marks c.args.at c.place-place.result c.loop-watch.last c.loop-watch.watch c.loop-watch.invariant.walk c.loop-watch-test.true clause f)
 
 pub returns-clause-guards : goal.returns-clause-guards
 returns-clause-guards c = λ e.
     let stop : c.loop-watch.watch ≡ no_link = c.loop-watch-test.false in
-    let P : ℕ → Type 0 = λ v. IsWalk c.args.known.now.count c.args.rules.now.rules (in_use c.args.owners.now c.args.enabled.now) c.loop-watch.heads c.loop-watch.links c.loop-watch.watched c.loop-watch.known.lits c.loop-watch.known.marks c.args.at c.place-place.result c.loop-watch.last v in
-    walk_end c.args.known.now.count c.args.rules.now.rules (in_use c.args.owners.now c.args.enabled.now) c.loop-watch.heads c.loop-watch.links c.loop-watch.watched c.loop-watch.known.lits c.loop-watch.known.marks c.args.at c.place-place.result c.loop-watch.last (subst P stop c.loop-watch.invariant.walk)
+    let P : ℕ → Type 0 = λ v. IsWalk c.args.known.now.count c.args.part.rules.now.rules (in_use c.args.part.owners.now c.args.part.enabled.now) c.loop-watch.heads c.loop-watch.links c.loop-watch.watched c.loop-watch.known.lits c.loop-watch.known.marks c.args.at c.place-place.result c.loop-watch.last v in
+    walk_end c.args.known.now.count c.args.part.rules.now.rules (in_use c.args.part.owners.now c.args.part.enabled.now) c.loop-watch.heads c.loop-watch.links c.loop-watch.watched c.loop-watch.known.lits c.loop-watch.known.marks c.args.at c.place-place.result c.loop-watch.last (subst P stop c.loop-watch.invariant.walk)
 
 pub rewatch-requires-clause-watch : goal.rewatch-requires-clause-watch
 rewatch-requires-clause-watch c = let m = bound (goal.at.rewatch-requires-clause-watch c).In-loop-watch in omega (arith, m, c.loop-watch.invariant.walk.linked)
 
 pub rewatch-requires-clause-last : goal.rewatch-requires-clause-last
 rewatch-requires-clause-last c = λ h.
-    let m : c.loop-watch.last < 2 * length c.args.rules.now.rules = (walk_last c.args.known.now.count c.args.rules.now.rules (in_use c.args.owners.now c.args.enabled.now) c.loop-watch.heads c.loop-watch.links c.loop-watch.watched c.loop-watch.known.lits c.loop-watch.known.marks c.args.at c.place-place.result c.loop-watch.last c.loop-watch.watch c.loop-watch.invariant.walk h) in
+    let m : c.loop-watch.last < 2 * length c.args.part.rules.now.rules = (walk_last c.args.known.now.count c.args.part.rules.now.rules (in_use c.args.part.owners.now c.args.part.enabled.now) c.loop-watch.heads c.loop-watch.links c.loop-watch.watched c.loop-watch.known.lits c.loop-watch.known.marks c.args.at c.place-place.result c.loop-watch.last c.loop-watch.watch c.loop-watch.invariant.walk h) in
     omega (arith, m, c.loop-watch.invariant.walk.linked)
 
 pub rewatch-requires-clause-to : goal.rewatch-requires-clause-to
 rewatch-requires-clause-to c =
-    let l : Looked c.args.rules.now.rules (in_use c.args.owners.now c.args.enabled.now) c.loop-watch.known.lits (c.loop-watch.watch / 2) c.index-watched-beside.result (Moves c.in-Moves.to) = c.in-Moves.ensures in
+    let l : Looked c.args.part.rules.now.rules (in_use c.args.part.owners.now c.args.part.enabled.now) c.loop-watch.known.lits (c.loop-watch.watch / 2) c.index-watched-beside.result (Moves c.in-Moves.to) = c.in-Moves.ensures in
     let m = looked_moves l in
-    let over : is_over c.args.known.now.count m.0 ≡ true = clause_over c.args.known.now.count c.args.rules.now.rules (c.loop-watch.watch / 2) m.0 c.requires.over m.1.found in
+    let over : is_over c.args.known.now.count m.0 ≡ true = clause_over c.args.known.now.count c.args.part.rules.now.rules (c.loop-watch.watch / 2) m.0 c.requires.over m.1.found in
     let named : names_package c.args.known.now.count c.in-Moves.to ≡ true = all_member (names_package c.args.known.now.count) m.0 over c.in-Moves.to (of_others c.index-watched-beside.result c.in-Moves.to m.0 m.2.first) in
     let small : place_of c.in-Moves.to < 2 * c.args.known.now.count + 2 = place_within c.args.known.now.count c.in-Moves.to named in
     omega (arith, c.loop-watch.invariant.walk.room)
 
 pub push-requires-clause-over : goal.push-requires-clause-over
 push-requires-clause-over c =
-    let l : Looked c.args.rules.now.rules (in_use c.args.owners.now c.args.enabled.now) c.loop-watch.known.lits (c.loop-watch.watch / 2) c.index-watched-beside.result Forces = c.in-Forces.ensures in
+    let l : Looked c.args.part.rules.now.rules (in_use c.args.part.owners.now c.args.part.enabled.now) c.loop-watch.known.lits (c.loop-watch.watch / 2) c.index-watched-beside.result Forces = c.in-Forces.ensures in
     let m = looked_forces l in
-    let over : is_over c.args.known.now.count m.0 ≡ true = clause_over c.args.known.now.count c.args.rules.now.rules (c.loop-watch.watch / 2) m.0 c.requires.over m.1.found in
+    let over : is_over c.args.known.now.count m.0 ≡ true = clause_over c.args.known.now.count c.args.part.rules.now.rules (c.loop-watch.watch / 2) m.0 c.requires.over m.1.found in
     rw (c.loop-watch.invariant.count) (forced_over c.args.known.now.count (is_fact c.loop-watch.known.lits) m.0 c.index-watched-beside.result over m.2)
 
 pub push-requires-clause-unknown : goal.push-requires-clause-unknown
 push-requires-clause-unknown c =
-    let l : Looked c.args.rules.now.rules (in_use c.args.owners.now c.args.enabled.now) c.loop-watch.known.lits (c.loop-watch.watch / 2) c.index-watched-beside.result Forces = c.in-Forces.ensures in
+    let l : Looked c.args.part.rules.now.rules (in_use c.args.part.owners.now c.args.part.enabled.now) c.loop-watch.known.lits (c.loop-watch.watch / 2) c.index-watched-beside.result Forces = c.in-Forces.ensures in
     let m = looked_forces l in
     (open_parts c.loop-watch.known.lits c.index-watched-beside.result (forced_member c.loop-watch.known.lits m.0 c.index-watched-beside.result (forces_from c.loop-watch.known.lits m.0 c.index-watched-beside.result m.2)).1).0
 
 pub push-requires-clause-not_false : goal.push-requires-clause-not_false
 push-requires-clause-not_false c =
-    let l : Looked c.args.rules.now.rules (in_use c.args.owners.now c.args.enabled.now) c.loop-watch.known.lits (c.loop-watch.watch / 2) c.index-watched-beside.result Forces = c.in-Forces.ensures in
+    let l : Looked c.args.part.rules.now.rules (in_use c.args.part.owners.now c.args.part.enabled.now) c.loop-watch.known.lits (c.loop-watch.watch / 2) c.index-watched-beside.result Forces = c.in-Forces.ensures in
     let m = looked_forces l in
     (open_parts c.loop-watch.known.lits c.index-watched-beside.result (forced_member c.loop-watch.known.lits m.0 c.index-watched-beside.result (forces_from c.loop-watch.known.lits m.0 c.index-watched-beside.result m.2)).1).1
 
 pub returns-in-Falsified-clause-clash : goal.returns-in-Falsified-clause-clash
 returns-in-Falsified-clause-clash c = λ all used part.
-    let l : Looked c.args.rules.now.rules (in_use c.args.owners.now c.args.enabled.now) c.loop-watch.known.lits (c.loop-watch.watch / 2) c.index-watched-beside.result Falsified = c.in-Falsified.ensures in
+    let l : Looked c.args.part.rules.now.rules (in_use c.args.part.owners.now c.args.part.enabled.now) c.loop-watch.known.lits (c.loop-watch.watch / 2) c.index-watched-beside.result Falsified = c.in-Falsified.ensures in
     let m = looked_false l in
-    (m.0, used_among all used c.args.base c.args.rules.now.rules (in_use c.args.owners.now c.args.enabled.now) part (c.loop-watch.watch / 2) m.0 m.1, m.2)
+    (m.0, used_among all used c.args.part.base c.args.part.rules.now.rules (in_use c.args.part.owners.now c.args.part.enabled.now) part (c.loop-watch.watch / 2) m.0 m.1, m.2)
 
 pub loop-watch-smaller-in-Stays : goal.loop-watch-smaller-in-Stays
 loop-watch-smaller-in-Stays c =
-    let l : Looked c.args.rules.now.rules (in_use c.args.owners.now c.args.enabled.now) c.loop-watch.known.lits (c.loop-watch.watch / 2) c.index-watched-beside.result Stays = c.in-Stays.ensures in
+    let l : Looked c.args.part.rules.now.rules (in_use c.args.part.owners.now c.args.part.enabled.now) c.loop-watch.known.lits (c.loop-watch.watch / 2) c.index-watched-beside.result Stays = c.in-Stays.ensures in
     let beside : c.index-watched-beside.result ≡ literal_of c.loop-watch.watched (other c.loop-watch.watch) = beside_is (goal.at.loop-watch-smaller-in-Stays c).After-index-watched-beside in
-    let w = walk_past c.args.known.now.count c.args.rules.now.rules (in_use c.args.owners.now c.args.enabled.now) c.loop-watch.heads c.loop-watch.links c.loop-watch.watched c.loop-watch.known.lits c.loop-watch.known.marks c.args.at c.place-place.result c.loop-watch.last c.loop-watch.watch c.loop-watch.invariant.walk c.loop-watch-test.true (λ on. ap (is_fact c.loop-watch.known.lits) (sym beside) ∙ looked_stays l on) in
+    let w = walk_past c.args.known.now.count c.args.part.rules.now.rules (in_use c.args.part.owners.now c.args.part.enabled.now) c.loop-watch.heads c.loop-watch.links c.loop-watch.watched c.loop-watch.known.lits c.loop-watch.known.marks c.args.at c.place-place.result c.loop-watch.last c.loop-watch.watch c.loop-watch.invariant.walk c.loop-watch-test.true (λ on. ap (is_fact c.loop-watch.known.lits) (sym beside) ∙ looked_stays l on) in
     w.1
 
 pub loop-watch-preserved-in-Stays : goal.loop-watch-preserved-in-Stays
 loop-watch-preserved-in-Stays c =
-    let l : Looked c.args.rules.now.rules (in_use c.args.owners.now c.args.enabled.now) c.loop-watch.known.lits (c.loop-watch.watch / 2) c.index-watched-beside.result Stays = c.in-Stays.ensures in
+    let l : Looked c.args.part.rules.now.rules (in_use c.args.part.owners.now c.args.part.enabled.now) c.loop-watch.known.lits (c.loop-watch.watch / 2) c.index-watched-beside.result Stays = c.in-Stays.ensures in
     let beside : c.index-watched-beside.result ≡ literal_of c.loop-watch.watched (other c.loop-watch.watch) = beside_is (goal.at.loop-watch-preserved-in-Stays c).After-index-watched-beside in
-    let w = walk_past c.args.known.now.count c.args.rules.now.rules (in_use c.args.owners.now c.args.enabled.now) c.loop-watch.heads c.loop-watch.links c.loop-watch.watched c.loop-watch.known.lits c.loop-watch.known.marks c.args.at c.place-place.result c.loop-watch.last c.loop-watch.watch c.loop-watch.invariant.walk c.loop-watch-test.true (λ on. ap (is_fact c.loop-watch.known.lits) (sym beside) ∙ looked_stays l on) in
+    let w = walk_past c.args.known.now.count c.args.part.rules.now.rules (in_use c.args.part.owners.now c.args.part.enabled.now) c.loop-watch.heads c.loop-watch.links c.loop-watch.watched c.loop-watch.known.lits c.loop-watch.known.marks c.args.at c.place-place.result c.loop-watch.last c.loop-watch.watch c.loop-watch.invariant.walk c.loop-watch-test.true (λ on. ap (is_fact c.loop-watch.known.lits) (sym beside) ∙ looked_stays l on) in
     record {
       walk = w.0;
       grown = c.loop-watch.invariant.grown;
@@ -130,65 +130,65 @@ loop-watch-preserved-in-Stays c =
 
 pub loop-watch-smaller-in-Forces : goal.loop-watch-smaller-in-Forces
 loop-watch-smaller-in-Forces c =
-    let l : Looked c.args.rules.now.rules (in_use c.args.owners.now c.args.enabled.now) c.loop-watch.known.lits (c.loop-watch.watch / 2) c.index-watched-beside.result Forces = c.in-Forces.ensures in
+    let l : Looked c.args.part.rules.now.rules (in_use c.args.part.owners.now c.args.part.enabled.now) c.loop-watch.known.lits (c.loop-watch.watch / 2) c.index-watched-beside.result Forces = c.in-Forces.ensures in
     let m = looked_forces l in
     let x : ℤ = c.index-watched-beside.result in
-    let e : c.push.new.self ≡ record c.loop-watch.known { lits = c.loop-watch.known.lits ++ x ∷ []; reasons = c.loop-watch.known.reasons ++ (c.args.base + c.loop-watch.watch / 2) ∷ [] } = c.push.ensures.added in
+    let e : c.push.new.self ≡ record c.loop-watch.known { lits = c.loop-watch.known.lits ++ x ∷ []; reasons = c.loop-watch.known.reasons ++ (c.args.part.base + c.loop-watch.watch / 2) ∷ [] } = c.push.ensures.added in
     let beside : x ≡ literal_of c.loop-watch.watched (other c.loop-watch.watch) = beside_is (goal.at.loop-watch-smaller-in-Forces c).After-index-watched-beside in
-    let more : IsWalk c.args.known.now.count c.args.rules.now.rules (in_use c.args.owners.now c.args.enabled.now) c.loop-watch.heads c.loop-watch.links c.loop-watch.watched (c.loop-watch.known.lits ++ c.index-watched-beside.result ∷ []) c.loop-watch.known.marks c.args.at c.place-place.result c.loop-watch.last c.loop-watch.watch = walk_more c.args.known.now.count c.args.rules.now.rules (in_use c.args.owners.now c.args.enabled.now) c.loop-watch.heads c.loop-watch.links c.loop-watch.watched c.loop-watch.known.lits c.loop-watch.known.marks c.args.at c.place-place.result c.loop-watch.last c.loop-watch.watch x c.loop-watch.invariant.walk c.loop-watch.invariant.within in
+    let more : IsWalk c.args.known.now.count c.args.part.rules.now.rules (in_use c.args.part.owners.now c.args.part.enabled.now) c.loop-watch.heads c.loop-watch.links c.loop-watch.watched (c.loop-watch.known.lits ++ c.index-watched-beside.result ∷ []) c.loop-watch.known.marks c.args.at c.place-place.result c.loop-watch.last c.loop-watch.watch = walk_more c.args.known.now.count c.args.part.rules.now.rules (in_use c.args.part.owners.now c.args.part.enabled.now) c.loop-watch.heads c.loop-watch.links c.loop-watch.watched c.loop-watch.known.lits c.loop-watch.known.marks c.args.at c.place-place.result c.loop-watch.last c.loop-watch.watch x c.loop-watch.invariant.walk c.loop-watch.invariant.within in
     let there : is_fact (c.loop-watch.known.lits ++ x ∷ []) x ≡ true = pushed_known c.loop-watch.known.lits x in
-    let w = walk_past c.args.known.now.count c.args.rules.now.rules (in_use c.args.owners.now c.args.enabled.now) c.loop-watch.heads c.loop-watch.links c.loop-watch.watched (c.loop-watch.known.lits ++ c.index-watched-beside.result ∷ []) c.loop-watch.known.marks c.args.at c.place-place.result c.loop-watch.last c.loop-watch.watch more c.loop-watch-test.true (λ on. ap (is_fact (c.loop-watch.known.lits ++ x ∷ [])) (sym beside) ∙ there) in
+    let w = walk_past c.args.known.now.count c.args.part.rules.now.rules (in_use c.args.part.owners.now c.args.part.enabled.now) c.loop-watch.heads c.loop-watch.links c.loop-watch.watched (c.loop-watch.known.lits ++ c.index-watched-beside.result ∷ []) c.loop-watch.known.marks c.args.at c.place-place.result c.loop-watch.last c.loop-watch.watch more c.loop-watch-test.true (λ on. ap (is_fact (c.loop-watch.known.lits ++ x ∷ [])) (sym beside) ∙ there) in
     w.1
 
 pub loop-watch-preserved-in-Forces : goal.loop-watch-preserved-in-Forces
 loop-watch-preserved-in-Forces c =
-    let l : Looked c.args.rules.now.rules (in_use c.args.owners.now c.args.enabled.now) c.loop-watch.known.lits (c.loop-watch.watch / 2) c.index-watched-beside.result Forces = c.in-Forces.ensures in
+    let l : Looked c.args.part.rules.now.rules (in_use c.args.part.owners.now c.args.part.enabled.now) c.loop-watch.known.lits (c.loop-watch.watch / 2) c.index-watched-beside.result Forces = c.in-Forces.ensures in
     let m = looked_forces l in
     let x : ℤ = c.index-watched-beside.result in
-    let e : c.push.new.self ≡ record c.loop-watch.known { lits = c.loop-watch.known.lits ++ x ∷ []; reasons = c.loop-watch.known.reasons ++ (c.args.base + c.loop-watch.watch / 2) ∷ [] } = c.push.ensures.added in
+    let e : c.push.new.self ≡ record c.loop-watch.known { lits = c.loop-watch.known.lits ++ x ∷ []; reasons = c.loop-watch.known.reasons ++ (c.args.part.base + c.loop-watch.watch / 2) ∷ [] } = c.push.ensures.added in
     let beside : x ≡ literal_of c.loop-watch.watched (other c.loop-watch.watch) = beside_is (goal.at.loop-watch-preserved-in-Forces c).After-index-watched-beside in
-    let more : IsWalk c.args.known.now.count c.args.rules.now.rules (in_use c.args.owners.now c.args.enabled.now) c.loop-watch.heads c.loop-watch.links c.loop-watch.watched (c.loop-watch.known.lits ++ c.index-watched-beside.result ∷ []) c.loop-watch.known.marks c.args.at c.place-place.result c.loop-watch.last c.loop-watch.watch = walk_more c.args.known.now.count c.args.rules.now.rules (in_use c.args.owners.now c.args.enabled.now) c.loop-watch.heads c.loop-watch.links c.loop-watch.watched c.loop-watch.known.lits c.loop-watch.known.marks c.args.at c.place-place.result c.loop-watch.last c.loop-watch.watch x c.loop-watch.invariant.walk c.loop-watch.invariant.within in
+    let more : IsWalk c.args.known.now.count c.args.part.rules.now.rules (in_use c.args.part.owners.now c.args.part.enabled.now) c.loop-watch.heads c.loop-watch.links c.loop-watch.watched (c.loop-watch.known.lits ++ c.index-watched-beside.result ∷ []) c.loop-watch.known.marks c.args.at c.place-place.result c.loop-watch.last c.loop-watch.watch = walk_more c.args.known.now.count c.args.part.rules.now.rules (in_use c.args.part.owners.now c.args.part.enabled.now) c.loop-watch.heads c.loop-watch.links c.loop-watch.watched c.loop-watch.known.lits c.loop-watch.known.marks c.args.at c.place-place.result c.loop-watch.last c.loop-watch.watch x c.loop-watch.invariant.walk c.loop-watch.invariant.within in
     let there : is_fact (c.loop-watch.known.lits ++ x ∷ []) x ≡ true = pushed_known c.loop-watch.known.lits x in
-    let w = walk_past c.args.known.now.count c.args.rules.now.rules (in_use c.args.owners.now c.args.enabled.now) c.loop-watch.heads c.loop-watch.links c.loop-watch.watched (c.loop-watch.known.lits ++ c.index-watched-beside.result ∷ []) c.loop-watch.known.marks c.args.at c.place-place.result c.loop-watch.last c.loop-watch.watch more c.loop-watch-test.true (λ on. ap (is_fact (c.loop-watch.known.lits ++ x ∷ [])) (sym beside) ∙ there) in
+    let w = walk_past c.args.known.now.count c.args.part.rules.now.rules (in_use c.args.part.owners.now c.args.part.enabled.now) c.loop-watch.heads c.loop-watch.links c.loop-watch.watched (c.loop-watch.known.lits ++ c.index-watched-beside.result ∷ []) c.loop-watch.known.marks c.args.at c.place-place.result c.loop-watch.last c.loop-watch.watch more c.loop-watch-test.true (λ on. ap (is_fact (c.loop-watch.known.lits ++ x ∷ [])) (sym beside) ∙ there) in
     let long : length (c.loop-watch.known.lits ++ x ∷ []) ≡ length c.loop-watch.known.lits + 1 = length_push c.loop-watch.known.lits x in
     let P : Held → Type 0 = λ h. record {
-      walk : IsWalk c.args.known.now.count c.args.rules.now.rules (in_use c.args.owners.now c.args.enabled.now) c.loop-watch.heads c.loop-watch.links c.loop-watch.watched h.lits h.marks c.args.at c.place-place.result c.loop-watch.watch (get_or c.loop-watch.links c.loop-watch.watch 0);
-      grown : (all : List (List ℤ)) (used : ℕ → Bool) → IsPart all used c.args.base c.args.rules.now.rules (in_use c.args.owners.now c.args.enabled.now) → IsGrown all used c.args.known.now h;
+      walk : IsWalk c.args.known.now.count c.args.part.rules.now.rules (in_use c.args.part.owners.now c.args.part.enabled.now) c.loop-watch.heads c.loop-watch.links c.loop-watch.watched h.lits h.marks c.args.at c.place-place.result c.loop-watch.watch (get_or c.loop-watch.links c.loop-watch.watch 0);
+      grown : (all : List (List ℤ)) (used : ℕ → Bool) → IsPart all used c.args.part.base c.args.part.rules.now.rules (in_use c.args.part.owners.now c.args.part.enabled.now) → IsGrown all used c.args.known.now h;
       count : h.count ≡ c.args.known.now.count;
       within : c.args.at < length h.lits;
     } in
     subst P (sym e) (record {
       walk = w.0;
       grown = λ all used part.
-          let u : IsUsed all used (c.args.base + c.loop-watch.watch / 2) m.0 = used_among all used c.args.base c.args.rules.now.rules (in_use c.args.owners.now c.args.enabled.now) part (c.loop-watch.watch / 2) m.0 m.1 in
-          grown_push all used c.args.known.now c.loop-watch.known (c.args.base + c.loop-watch.watch / 2) m.0 x u m.2 (c.loop-watch.invariant.grown all used part);
+          let u : IsUsed all used (c.args.part.base + c.loop-watch.watch / 2) m.0 = used_among all used c.args.part.base c.args.part.rules.now.rules (in_use c.args.part.owners.now c.args.part.enabled.now) part (c.loop-watch.watch / 2) m.0 m.1 in
+          grown_push all used c.args.known.now c.loop-watch.known (c.args.part.base + c.loop-watch.watch / 2) m.0 x u m.2 (c.loop-watch.invariant.grown all used part);
       count = c.loop-watch.invariant.count;
       within = let k : c.args.at < length c.loop-watch.known.lits = c.loop-watch.invariant.within in omega arith;
     })
 
 pub loop-watch-smaller : goal.loop-watch-smaller
 loop-watch-smaller c =
-    let l : Looked c.args.rules.now.rules (in_use c.args.owners.now c.args.enabled.now) c.loop-watch.known.lits (c.loop-watch.watch / 2) c.index-watched-beside.result (Moves c.in-Moves.to) = c.in-Moves.ensures in
+    let l : Looked c.args.part.rules.now.rules (in_use c.args.part.owners.now c.args.part.enabled.now) c.loop-watch.known.lits (c.loop-watch.watch / 2) c.index-watched-beside.result (Moves c.in-Moves.to) = c.in-Moves.ensures in
     let m = looked_moves l in
     let beside : c.index-watched-beside.result ≡ literal_of c.loop-watch.watched (other c.loop-watch.watch) = beside_is (goal.at.loop-watch-smaller c).After-index-watched-beside in
     let Q : ℤ → Type 0 = λ b. AreTwoOf c.in-Moves.to b m.0 in
-    let over : is_over c.args.known.now.count m.0 ≡ true = clause_over c.args.known.now.count c.args.rules.now.rules (c.loop-watch.watch / 2) m.0 c.requires.over m.1.found in
+    let over : is_over c.args.known.now.count m.0 ≡ true = clause_over c.args.known.now.count c.args.part.rules.now.rules (c.loop-watch.watch / 2) m.0 c.requires.over m.1.found in
     let named : names_package c.args.known.now.count c.in-Moves.to ≡ true = all_member (names_package c.args.known.now.count) m.0 over c.in-Moves.to (of_others c.index-watched-beside.result c.in-Moves.to m.0 m.2.first) in
     let small : place_of c.in-Moves.to < 2 * c.args.known.now.count + 2 = place_within c.args.known.now.count c.in-Moves.to named in
-    let w = walk_moved c.args.known.now.count c.args.rules.now.rules (in_use c.args.owners.now c.args.enabled.now) c.loop-watch.heads c.loop-watch.links c.loop-watch.watched c.loop-watch.known.lits c.loop-watch.known.marks c.args.at c.place-place.result c.loop-watch.last c.loop-watch.watch c.in-Moves.to m.0 c.loop-watch.invariant.walk c.loop-watch-test.true (record { apart = c.keep_apart.ensures.apart }) m.3 (omega (arith, c.loop-watch.invariant.walk.room)) m.1.found (subst Q beside m.2) in
+    let w = walk_moved c.args.known.now.count c.args.part.rules.now.rules (in_use c.args.part.owners.now c.args.part.enabled.now) c.loop-watch.heads c.loop-watch.links c.loop-watch.watched c.loop-watch.known.lits c.loop-watch.known.marks c.args.at c.place-place.result c.loop-watch.last c.loop-watch.watch c.in-Moves.to m.0 c.loop-watch.invariant.walk c.loop-watch-test.true (record { apart = c.keep_apart.ensures.apart }) m.3 (omega (arith, c.loop-watch.invariant.walk.room)) m.1.found (subst Q beside m.2) in
     let links : c.rewatch.new.links ≡ set (links_past c.loop-watch.links c.loop-watch.last (get_or c.loop-watch.links c.loop-watch.watch 0)) c.loop-watch.watch (get_or (heads_past c.loop-watch.heads c.place-place.result c.loop-watch.last (get_or c.loop-watch.links c.loop-watch.watch 0)) (place_of c.in-Moves.to) 0) = c.rewatch.ensures.links in
     rw (links) (w.1)
 
 pub loop-watch-preserved : goal.loop-watch-preserved
 loop-watch-preserved c =
-    let l : Looked c.args.rules.now.rules (in_use c.args.owners.now c.args.enabled.now) c.loop-watch.known.lits (c.loop-watch.watch / 2) c.index-watched-beside.result (Moves c.in-Moves.to) = c.in-Moves.ensures in
+    let l : Looked c.args.part.rules.now.rules (in_use c.args.part.owners.now c.args.part.enabled.now) c.loop-watch.known.lits (c.loop-watch.watch / 2) c.index-watched-beside.result (Moves c.in-Moves.to) = c.in-Moves.ensures in
     let m = looked_moves l in
     let beside : c.index-watched-beside.result ≡ literal_of c.loop-watch.watched (other c.loop-watch.watch) = beside_is (goal.at.loop-watch-preserved c).After-index-watched-beside in
     let Q : ℤ → Type 0 = λ b. AreTwoOf c.in-Moves.to b m.0 in
-    let over : is_over c.args.known.now.count m.0 ≡ true = clause_over c.args.known.now.count c.args.rules.now.rules (c.loop-watch.watch / 2) m.0 c.requires.over m.1.found in
+    let over : is_over c.args.known.now.count m.0 ≡ true = clause_over c.args.known.now.count c.args.part.rules.now.rules (c.loop-watch.watch / 2) m.0 c.requires.over m.1.found in
     let named : names_package c.args.known.now.count c.in-Moves.to ≡ true = all_member (names_package c.args.known.now.count) m.0 over c.in-Moves.to (of_others c.index-watched-beside.result c.in-Moves.to m.0 m.2.first) in
     let small : place_of c.in-Moves.to < 2 * c.args.known.now.count + 2 = place_within c.args.known.now.count c.in-Moves.to named in
-    let w = walk_moved c.args.known.now.count c.args.rules.now.rules (in_use c.args.owners.now c.args.enabled.now) c.loop-watch.heads c.loop-watch.links c.loop-watch.watched c.loop-watch.known.lits c.loop-watch.known.marks c.args.at c.place-place.result c.loop-watch.last c.loop-watch.watch c.in-Moves.to m.0 c.loop-watch.invariant.walk c.loop-watch-test.true (record { apart = c.keep_apart.ensures.apart }) m.3 (omega (arith, c.loop-watch.invariant.walk.room)) m.1.found (subst Q beside m.2) in
+    let w = walk_moved c.args.known.now.count c.args.part.rules.now.rules (in_use c.args.part.owners.now c.args.part.enabled.now) c.loop-watch.heads c.loop-watch.links c.loop-watch.watched c.loop-watch.known.lits c.loop-watch.known.marks c.args.at c.place-place.result c.loop-watch.last c.loop-watch.watch c.in-Moves.to m.0 c.loop-watch.invariant.walk c.loop-watch-test.true (record { apart = c.keep_apart.ensures.apart }) m.3 (omega (arith, c.loop-watch.invariant.walk.room)) m.1.found (subst Q beside m.2) in
     let links : c.rewatch.new.links ≡ set (links_past c.loop-watch.links c.loop-watch.last (get_or c.loop-watch.links c.loop-watch.watch 0)) c.loop-watch.watch (get_or (heads_past c.loop-watch.heads c.place-place.result c.loop-watch.last (get_or c.loop-watch.links c.loop-watch.watch 0)) (place_of c.in-Moves.to) 0) = c.rewatch.ensures.links in
     record {
       walk = rw (c.rewatch.ensures.heads, links, c.rewatch.ensures.watched) (w.0);

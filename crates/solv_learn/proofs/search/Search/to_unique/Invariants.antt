@@ -15,7 +15,7 @@ invariant-loop-self l =
       count : l.self.marked.count ≡ l.initial.self.marked.count;
       ahead : l.self.lowest < l.place;
       within : l.place ≤ length l.known.lits;
-      collected : IsCollected l.known.lits l.first l.last (has l.self.marked) l.self.clause.items l.self.lowest;
+      collected : IsCollected l.known.lits l.choices.first l.choices.last (has l.self.marked) l.self.clause.items l.self.lowest;
       places : HavePlaces l.known.lits (has l.initial.self.marked) (has_place l.initial.self.marked) → HavePlaces l.known.lits (has l.self.marked) (has_place l.self.marked);
       refutes : (look : Hint → Option (List ℤ)) → Finds look rules (length l.book.rules) l.base → Refutes look (λ x. false) l.known.lits (length l.known.lits) (has l.initial.self.marked) (reverse l.initial.self.hints.items) → Refutes look (λ x. false) l.known.lits l.place (has l.self.marked) (reverse l.self.hints.items);
       in_use : (used : ℕ → Bool) → IsReasoned rules used l.known → list_all (is_in_use used (length l.book.rules) l.base (length rules)) l.initial.self.hints.items ≡ true → list_all (is_in_use used (length l.book.rules) l.base (length rules)) l.self.hints.items ≡ true;
