@@ -22,7 +22,7 @@ use Rattle.solv_remedy.specs.Inner.GivingBack.{IsRefutedOn}
 use Rattle.solv_remedy.specs.Inner.Resting.{IsSound, AreSound}
 use Rattle.solv_remedy.proofs.Back.{among_more}
 use Rattle.solv_remedy.proofs.Looked.{unsolvable_by, enabled_on}
-use Rattle.solv_remedy.proofs.Tried.{droppable_is, rested_fixed_or}
+use Rattle.solv_remedy.proofs.Tried.{fixed_not_off, rested_fixed_or}
 use Rattle.solv_plan.proofs.Leaning.{among_has}
 
 pub sound_more : (core : CoreOf) (logs : List RefutedRule) (one : RefutedRule) → AreSound core logs → IsSound core one.log → AreSound core (logs ++ one ∷ [])
@@ -30,19 +30,6 @@ sound_more core [] one h s = (s, tt)
 sound_more core (x ∷ logs) one h s = (h.0, sound_more core logs one h.1 s)
 
 module _ (r : Request) (asker : Asker) (core : CoreOf) (book : Written) (fixed : List Bool) (up : IsSetUp r asker core book fixed) (law : GoodLogsRefuteTheirRules) (own : List ℕ) (off : ℕ) (free : is_off_in fixed off ≡ true) where
-  -- a fixed rule is not the one that is off
-  fixed_not_off : (k : ℕ) → is_fixed_at r k ≡ true → not (k == off) ≡ true
-  fixed_not_off k h = elim (cases_Bool (k == off)) [
-    | inr other ↦ ap not other
-    | inl same ↦
-        let may : may_drop r k ≡ true = ap (may_drop r) (eqb-true k off same) ∙ ap (λ p. p off) (sym (droppable_is r asker core book fixed up)) ∙ free in
-        absurd (both (slice_get (rules_of r) k) h may)
-  ]
-    where
-      both : (o : Option HardRule) → elim o as (λ _. Bool) [ None ↦ false | Some z ↦ is_fixed z ] ≡ true → elim o as (λ _. Bool) [ None ↦ false | Some z ↦ not (is_fixed z) ] ≡ true → ⊥
-      both None a b = false≢true a
-      both (Some z) a b = false≢true (sym (ap not a) ∙ b)
-
   module _ (enabled : List Bool) (left : List ℕ) (size : length enabled ≡ length fixed)
       (on : (k : ℕ) → k < length fixed → is_enabled enabled k ≡ (((is_enabled fixed k || is_among own k) && not (k == off)) || is_among left k)) where
     pub log_kept : (one : RefutedRule) → IsSound core one.log → list_all (λ k. (k == one.rule) || is_enabled enabled k) (filter (is_off_in fixed) (owning book.owners (leaves one.log.steps))) ≡ true
@@ -63,7 +50,7 @@ module _ (r : Request) (asker : Asker) (core : CoreOf) (book : Written) (fixed :
 
         rests : (k : ℕ) → is_among (rested_on r.catalog (rules_of r) one.log.steps) k ≡ true → is_on r own off (left ++ one.rule ∷ []) k ≡ true
         rests k h = elim (or_cases (is_fixed_at r k) (is_among (filter (may_drop r) (rested_on r.catalog (rules_of r) one.log.steps)) k) (rested_fixed_or r asker core book fixed up one.log k (among_has (rested_on r.catalog (rules_of r) one.log.steps) k h))) [
-          | inl f ↦ or_left (fixed_and r own k && not (k == off)) (is_among (left ++ one.rule ∷ []) k) (and_from (fixed_and r own k) (not (k == off)) (or_left (is_fixed_at r k) (is_among own k) f) (fixed_not_off k f))
+          | inl f ↦ or_left (fixed_and r own k && not (k == off)) (is_among (left ++ one.rule ∷ []) k) (and_from (fixed_and r own k) (not (k == off)) (or_left (is_fixed_at r k) (is_among own k) f) (fixed_not_off r asker core book fixed up off free k f))
           | inr d ↦
               let P : List ℕ → Type 0 = λ l. list_all (λ k. (k == one.rule) || is_enabled enabled k) l ≡ true in
               let t = all_at (λ k. (k == one.rule) || is_enabled enabled k) (filter (may_drop r) (rested_on r.catalog (rules_of r) one.log.steps)) k (subst P rules_are all) (among_has (filter (may_drop r) (rested_on r.catalog (rules_of r) one.log.steps)) k d) in
