@@ -22,7 +22,7 @@ use Rattle.solv_remedy.specs.Inner.GivingBack.{IsRefutedOn}
 use Rattle.solv_remedy.specs.Inner.Resting.{IsSound, AreSound}
 use Rattle.solv_remedy.proofs.Back.{among_more}
 use Rattle.solv_remedy.proofs.Looked.{unsolvable_by, enabled_on}
-use Rattle.solv_remedy.proofs.Tried.{fixed_not_off, rested_fixed_or}
+use Rattle.solv_remedy.proofs.Tried.{droppable_is, fixed_not_off, rested_fixed_or}
 use Rattle.solv_plan.proofs.Leaning.{among_has}
 
 pub sound_more : (core : CoreOf) (logs : List RefutedRule) (one : RefutedRule) → AreSound core logs → IsSound core one.log → AreSound core (logs ++ one ∷ [])
