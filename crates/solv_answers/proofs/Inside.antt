@@ -43,7 +43,7 @@ use Rattle.solv_questions.proofs.Origins.{IsFrom, IsRequired, is_from}
 use Rattle.solv_questions.proofs.Placed.{record_there}
 use Rattle.solv_plan.proofs.Leaning.{among_has}
 use Rattle.solv_remedy.proofs.Listed.{well_placed}
-use Rattle.solv_leaving.specs.Leaving.{LeavesOut, is_plainly_met, asks_plainly, has_some, leaving}
+use Rattle.solv_leaving.specs.Leaving.{LeavesOut, is_plainly_met, asks_plainly, leaving}
 use Rattle.solv_leaving.proofs.Made.{selects_all}
 use Rattle.solv_leaving.proofs.Within.{within, holds_within, some_within, none_within, as_within, out_within, two_within}
 
@@ -52,7 +52,7 @@ passes_wider : {X : Type 0} (o : Option X) (f g : X → Bool) → ((x : X) → f
 passes_wider None f g wide h = h
 passes_wider (Some x) f g wide h = wide x h
 
-some_there : {X : Type 0} (f : X → Bool) (xs : List X) → list_any f xs ≡ true → has_some xs ≡ true
+some_there : {X : Type 0} (f : X → Bool) (xs : List X) → list_any f xs ≡ true → list_any (λ x. true) xs ≡ true
 some_there f [] h = h
 some_there f (x ∷ xs) h = refl
 
@@ -261,7 +261,7 @@ module _ (catalog : Catalog) (flags : Flags) (jobs : List Job) (marks : Marks) (
                 let two = and_parts (same_name catalog p q) _ f.1 in
                 let three = and_parts _ _ two.1 in
                 let four = and_parts (not (is_installed catalog q)) (is_supplementing catalog known q) three.1 in
-                ap not (out.offered q (passes_wider (package_at catalog q) (λ a. list_any (λ d. holds catalog (dependency catalog d) (set_of known)) a.supplements) (λ a. has_some a.supplements) (λ a s. some_there (λ d. holds catalog (dependency catalog d) (set_of known)) a.supplements s) four.1)))
+                ap not (out.offered q (passes_wider (package_at catalog q) (λ a. list_any (λ d. holds catalog (dependency catalog d) (set_of known)) a.supplements) (λ a. list_any (λ x. true) a.supplements) (λ a s. some_there (λ d. holds catalog (dependency catalog d) (set_of known)) a.supplements s) four.1)))
             | inr n ↦ absurd n
           ]
 

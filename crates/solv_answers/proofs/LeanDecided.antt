@@ -21,7 +21,8 @@ use Rattle.solv_questions.specs.Questions.{asks, request_of}
 use Rattle.solv_decide.specs.Deciding.{IsRefuted, IsSolution}
 use Rattle.solv_decide.specs.Inner.Deciding.{IsAskedFor, IsDecided}
 use Rattle.solv_decide.specs.declared.deciding.Decided.{Decided}
-use Rattle.solv_answers.specs.Answers.{all_made, made_asks, made_core, made_request}
+use Rattle.solv_answers.specs.Answers.{all_made, made_core, made_request}
+use Rattle.solv_questions.specs.Questions.{asks}
 use Rattle.solv_answers.specs.Inner.Lean.{HasDecidedLean, IsLean}
 use Rattle.solv_answers.specs.declared.lean.Lean.{Lean}
 
@@ -51,7 +52,7 @@ module _ (task : Task) (lean : Lean) (is : IsLean task lean) where
       → HasDecidedLean task lean decided
   decided_lean budget decided budget_is few asked held core runs good spent so =
       let G : Marks → Type 0 = λ m. IsGoodLedger lean.book.clauses lean.book.owners (length task.universe.packages) (asks (request_of task m)) decided.ledger in
-      let C : CoreOf → Type 0 = λ c. IsGoodLedger c.clauses c.owners c.packages (made_asks task left) decided.ledger in
+      let C : CoreOf → Type 0 = λ c. IsGoodLedger c.clauses c.owners c.packages (asks (made_request task left)) decided.ledger in
       let A : Marks → Type 0 = λ m. IsAskedFor (request_of task m) decided.phases decided.core.made in
       let M : Marks → Type 0 = λ m. IsDecided (request_of task m) (replicate (length lean.book.rules.list) true) book_core decided.verdict in
       let E : List Bool → Type 0 = λ l. IsDecided (made_request task left) l book_core decided.verdict in

@@ -26,7 +26,8 @@ use Rattle.solv_trans.specs.Edges.{edge, pre_edge}
 use Rattle.solv_trans.specs.Orders.{IsOrdered}
 use Rattle.solv_trans.specs.declared.ordering.Ordered.{Ordered}
 use Rattle.solv_leaving.specs.Leaving.{LeavesOut}
-use Rattle.solv_answers.specs.Answers.{all_made, made_asks, made_request, made_rules, meets_hard_rules, IsTransaction}
+use Rattle.solv_answers.specs.Answers.{all_made, made_request, made_rules, meets_hard_rules, IsTransaction}
+use Rattle.solv_questions.specs.Questions.{asks}
 use Rattle.solv_answers.proofs.Enabled.{all_rules}
 use Rattle.solv_answers.proofs.Meeting.{made_agree}
 use Rattle.solv_answers.proofs.Trails.{all_met}
@@ -35,7 +36,7 @@ use Rattle.solv_answers.proofs.Chosen.{same_test, member_list}
 module _ (task : Task) (left : List Bool) (out : LeavesOut (catalog_of task) task.flags task.jobs (marks_of task) left) (say : ClausesSayTheRule) (bookable : list_all (is_bookable (catalog_of task)) (made_rules task left) ≡ true)
     (trail : Trail) (found : IsSolution (made_request task left) (all_made task left) trail) (set : List ℕ) (of_trail : IsSetOf trail.events set) where
   abbrev all_of : List HardRule → Type 0
-  all_of rules = IsGoodTrail (length task.universe.packages) (flat_map (rule_clauses (catalog_of task)) rules) (λ known. made_asks task left known (all_made task left)) trail.events
+  all_of rules = IsGoodTrail (length task.universe.packages) (flat_map (rule_clauses (catalog_of task)) rules) (λ known. asks (made_request task left) known (all_made task left)) trail.events
 
   good_trail : all_of (made_rules task left)
   good_trail = subst all_of (all_rules (made_rules task left)) found.good

@@ -3,7 +3,7 @@ use Rattle.std.proofs.Common.{◌≡◌, ℕ, Bool, true, false, List, [], ◌�
 use Rattle.solv_list.proofs.Booleans.{false_of_not}
 use Rattle.solv_pool.specs.declared.tasks.Task.{Task}
 use Rattle.solv_core.specs.declared.ledger.Ledger.{Ledger}
-use Rattle.solv_leaving.specs.Leaving.{has_some}
+use Rattle.std.specs.List.{list_any}
 use Rattle.solv_remedy.specs.declared.problems.Problem.{Problem}
 use Rattle.solv_answers.specs.Answers.{AreProblems, IsAnswered, is_whole}
 use Rattle.solv_answers.specs.declared.answers.Answer.TheVariants.{Problems}
@@ -13,8 +13,8 @@ pub whole_problems : (task : Task) (budget : ℕ) (left : List Bool) (problems :
     → AreProblems task [] problems
 whole_problems task budget left problems ledger is whole =
     let A : List Bool → Type 0 = λ l. AreProblems task l problems in
-    subst A (sym (is.told refl) ∙ empty left (false_of_not (has_some left) whole)) is.is
+    subst A (sym (is.told refl) ∙ empty left (false_of_not (list_any (λ b. true) left) whole)) is.is
   where
-    empty : (l : List Bool) → has_some l ≡ false → l ≡ []
+    empty : (l : List Bool) → list_any (λ b. true) l ≡ false → l ≡ []
     empty [] h = refl
     empty (x ∷ l) h = absurd (cc)

@@ -1,7 +1,7 @@
 -- What is left out, by the tables of a search.
 use Rattle.std.proofs.Common.{◌≡◌, ℕ, zero, suc, ◌+◌, ◌<◌, ◌≤◌, Bool, true, false, ◌&&◌, List, [], ◌∷◌, length, inl, inr, refl, ◌∙◌, arith, eqb, eq-eqb, Option, Some, None}
 use Rattle.std.specs.Prelude.{not}
-use Rattle.std.specs.List.{list_all}
+use Rattle.std.specs.List.{list_all, list_any}
 use Rattle.std.proofs.lemmas.Bool.{and_from, false≢true, or_left, or_right, cases_lt}
 use Rattle.solv_pool.specs.Words.{is_among, passes}
 use Rattle.solv_pool.specs.Catalog.{Catalog, packages, package_at, is_installed}
@@ -15,8 +15,8 @@ use Rattle.solv_pool.specs.declared.tasks.Flags.{Flags}
 use Rattle.solv_clean.specs.Inner.Tables.{is_marked}
 use Rattle.solv_clean.proofs.Reached.{marked_is}
 use Rattle.solv_clean.proofs.Told.{installed_there}
-use Rattle.solv_leaving.specs.Leaving.{LeavesOut, asks_plainly, has_some, is_met_alone}
-use Rattle.solv_leaving.specs.Inner.Starting.{AreStarts, kept_by, stands_alone}
+use Rattle.solv_leaving.specs.Leaving.{LeavesOut, asks_plainly}
+use Rattle.solv_leaving.specs.Inner.Starting.{AreStarts, kept_by, stands_alone, is_met_alone}
 
 marked_past : (M : List Bool) (q : ℕ) → length M ≤ q → marked M q ≡ false
 marked_past [] q le = refl
@@ -68,7 +68,7 @@ module _ (catalog : Catalog) (flags : Flags) (jobs : List Job) (marks : Marks) w
           let high : p < length starts = omega (arith, there.1, are.size) in
           are.starts p q there.0 high lt (or_left (kept_by catalog flags marks p q) (eqb p q && passes (package_at catalog p) (stands_alone catalog)) (and_from (is_installed catalog p) (is_among (feature_candidates catalog flags marks p) q) h k)));
       selected = λ q h. out_by q (λ low lt. are.selected q low lt h);
-      offered = λ q h. alone_out q (wider (package_at catalog q) (λ a. has_some a.supplements) (stands_alone catalog) (λ a k. or_left (has_some a.supplements) (not (is_met_alone catalog a)) k) h);
-      rich = λ q h. alone_out q (wider (package_at catalog q) (λ a. not (is_met_alone catalog a)) (stands_alone catalog) (λ a k. or_right (has_some a.supplements) (not (is_met_alone catalog a)) k) h);
+      offered = λ q h. alone_out q (wider (package_at catalog q) (λ a. list_any (λ d. true) a.supplements) (stands_alone catalog) (λ a k. or_left (list_any (λ d. true) a.supplements) (not (is_met_alone catalog a)) k) h);
+      rich = λ q h. alone_out q (wider (package_at catalog q) (λ a. not (is_met_alone catalog a)) (stands_alone catalog) (λ a k. or_right (list_any (λ d. true) a.supplements) (not (is_met_alone catalog a)) k) h);
       needed = needed;
     }

@@ -1,6 +1,6 @@
 -- Packages that nothing can ask for. Of what they require no rules are made, since no set that answers a task holds them.
 use Rattle.std.specs.Prelude.{ℕ, ◌≡◌, Bool, true, false, not, ◌&&◌, ◌||◌, List, [], ◌∷◌}
-use Rattle.std.specs.List.{list_all}
+use Rattle.std.specs.List.{list_all, list_any}
 use Rattle.solv_base.specs.Dependency.{Dep, and, or, if_holds, joined, under, under_else, missing, package_wise}
 use Rattle.solv_pool.specs.Words.{is_among, passes}
 use Rattle.solv_pool.specs.Catalog.{Catalog, packages, package_at, dependency, is_installed}
@@ -29,18 +29,9 @@ module _ (catalog : Catalog) where
   abbrev pub asks_plainly : Package → Bool
   asks_plainly a = list_all (λ d. is_plainly_met (dependency catalog d)) (asked_by a) && list_all (λ d. package_wise (dependency catalog d)) a.conflicts
 
-  -- packages meet its requirements alone
-  abbrev pub is_met_alone : Package → Bool
-  is_met_alone a = list_all (λ need. package_wise (dependency catalog need.dep)) a.requires_
-
 -- the marks with these packages left out
 abbrev pub leaving : Marks → List Bool → Marks
 leaving marks left = record marks { left_out = left }
-
--- something is in the list
-abbrev pub has_some : {X : Type 0} → List X → Bool
-has_some [] = false
-has_some (x ∷ xs) = true
 
 -- Which packages are left out: neither the system, nor what may stand in the place of an installed package, what an install job selects, what supplements something,
 -- what has a requirement that packages do not meet alone, and what serves a package that is not left out. None is, where a condition could ask for something.
@@ -49,6 +40,6 @@ pub record LeavesOut (catalog : Catalog) (flags : Flags) (jobs : List Job) (mark
   pub system : marked left 0 ≡ false
   pub kept : (p q : ℕ) → is_installed catalog p ≡ true → is_among (feature_candidates catalog flags marks p) q ≡ true → marked left q ≡ false
   pub selected : (q : ℕ) → job_selects catalog jobs (acts Install) q ≡ true → marked left q ≡ false
-  pub offered : (q : ℕ) → passes (package_at catalog q) (λ a. has_some a.supplements) ≡ true → marked left q ≡ false
-  pub rich : (q : ℕ) → passes (package_at catalog q) (λ a. not (is_met_alone catalog a)) ≡ true → marked left q ≡ false
+  pub offered : (q : ℕ) → passes (package_at catalog q) (λ a. list_any (λ d. true) a.supplements) ≡ true → marked left q ≡ false
+  pub rich : (q : ℕ) → passes (package_at catalog q) (λ a. not (list_all (λ need. package_wise (dependency catalog need.dep)) a.requires_)) ≡ true → marked left q ≡ false
   pub needed : (p q : ℕ) → is_among (packages catalog) p ≡ true → marked left p ≡ false → serves_package catalog q p ≡ true → marked left q ≡ false

@@ -11,9 +11,9 @@ use Rattle.std.proofs.lemmas.Cmp.{tied_itself, upto, on_total}
 use Rattle.solv_base.specs.Evr.{evr_cmp}
 use Rattle.solv_pool.specs.Best.{evr_of, compare_evrs}
 use Rattle.solv_pool.specs.Catalog.{Catalog, packages, same_name}
-use Rattle.solv_trans.specs.Changes.{greatest, partner}
+use Rattle.solv_trans.specs.Changes.{partner}
 use Rattle.solv_trans.specs.Moving.{comes}
-use Rattle.solv_trans.specs.Inner.Order.{greatest_from}
+use Rattle.solv_trans.specs.Inner.Order.{greatest_from, greatest}
 use Rattle.solv_list.proofs.Booleans.{true_is_not_false, true_or_false}
 use Rattle.solv_list.proofs.Lists.{filter_twice}
 

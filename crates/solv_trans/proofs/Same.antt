@@ -8,7 +8,8 @@ use Rattle.solv_pool.specs.Providing.{obsoletes}
 use Rattle.solv_pool.specs.TaskBelonging.{is_pack}
 use Rattle.solv_trans.specs.declared.kinds.Change.{Change}
 use Rattle.solv_trans.specs.declared.kinds.Change.TheVariants.{Install, Erase, Obsolete}
-use Rattle.solv_trans.specs.Changes.{greatest, partner, obsoleter, line_of, lines_of_leaving, changes}
+use Rattle.solv_trans.specs.Inner.Order.{greatest}
+use Rattle.solv_trans.specs.Changes.{partner, obsoleter, line_of, lines_of_leaving, changes}
 use Rattle.solv_trans.specs.Inner.Changes.{change_to, leaves, is_installed_anew}
 use Rattle.solv_trans.specs.Moving.{comes}
 use Rattle.solv_trans.specs.Effects.{is_brought}

@@ -15,10 +15,6 @@ use Rattle.solv_trans.specs.declared.kinds.Change.{Change}
 use Rattle.solv_trans.specs.declared.kinds.Change.TheVariants.{Install, Erase, Upgrade, Downgrade, Alter, Reinstall, Obsolete}
 
 module _ (catalog : Catalog) where
-  -- the first of a list with the greatest EVR: no other has a greater one
-  abbrev pub greatest : List ℕ → Option ℕ
-  greatest list = find (λ q. not (list_any (λ r. is_gt (compare_evrs catalog r q)) list)) list
-
   -- q, of p's name, comes for p: by the order of q's EVR to p's; of one EVR the same build is installed anew, and another one is a change
   abbrev pub change_by : ℕ → ℕ → Ordering → Change
   change_by p q Greater = Upgrade p q
@@ -26,9 +22,11 @@ module _ (catalog : Catalog) where
   change_by p q Equal = if same_build catalog p q then Reinstall p q else Alter p q
 
 module _ (catalog : Catalog) (set : ℕ → Bool) where
-  -- of the packages of p's name that come the one with the greatest EVR, of equal ones the lowest number
+  -- of the packages of p's name that come the one with the greatest EVR: the first that none exceeds
   abbrev pub partner : ℕ → Option ℕ
-  partner p = greatest catalog (filter (λ q. comes catalog set q && same_name catalog p q) (packages catalog))
+  partner p =
+      let these = filter (λ q. comes catalog set q && same_name catalog p q) (packages catalog) in
+      find (λ q. not (list_any (λ r. is_gt (compare_evrs catalog r q)) these)) these
 
   -- the lowest package of the set that obsoletes p
   abbrev pub obsoleter : ℕ → Option ℕ

@@ -1,7 +1,9 @@
 -- From where it is asked: the packages that may be taken by themselves, for inner contracts alone.
 use Rattle.std.specs.Prelude.{◌≡◌, ℕ, ◌<◌, ◌+◌, Bool, true, not, ◌&&◌, ◌||◌, ◌==◌, List, length}
+use Rattle.std.specs.List.{list_all, list_any}
+use Rattle.solv_base.specs.Dependency.{package_wise}
 use Rattle.solv_pool.specs.Words.{is_among, passes}
-use Rattle.solv_pool.specs.Catalog.{Catalog, package_at, is_installed}
+use Rattle.solv_pool.specs.Catalog.{Catalog, package_at, dependency, is_installed}
 use Rattle.solv_pool.specs.HardRules.{feature_candidates}
 use Rattle.solv_pool.specs.JobKinds.{job_selects}
 use Rattle.solv_pool.specs.Inner.JobKinds.{is_install}
@@ -10,7 +12,6 @@ use Rattle.solv_pool.specs.declared.job_marks.Marks.{Marks}
 use Rattle.solv_pool.specs.declared.packages.Package.{Package}
 use Rattle.solv_pool.specs.declared.tasks.Flags.{Flags}
 use Rattle.solv_clean.specs.Inner.Tables.{is_marked}
-use Rattle.solv_leaving.specs.Leaving.{has_some, is_met_alone}
 
 -- what was marked is marked, and so is each of these that has an entry
 pub record AreMarked (these : ℕ → Bool) (old new : List Bool) : Type 0 where
@@ -19,9 +20,13 @@ pub record AreMarked (these : ℕ → Bool) (old new : List Bool) : Type 0 where
   pub marks : (q : ℕ) → q < length old → these q ≡ true → is_marked new q ≡ true
 
 module _ (catalog : Catalog) where
+  -- packages meet its requirements alone
+  abbrev pub is_met_alone : Package → Bool
+  is_met_alone a = list_all (λ need. package_wise (dependency catalog need.dep)) a.requires_
+
   -- it supplements something, or packages do not meet its requirements alone
   abbrev pub stands_alone : Package → Bool
-  stands_alone a = has_some a.supplements || not (is_met_alone catalog a)
+  stands_alone a = list_any (λ d. true) a.supplements || not (is_met_alone a)
 
   module _ (flags : Flags) (marks : Marks) where
     -- q may stand in the place of p, which is installed
