@@ -1,6 +1,6 @@
 -- What is written by the grammar is read as what it means.
 use Rattle.std.proofs.Common.{◌≡◌, ℕ, ◌+◌, ◌<◌, ◌≤◌, Bool, true, false, ◌&&◌, List, [], ◌∷◌, ◌++◌, length, Option, Some, None, Ok, refl, sym, ap, ◌∙◌, arith, append_assoc, append-nil, add-zero, nat_le, not}
-use Rattle.std.specs.Prelude.{max, is_some, unwrap_or, codes, is_none, if◌then◌else◌}
+use Rattle.std.specs.Prelude.{max, is_some, unwrap_or, codes, if◌then◌else◌}
 use Rattle.std.proofs.lemmas.Bool.Decides.{nat_tests}
 use Rattle.solv_base.specs.declared.comparison.Cmp.{Cmp}
 use Rattle.solv_base.specs.Dependency.{Dep, versioned, one, joined}
@@ -9,8 +9,13 @@ use Rattle.solv_deps.specs.declared.sign.Joint.TheVariants.{Both, Either, Jointl
 use Rattle.solv_deps.specs.declared.sign.Operator.{Operator}
 use Rattle.solv_deps.specs.declared.sign.Conditional.TheVariants.{If, Unless}
 use Rattle.solv_deps.specs.declared.sign.Operator.TheVariants.{Link, Minus, Condition, Else}
-use Rattle.solv_deps.specs.Grammar.{operator, comparison, no_comparison, opens, closes, is_plain, is_namespace, named, connective_of, Spelling, by_sign, by_word, spelled, operator_spelled, sign, Operand, Chain, Expr, name, compared, inside, two, more, alone, chain, less, provided, provided_else, provided_inside, operand_words, chain_words, expr_words, operand_sense, chain_sense, expr_sense, operand_right, chain_right, expr_right, operand_depth, chain_depth, expr_depth, operand_operators, chain_operators, expr_operators}
-use Rattle.solv_deps.specs.Reading.{Hand, nothing, in_chain, in_difference, in_condition, in_else, in_inner_else, Due, operand_due, evr_due, operator_due, Point, whole, goes_on, reading_from, reading, and_then, comparison_due, at_operator}
+use Rattle.solv_deps.specs.Inner.Signs.{operator, opens, written_by as spelled}
+use Rattle.solv_deps.specs.Grammar.{comparison, is_plain, is_namespace, named}
+use Rattle.solv_deps.specs.Expressions.{no_comparison, connective_of, Spelling, by_sign, by_word, Operand, Chain, Expr, name, compared, inside, two, more, alone, chain, less, provided, provided_else, provided_inside, operand_words, chain_words, expr_words, operand_sense, chain_sense, expr_sense, operand_right, chain_right, expr_right, operand_depth, chain_depth, expr_depth, operand_operators, chain_operators, expr_operators}
+use Rattle.solv_deps.specs.Inner.Reading.{Hand, nothing, in_chain, in_difference, in_condition, in_else, in_inner_else, Due, operand_due, evr_due, operator_due, Point, whole, goes_on, reading_from, comparison_due, at_operator}
+use Rattle.solv_deps.specs.Reading.{reading, and_then}
+use Rattle.solv_deps.specs.Inner.Reading.{reading_by_rules}
+use Rattle.solv_deps.proofs.SameReading.{same_reading}
 use Rattle.solv_list.proofs.Booleans.{false_of_not, first_of_both, second_of_both}
 
 abbrev pub point : List Hand → ℕ → Due → Point
@@ -53,7 +58,7 @@ choose_second false r x y z h = rw h refl
 plain_step : (outer : List Hand) (n : ℕ) (h : Hand) (w : List ℕ) (rest : List (List ℕ)) → is_plain w ≡ true
     → reading_from (point outer n (operand_due h)) (w ∷ rest) ≡ reading_from (point outer n (operator_due h (if is_namespace w then None else Some w) (named w))) rest
 plain_step outer n h w rest p =
-    ap (λ r. and_then r (λ q. reading_from q rest)) (choose_second (opens w) (not (closes w) && (is_none (operator_spelled sign w) && is_none (comparison w))) _ _ _ p)
+    ap (λ r. and_then r (λ q. reading_from q rest)) (choose_second (opens w) _ _ _ _ p)
 
 evr_step : (outer : List Hand) (n : ℕ) (h : Hand) (w : List ℕ) (c : Cmp) (e : List ℕ) (rest : List (List ℕ)) → is_plain e ≡ true
     → reading_from (point outer n (evr_due h w c)) (e ∷ rest) ≡ reading_from (point outer n (operator_due h None (one (versioned w c e)))) rest
@@ -244,6 +249,7 @@ whole_is (provided_inside k a s b t c) = refl
 -- the words of what is written by the grammar, within the limits, are read as what it means
 pub written_is_read : (x : Expr) → expr_right x ≡ true → expr_operators x ≤ 64 → expr_depth x ≤ 64 → reading (expr_words x) ≡ Ok (expr_sense x)
 written_is_read x r lo ld =
-    ap reading (sym (append-nil (expr_words x)))
+    same_reading (expr_words x)
+    ∙ ap reading_by_rules (sym (append-nil (expr_words x)))
     ∙ expr_reads x r [] 0 [] (omega arith) (omega arith)
     ∙ ap Ok (whole_is x)

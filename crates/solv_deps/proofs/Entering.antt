@@ -11,7 +11,8 @@ use Rattle.solv_base.specs.Pool.{Held, HasOneId, most, is_name, name_id, with_na
 use Rattle.solv_base.proofs.Places.{place_found, absent}
 use Rattle.solv_base.proofs.Pools.{same_relation, relation_itself}
 use Rattle.solv_deps.specs.declared.fault.DepFault.TheVariants.{FullRelations}
-use Rattle.solv_deps.specs.Entering.{is_relation, relation_id, text_entered, relation_entered}
+use Rattle.solv_deps.specs.Inner.Entering.{is_relation, relation_id}
+use Rattle.solv_deps.specs.Entering.{text_entered, relation_entered}
 use Rattle.solv_deps.specs.Inner.Entering.{IsRefusal, refusal}
 use Rattle.solv_list.proofs.Lists.{at_end, place_none, place_within}
 

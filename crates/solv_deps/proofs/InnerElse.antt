@@ -3,7 +3,7 @@ use Rattle.std.proofs.Common.{◌≡◌, ℕ, Bool, true, false, ◌&&◌, List,
 use Rattle.solv_base.specs.Dependency.{Dep}
 use Rattle.solv_deps.specs.declared.outer.Rule.{Rule}
 use Rattle.solv_deps.specs.declared.outer.Rule.TheVariants.{Nothing, Chain, Difference, Condition, Else, InnerElse}
-use Rattle.solv_deps.specs.Reading.{inner_else}
+use Rattle.solv_deps.specs.Inner.Reading.{inner_else}
 use Rattle.solv_deps.specs.Inner.Points.{rule_hand, hands, rule_in, rules_in}
 
 inner_alone : (at : ℕ → Dep (List ℕ)) (r : Rule) (o : List Rule) (b : Dep (List ℕ)) → inner_else (hands at (r ∷ o)) b ≡ inner_else (rule_hand at r ∷ []) b

@@ -2,7 +2,8 @@
 use Rattle.std.proofs.Common.{◌≡◌, ℕ, zero, suc, ◌+◌, ◌<◌, ◌≤◌, true, false, ◌||◌, List, [], ◌∷◌, length, drop, take, refl, sym, ap, ◌∙◌, arith, get_or, add-one}
 use Rattle.std.specs.Prelude.{if◌then◌else◌}
 use Rattle.solv_io.specs.Words.{is_blank}
-use Rattle.solv_deps.specs.Words.{is_open, is_close, ends_word, unpaired_after, word_rest, after_first, words_behind, words}
+use Rattle.solv_deps.specs.Words.{is_open, is_close, ends_word, unpaired_after, word_rest, words_behind, words}
+use Rattle.solv_deps.specs.Inner.Words.{after_first}
 use Rattle.solv_deps.specs.Inner.Words.{word_length, blanks}
 
 pub behind : (k : ℕ) (t : List ℕ) → words_behind k t ≡ words (drop k t)

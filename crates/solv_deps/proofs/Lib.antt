@@ -1,3 +1,4 @@
+pub mod SameReading
 pub mod Drafts
 pub mod InnerElse
 pub mod Entering

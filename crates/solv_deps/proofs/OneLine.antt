@@ -5,19 +5,21 @@ use Rattle.std.specs.List.{list_all}
 use Rattle.std.proofs.lemmas.Bool.{and_from}
 use Rattle.solv_io.specs.Words.{is_blank}
 use Rattle.solv_base.specs.declared.comparison.Cmp.{Cmp}
-use Rattle.solv_base.specs.Dependency.{Dep, plain, versioned, one, namespace, joined, under, under_else, missing}
-use Rattle.solv_deps.specs.Canonical.{comparison_text, is_rich, is_chain, space_before_close, parenthesised, operand_text, spaced, joining_operator, conditional, text}
-use Rattle.solv_deps.specs.Grammar.{named, is_namespace, spelled, Operand, Chain, Expr, name, compared, inside, two, more, alone, chain, less, provided, provided_else, provided_inside, operand_words, chain_words, expr_words, operand_sense, chain_sense, expr_sense}
+use Rattle.solv_base.specs.Dependency.{Dep, plain, versioned, one, namespace, and, or, with, without, if_holds, unless_holds, joined, under, under_else, missing}
+use Rattle.solv_deps.proofs.Printed.{parenthesised}
+use Rattle.solv_deps.specs.Canonical.{comparison_text, is_rich, space_before_close, operand_text, spaced, text}
+use Rattle.solv_deps.specs.Grammar.{Operator, joins, conditions, otherwise, is_chain}
+use Rattle.solv_deps.specs.Grammar.{named, is_namespace}
+use Rattle.solv_deps.specs.Inner.Signs.{written_by as spelled}
+use Rattle.solv_deps.specs.Expressions.{Operand, Chain, Expr, name, compared, inside, two, more, alone, chain, less, provided, provided_else, provided_inside, operand_words, chain_words, expr_words, operand_sense, chain_sense, expr_sense}
 use Rattle.solv_deps.specs.Laws.{PrintedIsOneLine, ReadIsWritten, Spells}
 use Rattle.solv_deps.specs.Reading.{and_then, reading}
 use Rattle.solv_deps.specs.Table.{stands_at}
-use Rattle.solv_deps.specs.Words.{after_first, words_behind, words}
+use Rattle.solv_deps.specs.Inner.Words.{after_first}
+use Rattle.solv_deps.specs.Words.{words_behind, words}
 use Rattle.solv_deps.specs.declared.fault.DepFault.{DepFault}
 use Rattle.solv_deps.specs.declared.fault.DepFault.TheVariants.{OperatorNotHere}
 use Rattle.solv_deps.specs.declared.sign.Joint.{Joint}
-use Rattle.solv_deps.specs.declared.sign.Joint.TheVariants.{Both, Either, Jointly}
-use Rattle.solv_deps.specs.declared.sign.Conditional.TheVariants.{If, Unless}
-use Rattle.solv_deps.specs.declared.sign.Operator.{Operator}
 use Rattle.solv_deps.specs.declared.sign.Operator.TheVariants.{Link, Minus, Condition, Else}
 use Rattle.solv_list.proofs.Booleans.{first_of_both, second_of_both}
 use Rattle.solv_list.proofs.Lists.{list_all_join, all_left, all_right, all_taken}
@@ -111,13 +113,13 @@ cmp_lined c = of c.less c.greater c.equal
     of false false false = refl
 
 sign_lined : (o : Operator) → is_line (spaced o) ≡ true
-sign_lined (Link Both) = refl
-sign_lined (Link Either) = refl
-sign_lined (Link Jointly) = refl
-sign_lined Minus = refl
-sign_lined (Condition If) = refl
-sign_lined (Condition Unless) = refl
-sign_lined Else = refl
+sign_lined (joins and) = refl
+sign_lined (joins or) = refl
+sign_lined (joins with) = refl
+sign_lined (joins without) = refl
+sign_lined (conditions if_holds) = refl
+sign_lined (conditions unless_holds) = refl
+sign_lined otherwise = refl
 
 inside_lined : (space : Bool) (t : List ℕ) → is_line t ≡ true → is_line (parenthesised space t) ≡ true
 inside_lined true t h = join t (codes " )") h refl
@@ -130,19 +132,19 @@ pair_lined : (bare : Bool) (o : Operator) (a b : Dep (List ℕ)) (s t : List ℕ
 pair_lined bare o a b s t h k = join (operand_text bare a s) (spaced o ++ operand_text false b t) (bare_lined bare a s h) (join (spaced o) (operand_text false b t) (sign_lined o) (bare_lined false b t k))
 
 triple_lined : (o : Operator) (a b c : Dep (List ℕ)) (s t u : List ℕ) → is_line s ≡ true → is_line t ≡ true → is_line u ≡ true
-    → is_line (operand_text false a s ++ (spaced o ++ (operand_text false b t ++ (spaced Else ++ operand_text false c u)))) ≡ true
+    → is_line (operand_text false a s ++ (spaced o ++ (operand_text false b t ++ (spaced otherwise ++ operand_text false c u)))) ≡ true
 triple_lined o a b c s t u h k l =
-    join (operand_text false a s) _ (bare_lined false a s h) (join (spaced o) _ (sign_lined o) (pair_lined false Else b c t u k l))
+    join (operand_text false a s) _ (bare_lined false a s h) (join (spaced o) _ (sign_lined o) (pair_lined false otherwise b c t u k l))
 
 text_lined : (d : Dep (List ℕ)) → lined d ≡ true → is_line (text d) ≡ true
 text_lined (one (plain w)) h = h
 text_lined (one (versioned w c e)) h = join w (32 ∷ (comparison_text c ++ 32 ∷ e)) (first_of_both (is_line w) (is_line e) h) (join (comparison_text c) (32 ∷ e) (cmp_lined c) (second_of_both (is_line w) (is_line e) h))
 text_lined (namespace w) h = h
-text_lined (joined j a b) h = pair_lined (is_chain j a) (joining_operator j) a b (text a) (text b) (text_lined a (first_of_both (lined a) (lined b) h)) (text_lined b (second_of_both (lined a) (lined b) h))
-text_lined (under k a b) h = pair_lined false (Condition (conditional k)) a b (text a) (text b) (text_lined a (first_of_both (lined a) (lined b) h)) (text_lined b (second_of_both (lined a) (lined b) h))
+text_lined (joined j a b) h = pair_lined (is_chain j a) (joins j) a b (text a) (text b) (text_lined a (first_of_both (lined a) (lined b) h)) (text_lined b (second_of_both (lined a) (lined b) h))
+text_lined (under k a b) h = pair_lined false (conditions k) a b (text a) (text b) (text_lined a (first_of_both (lined a) (lined b) h)) (text_lined b (second_of_both (lined a) (lined b) h))
 text_lined (under_else k a b c) h =
     let r = second_of_both (lined a) (lined b && lined c) h in
-    triple_lined (Condition (conditional k)) a b c (text a) (text b) (text c) (text_lined a (first_of_both (lined a) (lined b && lined c) h)) (text_lined b (first_of_both (lined b) (lined c) r)) (text_lined c (second_of_both (lined b) (lined c) r))
+    triple_lined (conditions k) a b c (text a) (text b) (text c) (text_lined a (first_of_both (lined a) (lined b && lined c) h)) (text_lined b (first_of_both (lined b) (lined c) r)) (text_lined c (second_of_both (lined b) (lined c) r))
 text_lined missing h = refl
 
 read_is : (fits : Dep (List ℕ) → Bool) (r : Result (Dep (List ℕ)) DepFault) (d : Dep (List ℕ)) → and_then r (λ x. if fits x then Ok x else Err OperatorNotHere) ≡ Ok d → r ≡ Ok d

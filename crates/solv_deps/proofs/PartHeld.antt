@@ -16,7 +16,8 @@ use Rattle.solv_base.proofs.Identity.{texts_differ, trees_differ}
 use Rattle.solv_base.proofs.Names.{id_of_new}
 use Rattle.solv_base.proofs.Places.{place_found, absent}
 use Rattle.solv_base.proofs.Pools.{same_relation, name_at, IsPool-name, IsPool-node, Grows-node, text_tree_of_new}
-use Rattle.solv_deps.specs.Entering.{Entered, is_relation, relation_id, text_entered, relation_entered, dependency_entered}
+use Rattle.solv_deps.specs.Entering.{Entered, text_entered, relation_entered, dependency_entered}
+use Rattle.solv_deps.specs.Inner.Entering.{is_relation, relation_id}
 use Rattle.solv_deps.specs.Laws.{HeldIsEntered}
 use Rattle.solv_deps.specs.declared.fault.DepFault.{DepFault}
 use Rattle.solv_deps.specs.declared.fault.DepFault.TheVariants.{FullNames, FullRelations}

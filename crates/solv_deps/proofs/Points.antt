@@ -1,6 +1,6 @@
 -- A reader's state as a point of the reading: a draft that goes on keeps it, and each step leads to the next.
 use Rattle.std.proofs.Common.{◌≡◌, ℕ, ◌+◌, ◌<◌, ◌≤◌, Bool, true, false, ◌&&◌, List, [], ◌∷◌, length, Option, Some, None, Result, Ok, refl, sym, ap, ◌∙◌, arith, nat_lt}
-use Rattle.std.specs.Prelude.{nat_le, not, is_none, if◌then◌else◌, option_map}
+use Rattle.std.specs.Prelude.{nat_le, if◌then◌else◌, option_map}
 use Rattle.std.specs.Borrow.{Bor}
 use Rattle.std.proofs.lemmas.Bool.{ltb-true, and_from}
 use Rattle.std.proofs.lemmas.List.{length-map}
@@ -14,11 +14,14 @@ use Rattle.solv_deps.specs.declared.reading.Due.{Due}
 use Rattle.solv_deps.specs.declared.reading.Due.TheVariants.{Operand, Evr, Named, Operator}
 use Rattle.solv_deps.specs.Words.{words}
 use Rattle.solv_deps.specs.declared.sign.Conditional.{Conditional}
-use Rattle.solv_deps.specs.Grammar.{opens, closes, operator, operator_spelled, sign, comparison, is_plain, is_namespace}
+use Rattle.solv_deps.specs.Inner.Signs.{opens, closes, operator}
+use Rattle.solv_deps.specs.Grammar.{comparison, is_plain, is_namespace}
 use Rattle.solv_deps.specs.Inner.Drafts.{said, Extends, Enters}
-use Rattle.solv_deps.specs.Reading.{Hand, Point, at_operand, at_evr, at_other, at_operator, operator_due, in_chain, in_difference, in_condition, whole, closed, go_on, comparison_due, reading, reading_from, end_due}
+use Rattle.solv_deps.specs.Inner.Reading.{Hand, Point, at_operand, at_evr, at_other, at_operator, operator_due, in_chain, in_difference, in_condition, whole, closed, go_on, comparison_due, reading_from, end_due}
+use Rattle.solv_deps.specs.Reading.{reading}
 use Rattle.solv_deps.specs.Inner.Points.{rule_hand, hands, due_seen, seen, rule_in, rules_in, pending, option_pending, rules_pending, due_pending, due_entered, Belongs, Stands, GoesOn, Leads, Ends}
 use Rattle.solv_deps.proofs.Complete.{choose_second, not_full}
+use Rattle.solv_deps.proofs.SameReading.{same_reading}
 use Rattle.solv_list.proofs.Booleans.{first_of_both, second_of_both}
 use Rattle.solv_list.proofs.Lists.{below_true}
 use Rattle.solv_list.proofs.Numbers.{below_wider}
@@ -55,7 +58,7 @@ module _ (old new : List Written) (g : Extends old new) where
       let y = rules_kept o (second_of_both (rule_in (length old) r) (rules_in (length old) o) h) in
       cc
 
-same_seen : (draft : List Written) (o : List Rule) (count : ℕ) (due : Due) (hs : List Hand) (d : Rattle.solv_deps.specs.Reading.Due)
+same_seen : (draft : List Written) (o : List Rule) (count : ℕ) (due : Due) (hs : List Hand) (d : Rattle.solv_deps.specs.Inner.Reading.Due)
     → hands (said draft) o ≡ hs → due_seen (said draft) due ≡ d → seen draft o count due ≡ record { outer = hs; operators = count; due = d }
 unfolding seen
 same_seen draft o count due hs d e f = cc
@@ -109,7 +112,7 @@ pub stands_named : (draft : List Written) (o : List Rule) (count : ℕ) (r : Rul
 unfolding seen
 stands_named draft o count r w h room few p s =
     record {
-      point = choose_second (opens w.now) (not (closes w.now) && (is_none (operator_spelled sign w.now) && is_none (comparison w.now))) _ _ _ p
+      point = choose_second (opens w.now) _ _ _ _ p
           ∙ rw s refl;
       belongs = record {
         outer = first_of_both (rules_in (length draft) o) (rule_in (length draft) r) h;
@@ -122,7 +125,7 @@ stands_named draft o count r w h room few p s =
 pub operand_namespace : (hs : List Hand) (count : ℕ) (h : Hand) (w : List ℕ) → is_plain w ≡ true → is_namespace w ≡ true
     → at_operand hs count h w ≡ Ok (record { outer = hs; operators = count; due = operator_due h None (namespace w) })
 operand_namespace hs count h w p s =
-    choose_second (opens w) (not (closes w) && (is_none (operator_spelled sign w) && is_none (comparison w))) _ _ _ p ∙ rw s refl
+    choose_second (opens w) _ _ _ _ p ∙ rw s refl
 
 pub evr_entered : (hs : List Hand) (count : ℕ) (h : Hand) (name : List ℕ) (c : Cmp) (w : List ℕ) → is_plain w ≡ true
     → at_evr hs count h name c w ≡ Ok (record { outer = hs; operators = count; due = operator_due h None (one (versioned name c w)) })
@@ -235,7 +238,7 @@ pub goes_first : (draft : List Written) (outer : List Rule) (text : List ℕ) �
 unfolding seen
 goes_first draft outer text d e = rw (d, e) (record {
   belongs = record { outer = refl; due = refl; room = omega arith; few = omega arith };
-  left = refl;
+  left = sym (same_reading (words text));
 })
 
 -- where no words are left, the end gives what all words give

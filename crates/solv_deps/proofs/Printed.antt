@@ -9,18 +9,32 @@ use Rattle.solv_deps.specs.declared.sign.Joint.{Joint}
 use Rattle.solv_deps.specs.declared.sign.Joint.TheVariants.{Both, Either, Jointly}
 use Rattle.solv_deps.specs.declared.sign.Conditional.{Conditional}
 use Rattle.solv_deps.specs.declared.sign.Conditional.TheVariants.{If, Unless}
-use Rattle.solv_deps.specs.declared.sign.Operator.{Operator}
-use Rattle.solv_deps.specs.declared.sign.Operator.TheVariants.{Link, Minus, Condition, Else}
 use Rattle.solv_io.specs.Words.{is_blank}
 use Rattle.solv_deps.specs.Words.{is_open, is_close, ends_word, unpaired_after, unpaired_in, word_rest, words_behind, words}
-use Rattle.solv_deps.specs.Grammar.{comparison, no_comparison, is_plain, is_namespace, connective_of, condition_of, by_sign, sign, Operand, Chain, Expr, name, compared, inside, two, more, alone, chain, less, provided, provided_else, provided_inside, operand_words, chain_words, expr_words, operand_sense, chain_sense, expr_sense, operand_right, chain_right, expr_right, operand_depth, chain_depth, expr_depth, operand_operators, chain_operators, expr_operators}
-use Rattle.solv_deps.specs.Reading.{same_joint, reading}
-use Rattle.solv_deps.specs.Canonical.{comparison_text, is_rich, is_chain, ends_unpaired, space_before_close, parenthesised, operand_text, spaced, joining_operator, conditional, text}
+use Rattle.solv_deps.specs.Grammar.{Operator, joins, conditions, otherwise, spellings, comparison, is_plain, is_namespace}
+use Rattle.solv_deps.specs.Expressions.{no_comparison, connective_of, condition_of, by_sign, Operand, Chain, Expr, name, compared, inside, two, more, alone, chain, less, provided, provided_else, provided_inside, operand_words, chain_words, expr_words, operand_sense, chain_sense, expr_sense, operand_right, chain_right, expr_right, operand_depth, chain_depth, expr_depth, operand_operators, chain_operators, expr_operators}
+use Rattle.solv_deps.specs.Inner.Reading.{same_joint}
+use Rattle.solv_deps.specs.Reading.{reading}
+use Rattle.solv_deps.specs.Canonical.{comparison_text, is_rich, ends_unpaired, space_before_close, operand_text, spaced, text}
+use Rattle.solv_deps.specs.Grammar.{is_chain}
 use Rattle.solv_deps.proofs.Complete.{written_is_read}
 use Rattle.solv_list.proofs.Booleans.{false_of_not, first_of_both, second_of_both}
 use Rattle.solv_list.proofs.Lists.{take_front}
 use Rattle.solv_list.proofs.Numbers.{same_number as equal}
 use Rattle.std.proofs.lemmas.Bool.{and_from, or_parts}
+
+-- an operator's sign
+abbrev pub sign : Operator → List ℕ
+sign o = (spellings o).0
+
+-- a text in parentheses, with a space before the closing one where that is due
+abbrev pub parenthesised : Bool → List ℕ → List ℕ
+parenthesised space text = codes "(" ++ (text ++ ((if space then codes " " else []) ++ codes ")"))
+
+-- the condition as it is written
+abbrev pub conditional : Under → Conditional
+conditional if_holds = If
+conditional unless_holds = Unless
 
 -- is it one word?
 abbrev pub is_word : List ℕ → Bool
@@ -74,13 +88,13 @@ word_front (c ∷ cs) rest h s =
     rw (g.0, k.0, k.1) (ap (λ n. (c ∷ take n (cs ++ rest)) ∷ words_behind n (cs ++ rest)) m ∙ ap (λ t. (c ∷ t) ∷ words_behind (length cs) (cs ++ rest)) (take_front cs rest) ∙ ap (λ ws. (c ∷ cs) ∷ ws) (behind_front cs rest))
 
 pub sign_words : (o : Operator) (rest : List ℕ) → words (spaced o ++ rest) ≡ sign o ∷ words rest
-sign_words (Link Both) rest = refl
-sign_words (Link Either) rest = refl
-sign_words (Link Jointly) rest = refl
-sign_words Minus rest = refl
-sign_words (Condition If) rest = refl
-sign_words (Condition Unless) rest = refl
-sign_words Else rest = refl
+sign_words (joins and) rest = refl
+sign_words (joins or) rest = refl
+sign_words (joins with) rest = refl
+sign_words (joins without) rest = refl
+sign_words (conditions if_holds) rest = refl
+sign_words (conditions unless_holds) rest = refl
+sign_words otherwise rest = refl
 
 -- the comparisons
 abbrev pub right_cmp : Cmp → Bool
@@ -191,13 +205,13 @@ side or x = joint_side Either x
 side with x = joint_side Jointly x
 side without x = operand_words (as_operand x)
 
-front_words : (j : Joint) (x : Expr) (b : Operand) → chain_words j (front j x b) ≡ joint_side j x ++ sign (Link j) ∷ operand_words b
+front_words : (j : Joint) (x : Expr) (b : Operand) → chain_words j (front j x b) ≡ joint_side j x ++ sign (joins (connective_of j)) ∷ operand_words b
 front_words Both (chain Both c) b = refl
 front_words Either (chain Either c) b = refl
 front_words Jointly (chain Jointly c) b = refl
 front_words j x b = refl
 
-joined_words : (j : Connective) (x : Expr) (b : Operand) → expr_words (written_joined j x b) ≡ side j x ++ sign (joining_operator j) ∷ operand_words b
+joined_words : (j : Connective) (x : Expr) (b : Operand) → expr_words (written_joined j x b) ≡ side j x ++ sign (joins j) ∷ operand_words b
 joined_words and x b = front_words Both x b
 joined_words or x b = front_words Either x b
 joined_words with x b = front_words Jointly x b
@@ -228,7 +242,7 @@ joined_reads : (j : Connective) (a b : Dep (List ℕ)) → well a ≡ true → w
     → words (text (joined j a b) ++ rest) ≡ expr_words (canonical (joined j a b)) ++ words rest
 joined_reads j a b ha hb ra rb rest s =
     let r = operand_text false b (text b) in
-    let o = joining_operator j in
+    let o = joins j in
     between (operand_text (is_chain j a) a (text a)) r o (side j (canonical a)) (operand_words (as_operand (canonical b))) rest
     (side_words j a ha ra (spaced o ++ (r ++ rest)) (spaced_stops o (r ++ rest))) (op_words b hb rb rest s)
     ∙ ap (λ v. v ++ words rest) (sym (joined_words j (canonical a) (as_operand (canonical b))))
@@ -241,17 +255,27 @@ pair_reads o a b ha hb ra rb rest s =
     (op_words a ha ra (spaced o ++ (r ++ rest)) (spaced_stops o (r ++ rest) (ends_unpaired a))) (op_words b hb rb rest s)
 
 -- an operand under a condition with another one
-else_reads : (k : Conditional) (a b c : Dep (List ℕ)) → well a ≡ true → well b ≡ true → well c ≡ true → Reads a → Reads b → Reads c → (rest : List ℕ) → stops (ends_unpaired c) rest ≡ true
-    → words ((operand_text false a (text a) ++ (spaced (Condition k) ++ (operand_text false b (text b) ++ (spaced Else ++ operand_text false c (text c))))) ++ rest)
-    ≡ (operand_words (as_operand (canonical a)) ++ sign (Condition k) ∷ (operand_words (as_operand (canonical b)) ++ sign Else ∷ operand_words (as_operand (canonical c)))) ++ words rest
+else_reads : (k : Under) (a b c : Dep (List ℕ)) → well a ≡ true → well b ≡ true → well c ≡ true → Reads a → Reads b → Reads c → (rest : List ℕ) → stops (ends_unpaired c) rest ≡ true
+    → words ((operand_text false a (text a) ++ (spaced (conditions k) ++ (operand_text false b (text b) ++ (spaced otherwise ++ operand_text false c (text c))))) ++ rest)
+    ≡ (operand_words (as_operand (canonical a)) ++ sign (conditions k) ∷ (operand_words (as_operand (canonical b)) ++ sign otherwise ∷ operand_words (as_operand (canonical c)))) ++ words rest
 else_reads k a b c ha hb hc ra rb rc rest s =
-    let r = operand_text false b (text b) ++ (spaced Else ++ operand_text false c (text c)) in
+    let r = operand_text false b (text b) ++ (spaced otherwise ++ operand_text false c (text c)) in
     let q = operand_text false b (text b) in
     let z = operand_text false c (text c) in
-    between (operand_text false a (text a)) r (Condition k) (operand_words (as_operand (canonical a))) (operand_words (as_operand (canonical b)) ++ sign Else ∷ operand_words (as_operand (canonical c))) rest
-    (op_words a ha ra (spaced (Condition k) ++ (r ++ rest)) (spaced_stops (Condition k) (r ++ rest) (ends_unpaired a)))
-    (between q z Else (operand_words (as_operand (canonical b))) (operand_words (as_operand (canonical c))) rest
-    (op_words b hb rb (spaced Else ++ (z ++ rest)) (spaced_stops Else (z ++ rest) (ends_unpaired b))) (op_words c hc rc rest s))
+    between (operand_text false a (text a)) r (conditions k) (operand_words (as_operand (canonical a))) (operand_words (as_operand (canonical b)) ++ sign otherwise ∷ operand_words (as_operand (canonical c))) rest
+    (op_words a ha ra (spaced (conditions k) ++ (r ++ rest)) (spaced_stops (conditions k) (r ++ rest) (ends_unpaired a)))
+    (between q z otherwise (operand_words (as_operand (canonical b))) (operand_words (as_operand (canonical c))) rest
+    (op_words b hb rb (spaced otherwise ++ (z ++ rest)) (spaced_stops otherwise (z ++ rest) (ends_unpaired b))) (op_words c hc rc rest s))
+
+under_reads : (k : Under) (a b : Dep (List ℕ)) → well a ≡ true → well b ≡ true → Reads a → Reads b → (rest : List ℕ) → stops (ends_unpaired b) rest ≡ true
+    → words (text (under k a b) ++ rest) ≡ expr_words (canonical (under k a b)) ++ words rest
+under_reads if_holds a b ha hb ra rb rest s = pair_reads (conditions if_holds) a b ha hb ra rb rest s
+under_reads unless_holds a b ha hb ra rb rest s = pair_reads (conditions unless_holds) a b ha hb ra rb rest s
+
+under_else_reads : (k : Under) (a b c : Dep (List ℕ)) → well a ≡ true → well b ≡ true → well c ≡ true → Reads a → Reads b → Reads c → (rest : List ℕ) → stops (ends_unpaired c) rest ≡ true
+    → words (text (under_else k a b c) ++ rest) ≡ expr_words (canonical (under_else k a b c)) ++ words rest
+under_else_reads if_holds a b c ha hb hc ra rb rc rest s = else_reads if_holds a b c ha hb hc ra rb rc rest s
+under_else_reads unless_holds a b c ha hb hc ra rb rc rest s = else_reads unless_holds a b c ha hb hc ra rb rc rest s
 
 text_reads : (d : Dep (List ℕ)) → well d ≡ true → Reads d
 text_reads (one (plain w)) h rest s = word_front w rest (first_of_both (is_word w) _ h) s
@@ -267,13 +291,13 @@ text_reads (one (versioned w c e)) h rest s =
     ∙ ap (λ v. w ∷ v) (cmp_words c (e ++ rest) (first_of_both (right_cmp c) _ h3) ∙ ap (λ v. comparison_text c ∷ v) (word_front e rest (first_of_both (is_word e) _ h4) s))
 text_reads (namespace w) h rest s = word_front w rest (first_of_both (is_word w) _ h) s
 text_reads (joined j a b) h rest s = let ha = first_of_both (well a) (well b) h in let hb = second_of_both (well a) (well b) h in joined_reads j a b ha hb (text_reads a ha) (text_reads b hb) rest s
-text_reads (under k a b) h rest s = let ha = first_of_both (well a) (well b) h in let hb = second_of_both (well a) (well b) h in pair_reads (Condition (conditional k)) a b ha hb (text_reads a ha) (text_reads b hb) rest s
+text_reads (under k a b) h rest s = let ha = first_of_both (well a) (well b) h in let hb = second_of_both (well a) (well b) h in under_reads k a b ha hb (text_reads a ha) (text_reads b hb) rest s
 text_reads (under_else k a b c) h rest s =
     let ha = first_of_both (well a) (well b && well c) h in
     let h1 = second_of_both (well a) (well b && well c) h in
     let hb = first_of_both (well b) (well c) h1 in
     let hc = second_of_both (well b) (well c) h1 in
-    else_reads (conditional k) a b c ha hb hc (text_reads a ha) (text_reads b hb) (text_reads c hc) rest s
+    under_else_reads k a b c ha hb hc (text_reads a ha) (text_reads b hb) (text_reads c hc) rest s
 text_reads d h rest s = cc
 
 -- what is written canonically means the dependency

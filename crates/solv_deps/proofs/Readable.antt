@@ -1,6 +1,6 @@
 -- What is read has words for names and EVRs, and no more operators than were counted.
 use Rattle.std.proofs.Common.{◌≡◌, ℕ, zero, suc, ◌+◌, ◌<◌, ◌≤◌, Bool, true, false, ◌&&◌, ◌||◌, List, [], ◌∷◌, length, take, Option, Some, None, Result, Ok, Err, refl, ap, ◌∙◌, arith, not, nat_le}
-use Rattle.std.specs.Prelude.{codes, if◌then◌else◌, is_none}
+use Rattle.std.specs.Prelude.{codes, if◌then◌else◌}
 use Rattle.std.specs.List.{list_all}
 use Rattle.std.proofs.lemmas.Bool.Decides.{nat_tests}
 use Rattle.std.specs.Str.{bytes_eq}
@@ -12,10 +12,15 @@ use Rattle.solv_deps.specs.declared.sign.Joint.{Joint}
 use Rattle.solv_deps.specs.declared.sign.Operator.{Operator}
 use Rattle.solv_deps.specs.declared.sign.Operator.TheVariants.{Link, Minus, Condition, Else}
 use Rattle.solv_io.specs.Words.{is_blank}
-use Rattle.solv_deps.specs.Words.{is_open, is_close, ends_word, unpaired_after, word_rest, after_first, words_behind, words}
-use Rattle.solv_deps.specs.Grammar.{operator, comparison, opens, closes, is_plain, is_namespace, named, connective_of, condition_of, operator_spelled, sign}
-use Rattle.solv_deps.specs.Reading.{Hand, nothing, in_chain, in_difference, in_condition, in_else, in_inner_else, Due, operand_due, evr_due, operator_due, Point, whole, inner_else, same_joint, going_on_if, goes_on, closed, close, go_on, at_operand, at_evr, at_operator, comparison_due, step_due, step, end_due, and_then, reading_from, reading, beginning}
+use Rattle.solv_deps.specs.Words.{is_open, is_close, ends_word, unpaired_after, word_rest, words_behind, words}
+use Rattle.solv_deps.specs.Inner.Words.{after_first}
+use Rattle.solv_deps.specs.Inner.Signs.{operator, opens, closes}
+use Rattle.solv_deps.specs.Grammar.{comparison, is_plain, is_namespace, named}
+use Rattle.solv_deps.specs.Expressions.{connective_of, condition_of}
+use Rattle.solv_deps.specs.Inner.Reading.{Hand, nothing, in_chain, in_difference, in_condition, in_else, in_inner_else, Due, operand_due, evr_due, operator_due, Point, whole, inner_else, same_joint, going_on_if, goes_on, closed, close, go_on, at_operand, at_evr, at_operator, comparison_due, step_due, step, end_due, reading_from, beginning}
+use Rattle.solv_deps.specs.Reading.{and_then, reading}
 use Rattle.solv_deps.proofs.Printed.{is_word, well, right_cmp}
+use Rattle.solv_deps.proofs.SameReading.{same_reading}
 use Rattle.solv_list.proofs.Booleans.{first_of_both, second_of_both}
 use Rattle.solv_list.proofs.Numbers.{equal_to_itself, same_number as is_number}
 use Rattle.std.proofs.lemmas.Bool.{and_from}
@@ -82,7 +87,7 @@ abbrev ok_word : List ℕ → Bool
 ok_word w = (opens w || closes w) || is_word w
 
 plain_word : (w : List ℕ) → ok_word w ≡ true → is_plain w ≡ true → is_word w ≡ true
-plain_word w ok p = find (opens w) (closes w) (is_none (operator_spelled sign w) && is_none (comparison w)) (is_word w) ok p
+plain_word w ok p = find (opens w) (closes w) _ (is_word w) ok p
   where
     find : (o c r i : Bool) → ((o || c) || i) ≡ true → (not o && (not c && r)) ≡ true → i ≡ true
     find true c r i h k = cc
@@ -322,4 +327,4 @@ words_ok (c ∷ cs) zero =
 
 -- what a text is read as has words for names and EVRs, and at most 64 operators
 pub text_well_read : (t : List ℕ) → IsWellRead (reading (words t))
-text_well_read t = read_good (words t) beginning (record { wells = refl; links = (tt, tt); counted = omega arith; limit = omega arith }) (words_ok t 0)
+text_well_read t = rw (same_reading (words t)) (read_good (words t) beginning (record { wells = refl; links = (tt, tt); counted = omega arith; limit = omega arith }) (words_ok t 0))

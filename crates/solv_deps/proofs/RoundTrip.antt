@@ -9,7 +9,8 @@ use Rattle.solv_deps.specs.Table.{stands_at}
 use Rattle.solv_deps.specs.declared.fault.DepFault.{DepFault}
 use Rattle.solv_deps.specs.declared.fault.DepFault.TheVariants.{OperatorNotHere}
 use Rattle.solv_deps.specs.Words.{words}
-use Rattle.solv_deps.specs.Reading.{reading, dependency, dependency_by, and_then}
+use Rattle.solv_deps.specs.Reading.{reading, dependency, and_then}
+use Rattle.solv_deps.specs.Laws.{dependency_by}
 use Rattle.solv_deps.specs.Canonical.{text}
 use Rattle.solv_deps.proofs.Printed.{well, printed_is_read}
 use Rattle.solv_deps.proofs.Readable.{IsWellRead, text_well_read}

@@ -12,9 +12,13 @@ use Rattle.solv_deps.specs.declared.sign.Conditional.{Conditional}
 use Rattle.solv_deps.specs.declared.sign.Conditional.TheVariants.{If, Unless}
 use Rattle.solv_deps.specs.declared.sign.Operator.{Operator}
 use Rattle.solv_deps.specs.declared.sign.Operator.TheVariants.{Link, Minus, Condition, Else}
-use Rattle.solv_deps.specs.Grammar.{operator, comparison, opens, closes, is_plain, is_namespace, named, connective_of, Spelling, by_sign, by_word, spelled, operator_spelled, sign, rpm_word, word_is, Operand, Chain, name, compared, inside, two, more, alone, chain, less, provided, provided_else, provided_inside, operand_words, chain_words, expr_words, operand_sense, chain_sense, operand_right, chain_right, expr_right}
-use Rattle.solv_deps.specs.Reading.{Hand, nothing, in_chain, in_difference, in_condition, in_else, in_inner_else, Due, operand_due, evr_due, operator_due, Point, whole, goes_on, going_on_if, same_joint, closed, close, go_on, at_operand, at_evr, at_other, at_operator, comparison_due, step_due, step, and_then, reading_from, reading, beginning, end_due}
+use Rattle.solv_deps.specs.Inner.Signs.{operator, opens, closes, written_by as spelled, operator_spelled, sign, rpm_word, word_is}
+use Rattle.solv_deps.specs.Grammar.{comparison, is_plain, is_namespace, named}
+use Rattle.solv_deps.specs.Expressions.{connective_of, Spelling, by_sign, by_word, Operand, Chain, name, compared, inside, two, more, alone, chain, less, provided, provided_else, provided_inside, operand_words, chain_words, expr_words, operand_sense, chain_sense, operand_right, chain_right, expr_right}
+use Rattle.solv_deps.specs.Inner.Reading.{Hand, nothing, in_chain, in_difference, in_condition, in_else, in_inner_else, Due, operand_due, evr_due, operator_due, Point, whole, goes_on, going_on_if, same_joint, closed, close, go_on, at_operand, at_evr, at_other, at_operator, comparison_due, step_due, step, reading_from, beginning, end_due}
+use Rattle.solv_deps.specs.Reading.{and_then, reading}
 use Rattle.solv_deps.specs.Laws.{Spells}
+use Rattle.solv_deps.proofs.SameReading.{same_reading}
 use Rattle.solv_list.proofs.Lists.{same_bytes}
 use Rattle.std.proofs.lemmas.Bool.{and_from}
 
@@ -582,4 +586,4 @@ read_from p (w ∷ rest) ws d g e = next (step p w) refl e (λ q h k. read_from 
     next (Err f) k e again = cc
 
 pub read_is_written : (words : Words) (d : Dep (List ℕ)) → reading words ≡ Ok d → Spells words d
-read_is_written words d e = read_from beginning words [] d (record { before = []; here = []; outer = refl; due = refl; is = refl }) e
+read_is_written words d e = read_from beginning words [] d (record { before = []; here = []; outer = refl; due = refl; is = refl }) (sym (same_reading words) ∙ e)

@@ -2,15 +2,9 @@
 -- the front of a chain that has the same operator. Operators are written by their signs.
 use Rattle.std.specs.Prelude.{ℕ, Bool, true, false, not, ◌||◌, List, [], ◌++◌, codes, if◌then◌else◌, nat_lt}
 use Rattle.solv_base.specs.declared.comparison.Cmp.{Cmp}
-use Rattle.solv_base.specs.Dependency.{Dep, Capability, Connective, plain, versioned, one, namespace, and, or, with, without, if_holds, unless_holds, joined, under, under_else, missing}
-use Rattle.solv_base.specs.Dependency.{Condition as Under}
+use Rattle.solv_base.specs.Dependency.{Dep, plain, versioned, one, namespace, joined, under, under_else, missing}
 use Rattle.solv_deps.specs.Words.{unpaired_in}
-use Rattle.solv_deps.specs.declared.sign.Joint.TheVariants.{Both, Either, Jointly}
-use Rattle.solv_deps.specs.declared.sign.Operator.{Operator}
-use Rattle.solv_deps.specs.declared.sign.Conditional.{Conditional}
-use Rattle.solv_deps.specs.declared.sign.Conditional.TheVariants.{If, Unless}
-use Rattle.solv_deps.specs.declared.sign.Operator.TheVariants.{Link, Minus, Condition, Else}
-use Rattle.solv_deps.specs.Grammar.{sign}
+use Rattle.solv_deps.specs.Grammar.{Operator, joins, conditions, otherwise, spellings, is_chain}
 
 -- the sign of a comparison
 abbrev pub comparison_text : Cmp → List ℕ
@@ -21,25 +15,6 @@ abbrev pub is_rich : {N : Type 0} → Dep N → Bool
 is_rich (one c) = false
 is_rich (namespace n) = false
 is_rich d = true
-
--- the operator that joins so
-abbrev pub joining_operator : Connective → Operator
-joining_operator and = Link Both
-joining_operator or = Link Either
-joining_operator with = Link Jointly
-joining_operator without = Minus
-
--- the condition as it is written
-abbrev pub conditional : Under → Conditional
-conditional if_holds = If
-conditional unless_holds = Unless
-
--- is it a chain of this operator? `-` makes none
-abbrev pub is_chain : {N : Type 0} → Connective → Dep N → Bool
-is_chain and (joined and a b) = true
-is_chain or (joined or a b) = true
-is_chain with (joined with a b) = true
-is_chain j d = false
 
 -- does a dependency that is not rich end in a word which has a `(` without a partner?
 abbrev pub ends_unpaired : Dep (List ℕ) → Bool
@@ -55,33 +30,22 @@ space_before_close (under k a b) = ends_unpaired b
 space_before_close (under_else k a b c) = ends_unpaired c
 space_before_close d = false
 
--- a text in parentheses, with a space before the closing one where that is due
-abbrev pub parenthesised : Bool → List ℕ → List ℕ
-parenthesised space text = codes "(" ++ (text ++ ((if space then codes " " else []) ++ codes ")"))
-
 -- an operand's text: a rich one stands in parentheses, and one that is not rich or goes on the chain stands bare
 abbrev pub operand_text : Bool → Dep (List ℕ) → List ℕ → List ℕ
-operand_text bare d text = if bare || not (is_rich d) then text else parenthesised (space_before_close d) text
-
--- a word between spaces
-abbrev pub between : List ℕ → List ℕ
-between word = codes " " ++ (word ++ codes " ")
+operand_text bare d text =
+    if bare || not (is_rich d) then text else codes "(" ++ (text ++ ((if space_before_close d then codes " " else []) ++ codes ")"))
 
 -- an operator's sign between spaces
 abbrev pub spaced : Operator → List ℕ
-spaced o = between (sign o)
-
--- a simple or a versioned dependency
-abbrev pub capability_text : Capability (List ℕ) → List ℕ
-capability_text (plain w) = w
-capability_text (versioned w c e) = w ++ (codes " " ++ (comparison_text c ++ (codes " " ++ e)))
+spaced o = codes " " ++ ((spellings o).0 ++ codes " ")
 
 -- the canonical text
 abbrev pub text : Dep (List ℕ) → List ℕ
-text (one c) = capability_text c
+text (one (plain w)) = w
+text (one (versioned w c e)) = w ++ (codes " " ++ (comparison_text c ++ (codes " " ++ e)))
 text (namespace w) = w
-text (joined j a b) = operand_text (is_chain j a) a (text a) ++ (spaced (joining_operator j) ++ operand_text false b (text b))
-text (under k a b) = operand_text false a (text a) ++ (spaced (Condition (conditional k)) ++ operand_text false b (text b))
+text (joined j a b) = operand_text (is_chain j a) a (text a) ++ (spaced (joins j) ++ operand_text false b (text b))
+text (under k a b) = operand_text false a (text a) ++ (spaced (conditions k) ++ operand_text false b (text b))
 text (under_else k a b c) =
-    operand_text false a (text a) ++ (spaced (Condition (conditional k)) ++ (operand_text false b (text b) ++ (spaced Else ++ operand_text false c (text c))))
+    operand_text false a (text a) ++ (spaced (conditions k) ++ (operand_text false b (text b) ++ (spaced otherwise ++ operand_text false c (text c))))
 text missing = []

@@ -4,7 +4,7 @@ use Rattle.std.specs.List.{list_any, position_or_len}
 use Rattle.solv_base.specs.contracts.relation.DepNodePartialEq.TheImpl.{eq-value}
 use Rattle.solv_base.specs.declared.relation.DepNode.{DepNode}
 use Rattle.solv_base.specs.declared.relation.DepNode.TheVariants.{Simple, Versioned, Namespace, And, Or, With, Without, If, IfElse, Unless, UnlessElse}
-use Rattle.solv_base.specs.Dependency.{Dep, Capability, plain, versioned, one, namespace, and, or, with, without, if_holds, unless_holds, joined, under, under_else, missing}
+use Rattle.solv_base.specs.Dependency.{Dep, plain, versioned, one, namespace, and, or, with, without, if_holds, unless_holds, joined, under, under_else, missing}
 use Rattle.solv_base.specs.Pool.{Held, most, is_name, name_id, with_name}
 use Rattle.solv_deps.specs.declared.fault.DepFault.{DepFault}
 use Rattle.solv_deps.specs.declared.fault.DepFault.TheVariants.{FullNames, FullRelations, OperatorNotHere}
@@ -14,18 +14,6 @@ use Rattle.solv_deps.specs.Reading.{and_then}
 pub record Entered : Type 0 where
   pub id : ℕ
   pub held : Held
-
--- is it a relation that is held?
-abbrev pub is_relation : List DepNode → DepNode → Bool
-is_relation nodes node = list_any (eq-value.it node) nodes
-
--- the id of a relation, which is the next free one where it is new
-abbrev pub relation_id : List DepNode → DepNode → ℕ
-relation_id nodes node = position_or_len (eq-value.it node) nodes
-
--- the relations with this one among them
-abbrev pub with_relation : List DepNode → DepNode → List DepNode
-with_relation nodes node = if is_relation nodes node then nodes else nodes ++ node ∷ []
 
 -- a text that is held, or for which there is room
 abbrev pub text_entered : List ℕ → Held → Result Entered DepFault
@@ -37,28 +25,23 @@ text_entered text held =
 -- a relation that is held, or for which there is room
 abbrev pub relation_entered : DepNode → Held → Result Entered DepFault
 relation_entered node held =
-    if is_relation held.nodes node || nat_lt (length held.nodes) most
-    then Ok (record { id = relation_id held.nodes node; held = record held { nodes = with_relation held.nodes node } })
+    let known : Bool = list_any (eq-value.it node) held.nodes in
+    if known || nat_lt (length held.nodes) most
+    then Ok (record { id = position_or_len (eq-value.it node) held.nodes; held = record held { nodes = if known then held.nodes else held.nodes ++ node ∷ [] } })
     else Err FullRelations
 
 -- two operands, then their relation
 abbrev pub pair_entered : (Held → Result Entered DepFault) → (Held → Result Entered DepFault) → (ℕ → ℕ → DepNode) → Held → Result Entered DepFault
-pair_entered first second node held =
-    and_then (first held) (λ a. and_then (second a.held) (λ b. relation_entered (node a.id b.id) b.held))
+pair_entered first second node held = and_then (first held) (λ a. and_then (second a.held) (λ b. relation_entered (node a.id b.id) b.held))
 
 -- three operands, then their relation
 abbrev pub triple_entered : (Held → Result Entered DepFault) → (Held → Result Entered DepFault) → (Held → Result Entered DepFault) → (ℕ → ℕ → ℕ → DepNode) → Held → Result Entered DepFault
-triple_entered first second third node held =
-    and_then (first held) (λ a. and_then (second a.held) (λ b. and_then (third b.held) (λ c. relation_entered (node a.id b.id c.id) c.held)))
-
--- a name, or a name and an EVR, then their relation
-abbrev pub capability_entered : Capability (List ℕ) → Held → Result Entered DepFault
-capability_entered (plain name) held = and_then (text_entered name held) (λ n. relation_entered (Simple n.id) n.held)
-capability_entered (versioned name c evr) held = pair_entered (text_entered name) (text_entered evr) (λ n e. Versioned n c e) held
+triple_entered first second third node held = and_then (first held) (λ a. pair_entered second third (node a.id) a.held)
 
 -- a dependency: its id and what the pool holds then, or the first text or relation that would pass the limit
 abbrev pub dependency_entered : Dep (List ℕ) → Held → Result Entered DepFault
-dependency_entered (one c) held = capability_entered c held
+dependency_entered (one (plain name)) held = and_then (text_entered name held) (λ n. relation_entered (Simple n.id) n.held)
+dependency_entered (one (versioned name c evr)) held = pair_entered (text_entered name) (text_entered evr) (λ n e. Versioned n c e) held
 dependency_entered (namespace name) held = and_then (text_entered name held) (λ n. relation_entered (Namespace n.id) n.held)
 dependency_entered (joined and a b) held = pair_entered (dependency_entered a) (dependency_entered b) And held
 dependency_entered (joined or a b) held = pair_entered (dependency_entered a) (dependency_entered b) Or held

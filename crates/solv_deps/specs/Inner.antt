@@ -3,6 +3,7 @@ pub mod Appending
 pub mod Drafts
 pub mod Entering
 pub mod Points
+pub mod Reading
 pub mod Recent
 pub mod Signs
 pub mod Singles

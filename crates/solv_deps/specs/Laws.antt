@@ -1,10 +1,13 @@
 -- Laws of dependency text, and how its examples are said.
-use Rattle.std.specs.Prelude.{ℕ, ◌≡◌, ◌<◌, ◌≤◌, Bool, true, List, length, Ok}
+use Rattle.std.specs.Prelude.{ℕ, ◌≡◌, ◌<◌, ◌≤◌, Bool, true, List, length, Result, Ok, Err, if◌then◌else◌}
 use Rattle.solv_io.specs.JoinedWords.{is_line}
 use Rattle.solv_base.specs.Dependency.{Dep, operators}
 use Rattle.solv_base.specs.Pool.{Held, IsPool, Grows, text_tree}
-use Rattle.solv_deps.specs.Grammar.{Expr, expr_right, expr_operators, expr_depth, expr_words, expr_sense}
-use Rattle.solv_deps.specs.Reading.{dependency, dependency_by, reading}
+use Rattle.solv_deps.specs.Expressions.{Expr, expr_right, expr_operators, expr_depth, expr_words, expr_sense}
+use Rattle.solv_deps.specs.Reading.{and_then, dependency, reading}
+use Rattle.solv_deps.specs.Words.{words}
+use Rattle.solv_deps.specs.declared.fault.DepFault.{DepFault}
+use Rattle.solv_deps.specs.declared.fault.DepFault.TheVariants.{OperatorNotHere}
 use Rattle.solv_deps.specs.Entering.{dependency_entered}
 use Rattle.solv_deps.specs.Canonical.{text}
 use Rattle.solv_deps.specs.declared.place.Place.{Place}
@@ -27,6 +30,10 @@ ReadIsWritten = (words : List (List ℕ)) (d : Dep (List ℕ)) → reading words
 -- the canonical text of what a text is read as is read, at the same place, as the same
 abbrev pub PrintedIsReadAgain : Type 0
 PrintedIsReadAgain = (place : Place) (t : List ℕ) (d : Dep (List ℕ)) → dependency place t ≡ Ok d → dependency place (text d) ≡ Ok d
+
+-- what a text gives where this table says what may stand
+abbrev pub dependency_by : (Dep (List ℕ) → Bool) → List ℕ → Result (Dep (List ℕ)) DepFault
+dependency_by fits text = and_then (reading (words text)) (λ d. if fits d then Ok d else Err OperatorNotHere)
 
 -- and so it is whatever table says what may stand
 abbrev pub PrintedIsReadAgainByAnyTable : Type 0

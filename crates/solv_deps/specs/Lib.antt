@@ -1,5 +1,6 @@
 pub mod Words
 pub mod Grammar
+pub mod Expressions
 pub mod Table
 pub mod Entering
 pub mod Reading

@@ -23,16 +23,12 @@ abbrev pub word_rest : ℕ → List ℕ → ℕ
 word_rest unpaired [] = 0
 word_rest unpaired (c ∷ cs) = if ends_word unpaired c then 0 else suc (word_rest (unpaired_after unpaired c (is_close c)) cs)
 
--- how many bytes follow the first byte of a word: none where this is a parenthesis
-abbrev pub after_first : ℕ → List ℕ → ℕ
-after_first c cs = if is_blank c || (is_open c || is_close c) then 0 else word_rest 0 cs
-
 -- the words of a text behind so many bytes
 abbrev pub words_behind : ℕ → List ℕ → List (List ℕ)
 words_behind skip [] = []
 words_behind (suc skip) (c ∷ cs) = words_behind skip cs
 words_behind zero (c ∷ cs) =
-    let more : ℕ = after_first c cs in
+    let more : ℕ = if is_blank c || (is_open c || is_close c) then 0 else word_rest 0 cs in
     let later : List (List ℕ) = words_behind more cs in
     if is_blank c then later else (c ∷ take more cs) ∷ later
 

@@ -3,7 +3,7 @@ ghost use Rattle.std.specs.Prelude.{◌≡◌, ◌<◌, length, true};
 ghost use Rattle.solv_base.specs.Dependency.{package_wise};
 ghost use Rattle.solv_base.specs.Places.{fits_place, unconditional, may_stand as stands_under};
 ghost use Rattle.solv_deps.specs.Inner.Drafts.{said};
-ghost use Rattle.solv_deps.specs.Grammar.{condition_of};
+ghost use Rattle.solv_deps.specs.Expressions.{condition_of};
 ghost use Rattle.solv_deps.specs.Table.{is_capability, stands_at};
 
 use crate::draft::{Draft, Written};

@@ -1,12 +1,13 @@
 //! The canonical text of a dependency.
 ghost use Rattle.std.specs.Prelude.{◌≡◌, ◌<◌, ◌++◌, false, length, OnOk, OnErr};
-ghost use Rattle.solv_base.specs.Dependency.{versioned};
+ghost use Rattle.solv_base.specs.Dependency.{one, versioned};
 ghost use Rattle.solv_base.specs.Pool.{text_tree};
 ghost use Rattle.solv_deps.specs.Words.{unpaired_in};
-ghost use Rattle.solv_deps.specs.Grammar.{connective_of};
-ghost use Rattle.solv_deps.specs.Canonical.{text, is_rich, is_chain, ends_unpaired, space_before_close, comparison_text, operand_text, between, spaced, capability_text};
+ghost use Rattle.solv_deps.specs.Expressions.{connective_of};
+ghost use Rattle.solv_deps.specs.Canonical.{text, is_rich, ends_unpaired, space_before_close, comparison_text, operand_text, spaced};
+ghost use Rattle.solv_deps.specs.Grammar.{is_chain, otherwise};
+ghost use Rattle.solv_deps.specs.Inner.Appending.{between};
 ghost use Rattle.solv_deps.specs.Inner.Appending.{Keeps};
-ghost use Rattle.solv_deps.specs.declared.sign.Operator.TheVariants.{Else};
 
 use crate::sign::Joint;
 use solv_base::{Cmp, DepId, DepNode, Pool};
@@ -113,7 +114,7 @@ fn write_between(word: &[u8], into: &mut Vec<u8>) -> Result<(), AllocError>
 
 /// Appends a name, a comparison and an EVR.
 fn write_versioned(name: &[u8], cmp: Cmp, evr: &[u8], into: &mut Vec<u8>) -> Result<(), AllocError>
-    ensures ok { OnOk result (into.new.items ≡ into.old.items ++ capability_text (versioned name.now cmp evr.now)) }
+    ensures ok { OnOk result (into.new.items ≡ into.old.items ++ text (one (versioned name.now cmp evr.now))) }
     ensures err { OnErr result (Keeps into.old.items into.new.items) }
 {
     into.extend_from_slice(name)?;
@@ -163,7 +164,7 @@ fn write_pair(
 #[cycle(write)]
 fn write_else(pool: &Pool, dep: DepId, into: &mut Vec<u8>) -> Result<(), AllocError>
     requires { dep < length pool.now.nodes }
-    ensures ok { OnOk result (into.new.items ≡ into.old.items ++ (spaced Else ++ operand_text false (text_tree pool.now dep) (text (text_tree pool.now dep)))) }
+    ensures ok { OnOk result (into.new.items ≡ into.old.items ++ (spaced otherwise ++ operand_text false (text_tree pool.now dep) (text (text_tree pool.now dep)))) }
     ensures err { OnErr result (Keeps into.old.items into.new.items) }
 {
     into.extend_from_slice(b" <ELSE> ")?;

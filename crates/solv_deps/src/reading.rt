@@ -3,9 +3,11 @@ ghost use Rattle.std.specs.Prelude.{ℕ, List, ◌≡◌, ◌<◌, ◌≤◌, �
 ghost use Rattle.solv_base.specs.Dependency.{Dep, one, plain};
 ghost use Rattle.solv_deps.specs.Inner.Drafts.{said, Extends, Enters};
 ghost use Rattle.solv_deps.specs.Inner.Points.{option_in, Ends, Leads, GoesOn, Stands, rule_hand, hands, due_seen, seen, rule_in, rules_in, due_in, pending, option_pending, rules_pending, due_pending, due_entered};
-ghost use Rattle.solv_deps.specs.Reading.{whole, goes_on, nothing, inner_else, at_operand, at_evr, at_other, closed, comparison_due, at_operator, end_due, reading, refused_operator};
-ghost use Rattle.solv_deps.specs.Reading.{go_on as go_on_by, step as step_by};
-ghost use Rattle.solv_deps.specs.Grammar.{operator, comparison};
+ghost use Rattle.solv_deps.specs.Inner.Reading.{whole, goes_on, nothing, inner_else, at_operand, at_evr, at_other, closed, comparison_due, at_operator, end_due, refused_operator};
+ghost use Rattle.solv_deps.specs.Reading.{reading};
+ghost use Rattle.solv_deps.specs.Inner.Reading.{go_on as go_on_by, step as step_by};
+ghost use Rattle.solv_deps.specs.Inner.Signs.{operator};
+ghost use Rattle.solv_deps.specs.Grammar.{comparison};
 ghost use Rattle.solv_deps.specs.Words.{words};
 
 use crate::draft::{Draft, Written};

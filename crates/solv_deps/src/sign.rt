@@ -4,7 +4,8 @@ ghost use Rattle.std.specs.Prelude.{◌≡◌, Some, None, IsTrue};
 ghost use Rattle.solv_deps.specs.declared.sign.Joint.TheVariants.{Either};
 ghost use Rattle.solv_deps.specs.declared.sign.Operator.TheVariants.{Link};
 ghost use Rattle.solv_deps.specs.Inner.Signs.{begins_as_sign};
-ghost use Rattle.solv_deps.specs.Grammar.{operator, operator_spelled, sign, rpm_word, comparison, word_is, opens, closes, is_plain, is_namespace};
+ghost use Rattle.solv_deps.specs.Inner.Signs.{operator, operator_spelled, sign, rpm_word, word_is, opens, closes};
+ghost use Rattle.solv_deps.specs.Grammar.{comparison, is_plain, is_namespace};
 
 use solv_base::Cmp;
 
@@ -179,6 +180,7 @@ fn begins_as_sign(word: &[u8]) -> bool
 }
 
 /// Whether a word is a name or an EVR where one is due. There rpm's words for operators are names and EVRs like others.
+#[tactic(auto, using(crate::proofs::SameReading::unsigned_seen))]
 pub(crate) fn is_plain_word(word: &[u8]) -> bool
     ensures { result ≡ is_plain word.now }
 {

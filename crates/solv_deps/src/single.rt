@@ -2,10 +2,12 @@
 //! and need no draft.
 ghost use Rattle.std.specs.Prelude.{◌≡◌, ◌∷◌, [], Ok, IfSome, true, false, Some, None, ℕ, List};
 ghost use Rattle.solv_base.specs.Dependency.{one, or, joined};
-ghost use Rattle.solv_deps.specs.Grammar.{comparison, is_plain, is_namespace, operator};
+ghost use Rattle.solv_deps.specs.Grammar.{comparison, is_plain, is_namespace};
+ghost use Rattle.solv_deps.specs.Inner.Signs.{operator};
 ghost use Rattle.solv_deps.specs.declared.sign.Joint.TheVariants.{Either};
 ghost use Rattle.solv_deps.specs.declared.sign.Operator.TheVariants.{Link};
-ghost use Rattle.solv_deps.specs.Reading.{Hand, reading, reading_from, whole};
+ghost use Rattle.solv_deps.specs.Inner.Reading.{Hand, reading_by_rules, reading_from, whole};
+ghost use Rattle.solv_deps.specs.Reading.{reading};
 ghost use Rattle.solv_deps.specs.Inner.Singles.{capability_of, operand_at, behind_either};
 ghost use Rattle.solv_deps.specs.Words.{words};
 
@@ -46,6 +48,7 @@ fn versioned<'a>(name: &'a [u8], sign: &[u8], behind: &'a [u8]) -> Option<Single
 }
 
 /// What a text says that is one name, or a name with a comparison and an EVR.
+#[tactic(auto, using(crate::proofs::SameReading::same_reading))]
 pub(crate) fn single_of(text: &[u8]) -> Option<Single<'_>>
     ensures operand { IfSome result (λ single. (n : ℕ) (hand : Hand) → reading_from (operand_at n hand) (words text.now) ≡ Ok (whole hand (one (capability_of single)))) }
     ensures alone { IfSome result (λ single. reading (words text.now) ≡ Ok (one (capability_of single))) }
@@ -82,7 +85,7 @@ fn evr_before_either(text: &[u8]) -> Option<(&[u8], &[u8])>
 
 /// What stands before the first `|` of a text, and what stands behind it.
 fn cut_at_either(text: &[u8]) -> Option<(Single<'_>, &[u8])>
-    ensures { IfSome result (λ cut. reading (words text.now) ≡ reading_from (behind_either (one (capability_of cut.0))) (words cut.1.now)) }
+    ensures { IfSome result (λ cut. reading_by_rules (words text.now) ≡ reading_from (behind_either (one (capability_of cut.0))) (words cut.1.now)) }
 {
     let (name, behind) = next_word(text)?;
     if !is_plain_word(name) {
@@ -101,6 +104,7 @@ fn cut_at_either(text: &[u8]) -> Option<(Single<'_>, &[u8])>
 }
 
 /// What a text says that is two of them with `|` between.
+#[tactic(auto, using(crate::proofs::SameReading::same_reading))]
 pub(crate) fn pair_of(text: &[u8]) -> Option<(Single<'_>, Single<'_>)>
     ensures { IfSome result (λ pair. reading (words text.now) ≡ Ok (joined or (one (capability_of pair.0)) (one (capability_of pair.1)))) }
 {

@@ -3,7 +3,7 @@ use Rattle.std.specs.Prelude.{ℕ, suc, ◌≡◌, ◌<◌, ◌≤◌, Bool, tru
 use Rattle.solv_base.specs.Dependency.{Dep, plain, versioned, one, namespace, without, joined, under, under_else, missing}
 use Rattle.solv_deps.specs.declared.draft.Written.{Written}
 use Rattle.solv_deps.specs.declared.draft.Written.TheVariants.{Simple, Versioned, Namespace, Joined, Without, Under, UnderElse}
-use Rattle.solv_deps.specs.Grammar.{connective_of, condition_of}
+use Rattle.solv_deps.specs.Expressions.{connective_of, condition_of}
 
 -- the dependency at this place
 abbrev pub at : List (Dep (List ℕ)) → ℕ → Dep (List ℕ)

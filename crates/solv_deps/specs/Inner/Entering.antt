@@ -1,5 +1,7 @@
 -- Entering a dependency into a pool: texts from left to right, each relation directly after its operands, each once.
-use Rattle.std.specs.Prelude.{ℕ, List, length, Result, Ok, Err, ◌≡◌, ◌<◌}
+use Rattle.std.specs.Prelude.{ℕ, Bool, List, [], ◌∷◌, ◌++◌, length, Result, Ok, Err, ◌≡◌, ◌<◌, if◌then◌else◌}
+use Rattle.std.specs.List.{list_any, position_or_len}
+use Rattle.solv_base.specs.contracts.relation.DepNodePartialEq.TheImpl.{eq-value}
 use Rattle.solv_base.specs.declared.relation.DepNode.{DepNode}
 use Rattle.solv_base.specs.declared.relation.DepNode.TheVariants.{And, Or, With, If, IfElse, Unless, UnlessElse}
 use Rattle.solv_base.specs.declared.interning.PoolFault.{PoolFault}
@@ -15,6 +17,18 @@ use Rattle.solv_deps.specs.declared.sign.Conditional.{Conditional}
 use Rattle.solv_deps.specs.declared.sign.Conditional.TheVariants as kind
 use Rattle.solv_deps.specs.Reading.{and_then, dependency}
 use Rattle.solv_deps.specs.Entering.{Entered, dependency_entered}
+
+-- is it a relation that is held?
+abbrev pub is_relation : List DepNode → DepNode → Bool
+is_relation nodes node = list_any (eq-value.it node) nodes
+
+-- the id of a relation, which is the next free one where it is new
+abbrev pub relation_id : List DepNode → DepNode → ℕ
+relation_id nodes node = position_or_len (eq-value.it node) nodes
+
+-- the relations with this one among them
+abbrev pub with_relation : List DepNode → DepNode → List DepNode
+with_relation nodes node = if is_relation nodes node then nodes else nodes ++ node ∷ []
 
 -- a text at a place, read and then entered: every cause of the text comes before the limits of the pool
 abbrev pub text_read : Place → List ℕ → Held → Result Entered DepFault

@@ -9,7 +9,7 @@ use Rattle.solv_deps.specs.declared.outer.Rule.TheVariants.{Nothing, Chain, Diff
 use Rattle.solv_deps.specs.declared.reading.Due.{Due}
 use Rattle.solv_deps.specs.declared.reading.Due.TheVariants.{Operand, Evr, Named, Operator}
 use Rattle.solv_deps.specs.Inner.Drafts.{said}
-use Rattle.solv_deps.specs.Reading.{Hand, nothing, in_chain, in_difference, in_condition, in_else, in_inner_else, operand_due, evr_due, operator_due, Point}
+use Rattle.solv_deps.specs.Inner.Reading.{Hand, nothing, in_chain, in_difference, in_condition, in_else, in_inner_else, operand_due, evr_due, operator_due, Point}
 
 -- a rule in hand over the dependencies of its numbers
 abbrev pub rule_hand : (ℕ → Dep (List ℕ)) → Rule → Hand
@@ -25,7 +25,7 @@ abbrev pub hands : (ℕ → Dep (List ℕ)) → List Rule → List Hand
 hands at rules = map (rule_hand at) rules
 
 -- what is due
-abbrev pub due_seen : (ℕ → Dep (List ℕ)) → Due → Rattle.solv_deps.specs.Reading.Due
+abbrev pub due_seen : (ℕ → Dep (List ℕ)) → Due → Rattle.solv_deps.specs.Inner.Reading.Due
 due_seen at (Operand r) = operand_due (rule_hand at r)
 due_seen at (Evr r name c) = evr_due (rule_hand at r) name.now c
 due_seen at (Named r name) = operator_due (rule_hand at r) (Some name.now) (one (plain name.now))
@@ -111,7 +111,7 @@ pub record Stands (draft : List Written) (rules : List Rule) (count : ℕ) (next
   pub belongs : Belongs draft rules count next
 
 -- this is due next
-pub record Leads (draft : List Written) (next : Due) (due : Rattle.solv_deps.specs.Reading.Due) : Type 0 where
+pub record Leads (draft : List Written) (next : Due) (due : Rattle.solv_deps.specs.Inner.Reading.Due) : Type 0 where
   pub is : due ≡ due_seen (said draft) next
   pub inside : due_in (length draft) next ≡ true
 

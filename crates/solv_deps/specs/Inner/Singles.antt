@@ -1,7 +1,7 @@
 -- A name, or a name with a comparison and an EVR, as it is borrowed from a text.
 use Rattle.std.specs.Prelude.{ℕ, List, []}
 use Rattle.solv_base.specs.Dependency.{Capability, Dep, plain, versioned}
-use Rattle.solv_deps.specs.Reading.{Hand, Point, in_chain, operand_due}
+use Rattle.solv_deps.specs.Inner.Reading.{Hand, Point, in_chain, operand_due}
 use Rattle.solv_deps.specs.declared.sign.Joint.TheVariants.{Either}
 use Rattle.solv_deps.specs.declared.single.Single.{Single}
 use Rattle.solv_deps.specs.declared.single.Single.TheVariants.{Name, Versioned}

@@ -3,6 +3,10 @@ use Rattle.std.specs.Prelude.{ℕ, suc, ◌+◌, ◌||◌, List, [], ◌∷◌, 
 use Rattle.solv_io.specs.Words.{is_blank}
 use Rattle.solv_deps.specs.Words.{is_open, is_close, word_rest}
 
+-- how many bytes follow the first byte of a word: none where this is a parenthesis
+abbrev pub after_first : ℕ → List ℕ → ℕ
+after_first c cs = if is_blank c || (is_open c || is_close c) then 0 else word_rest 0 cs
+
 -- how many blanks a text begins with
 abbrev pub blanks : List ℕ → ℕ
 blanks [] = 0

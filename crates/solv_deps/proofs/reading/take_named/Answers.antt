@@ -1,7 +1,7 @@
 use Rattle.std.proofs.Common.{◌≡◌, sym, subst, Result}
 use Rattle.std.specs.Prelude.{IfOk, IfErr, Err}
 use Rattle.solv_deps.specs.declared.fault.DepFault.{DepFault}
-use Rattle.solv_deps.specs.Reading.{Point}
+use Rattle.solv_deps.specs.Inner.Reading.{Point}
 use Rattle.solv_deps.specs.Inner.Points.{Stands}
 use Rattle.solv_deps.proofs.Points.{still_in, named_same, stands_evr}
 use Rattle.solv_deps.proofs.reading.take_named.Goals as goal
