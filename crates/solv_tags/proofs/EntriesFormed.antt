@@ -1,5 +1,5 @@
 -- The packages that a testtags file gives have dependencies of forms that may stand at their places.
-use Rattle.std.proofs.Common.{◌≡◌, ℕ, ◌+◌, Bool, true, false, List, [], ◌∷◌, ◌++◌, map, length, Option, Some, None, Result, Ok, Err, refl, ◌≤◌, arith}
+use Rattle.std.proofs.Common.{◌≡◌, ℕ, ◌+◌, Bool, true, false, List, [], ◌∷◌, ◌++◌, map, length, Option, Some, None, Result, Ok, Err, refl, sym, ◌∙◌, ◌≤◌, arith}
 use Rattle.std.specs.Prelude.{◌&&◌, ◌||◌, option_to_list, nat_le, is_some, IfOk, if◌then◌else◌}
 use Rattle.std.specs.List.{list_any, list_all}
 use Rattle.std.specs.Str.{bytes_eq}
@@ -19,16 +19,21 @@ use Rattle.solv_deps.specs.declared.fault.DepFault.{DepFault}
 use Rattle.solv_deps.specs.declared.fault.DepFault.TheVariants.{OperatorNotHere}
 use Rattle.solv_deps.specs.declared.place.Place.{Place}
 use Rattle.solv_deps.specs.declared.place.Place.TheVariants.{Requires, Conflicts, Plain}
-use Rattle.solv_tags.specs.Entries.{is_same, with_dependency, also_pre, with_need, with_entry, bare_package, evr_text}
+use Rattle.solv_tags.specs.Entries.{is_same, with_dependency, with_need, bare_package, evr_text}
+use Rattle.solv_tags.specs.Inner.Tags.{also_pre, with_entry}
 use Rattle.solv_tags.specs.EntryForms.{has_written_form, is_written_formed, EntriesHaveForms}
-use Rattle.solv_tags.specs.Headings.{entry_sign, opening_sign, closing_sign, is_heading, letters, after_heading, tag, place_of, trimmed}
-use Rattle.solv_tags.specs.Testtags.{Tagged, Repository, packages_so_far, or_cause, texts_entered, begun, package_entry, vendor_entry, path_entry, dependency_entry, entry_of, entry_of_hand, entry, entry_if_tag, opens_block, with_block, outside_block, block_entry, inside_block, line_by_block, line_read, end_read, or_bad, lines_read, no_line, testtags}
+use Rattle.solv_tags.specs.Inner.Tags.{entry_sign, opening_sign, closing_sign, after_heading, tag, place_of}
+use Rattle.solv_tags.specs.Headings.{is_heading, letters, trimmed}
+use Rattle.solv_tags.specs.Testtags.{Tagged, Repository, packages_so_far, or_cause}
+use Rattle.solv_tags.specs.Inner.Lines.{texts_entered, begun, package_entry, vendor_entry, path_entry, dependency_entry, entry_of, entry_of_hand, entry, entry_if_tag, opens_block, with_block, outside_block, block_entry, inside_block, line_by_block, line_read, end_read, or_bad, lines_read, no_line}
 use Rattle.solv_tags.specs.Inner.Testtags.{testtags_file}
 use Rattle.solv_tags.specs.declared.tag.Tag.{Tag}
 use Rattle.solv_tags.specs.declared.tag.Tag.TheVariants.{Pkg, Prv, Req, Prq, Con, Obs, Rec, Sug, Sup, Enh, Vnd, Fls}
 use Rattle.solv_tags.specs.declared.tag_fault.TagCause.{TagCause}
 use Rattle.solv_tags.specs.declared.tag_fault.TagCause.TheVariants as cause
 use Rattle.solv_tags.specs.declared.tag_fault.TagFault.{TagFault}
+use Rattle.solv_tags.specs.Inner.Lines.{tags_read}
+use Rattle.solv_tags.proofs.SameLines.{testtags_same}
 use Rattle.solv_deps.proofs.RoundTrip.{few_operators}
 use Rattle.solv_list.proofs.Answers.{one_or}
 use Rattle.solv_list.proofs.Booleans.{first_of_both, second_of_both}
@@ -261,8 +266,8 @@ given_formed : (given : Result Repository TagFault) (r : Repository) → given �
 given_formed given r is h = rw is at h
 
 pub entries_formed : EntriesHaveForms
-entries_formed = λ held before repo lines r is. given_formed (testtags held before repo lines) r is (lines_formed 0 (no_line held before repo) lines (record { done = refl; hand = tt }))
+entries_formed = λ held before repo lines r is. given_formed (tags_read held before repo lines) r (sym (testtags_same held before repo lines) ∙ is) (lines_formed 0 (no_line held before repo) lines (record { done = refl; hand = tt }))
 
 -- what a whole file gives is such
 pub file_formed : (held : Held) (before repo : ℕ) (bytes : List ℕ) → IfOk (testtags_file held before repo bytes) (λ r. list_all is_written_formed r.packages ≡ true)
-file_formed held before repo bytes = lines_formed 0 (no_line held before repo) (numbered_lines bytes) (record { done = refl; hand = tt })
+file_formed held before repo bytes = rw (testtags_same held before repo (numbered_lines bytes)) (lines_formed 0 (no_line held before repo) (numbered_lines bytes) (record { done = refl; hand = tt }))

@@ -6,13 +6,14 @@ use Rattle.solv_base.specs.Dependency.{Dep}
 use Rattle.solv_base.specs.Pool.{Held, Grows, text_at, text_tree}
 use Rattle.solv_pool.specs.Written.{WrittenPackage, written_package}
 use Rattle.solv_pool.specs.declared.packages.Package.{Package}
-use Rattle.solv_tags.specs.Entries.{with_path, with_entry}
+use Rattle.solv_tags.specs.Inner.Tags.{with_path, with_entry}
 use Rattle.solv_deps.specs.Inner.Entering.{IsRefusal, text_read}
 use Rattle.solv_deps.specs.Entering.{Entered, text_entered, dependency_entered}
-use Rattle.solv_tags.specs.Headings.{place_of}
+use Rattle.solv_tags.specs.Inner.Tags.{place_of}
 use Rattle.solv_deps.specs.Reading.{and_then, dependency}
 use Rattle.solv_tags.specs.Inner.TagReading.{IsOf, IsCause, HasRead, HasEnded, with_id, with_entry_id}
-use Rattle.solv_tags.specs.Testtags.{Tagged, cause_of, or_cause, vendor_entry, path_entry, dependency_entry, entry_of}
+use Rattle.solv_tags.specs.Testtags.{Tagged, cause_of, or_cause}
+use Rattle.solv_tags.specs.Inner.Lines.{vendor_entry, path_entry, dependency_entry, entry_of}
 use Rattle.solv_deps.specs.declared.fault.DepFault.{DepFault}
 use Rattle.solv_deps.specs.declared.fault.DepFault.TheVariants.{BadOperator, MissingOperand, MixedOperators, UnclosedParenthesis, TooDeep, OperatorNotHere, FullNames, FullRelations, Memory}
 use Rattle.solv_tags.specs.declared.tag.Tag.{Tag}

@@ -2,7 +2,8 @@
 use Rattle.std.proofs.Common.{ℕ, List, [], ◌∷◌, ◌++◌, Result, Ok, Err}
 use Rattle.std.specs.Prelude.{IsOkAnd}
 use Rattle.solv_deps.specs.declared.fault.DepFault.{DepFault}
-use Rattle.solv_tags.specs.Testtags.{Tagged, or_cause, line_read}
+use Rattle.solv_tags.specs.Testtags.{Tagged, or_cause}
+use Rattle.solv_tags.specs.Inner.Lines.{line_read}
 use Rattle.solv_tags.specs.declared.tag_fault.TagCause.{TagCause}
 
 -- what follows what is right

@@ -1,3 +1,4 @@
+pub mod SameLines
 pub mod SameDependency
 pub mod Staying
 pub mod HandLines

@@ -1,8 +1,8 @@
 -- What a text or lines give is never running out of memory, which is no cause of their own.
 use Rattle.std.proofs.Common.{◌≡◌, ℕ, ◌+◌, Bool, true, false, List, [], ◌∷◌, length, Option, Some, None, Result, Ok, Err, refl}
-use Rattle.std.specs.Prelude.{◌&&◌, ◌||◌, nat_le, nat_lt, is_some, IfErr, if◌then◌else◌}
+use Rattle.std.specs.Prelude.{◌&&◌, ◌||◌, nat_le, nat_lt, is_some, IfErr}
 use Rattle.std.specs.Str.{bytes_eq}
-use Rattle.solv_base.specs.Dependency.{Dep, Capability, plain, versioned, one, namespace, and, or, with, without, if_holds, unless_holds, joined, under, under_else, missing}
+use Rattle.solv_base.specs.Dependency.{Dep, plain, versioned, one, namespace, and, or, with, without, if_holds, unless_holds, joined, under, under_else, missing}
 use Rattle.solv_base.specs.Pool.{Held, most, is_name}
 use Rattle.solv_base.specs.declared.comparison.Cmp.{Cmp}
 use Rattle.solv_base.specs.declared.relation.DepNode.{DepNode}
@@ -10,9 +10,12 @@ use Rattle.solv_base.specs.declared.relation.DepNode.TheVariants.{Simple, Versio
 use Rattle.solv_io.specs.Words.{words_of}
 use Rattle.solv_pool.specs.Contents.{most_packages}
 use Rattle.solv_pool.specs.Written.{WrittenPackage}
-use Rattle.solv_deps.specs.Entering.{Entered, is_relation, text_entered, relation_entered, pair_entered, triple_entered, capability_entered, dependency_entered}
-use Rattle.solv_deps.specs.Grammar.{operator, comparison, opens, closes, is_plain}
-use Rattle.solv_deps.specs.Reading.{Hand, Due, operand_due, evr_due, operator_due, Point, goes_on, refused_operator, close, go_on, at_operator, comparison_due, step_due, step, end_due, and_then, reading_from, beginning, reading, dependency}
+use Rattle.solv_deps.specs.Entering.{Entered, text_entered, relation_entered, pair_entered, triple_entered, dependency_entered}
+use Rattle.solv_deps.specs.Inner.Entering.{is_relation}
+use Rattle.solv_deps.specs.Inner.Signs.{operator, opens, closes}
+use Rattle.solv_deps.specs.Grammar.{comparison, is_plain}
+use Rattle.solv_deps.specs.Inner.Reading.{Hand, Due, operand_due, evr_due, operator_due, Point, goes_on, refused_operator, close, go_on, at_operator, comparison_due, step_due, step, end_due, reading_from, beginning}
+use Rattle.solv_deps.specs.Reading.{and_then, reading, dependency}
 use Rattle.solv_deps.specs.Table.{stands_at}
 use Rattle.solv_deps.specs.Words.{words}
 use Rattle.solv_deps.specs.declared.fault.DepFault.{DepFault}
@@ -21,13 +24,17 @@ use Rattle.solv_deps.specs.declared.place.Place.{Place}
 use Rattle.solv_deps.specs.declared.sign.Operator.{Operator}
 use Rattle.solv_deps.specs.declared.sign.Operator.TheVariants as sign
 use Rattle.solv_tags.specs.Entries.{evr_text}
-use Rattle.solv_tags.specs.Headings.{entry_sign, opening_sign, closing_sign, is_heading, letters, after_heading, tag, place_of, trimmed}
-use Rattle.solv_tags.specs.Testtags.{Tagged, Repository, packages_so_far, cause_of, or_cause, texts_entered, begun, package_entry, vendor_entry, path_entry, dependency_entry, entry_of, entry_of_hand, entry, entry_if_tag, opens_block, with_block, outside_block, block_entry, inside_block, line_by_block, line_read, end_read, or_bad, lines_read, no_line, testtags}
+use Rattle.solv_tags.specs.Inner.Tags.{entry_sign, opening_sign, closing_sign, after_heading, tag, place_of}
+use Rattle.solv_tags.specs.Headings.{is_heading, letters, trimmed}
+use Rattle.solv_tags.specs.Testtags.{Tagged, Repository, packages_so_far, cause_of, or_cause, testtags}
+use Rattle.solv_tags.specs.Inner.Lines.{texts_entered, begun, package_entry, vendor_entry, path_entry, dependency_entry, entry_of, entry_of_hand, entry, entry_if_tag, opens_block, with_block, outside_block, block_entry, inside_block, line_by_block, line_read, end_read, or_bad, lines_read, no_line}
 use Rattle.solv_tags.specs.declared.tag.Tag.{Tag}
 use Rattle.solv_tags.specs.declared.tag.Tag.TheVariants.{Pkg, Prv, Req, Prq, Con, Obs, Rec, Sug, Sup, Enh, Vnd, Fls}
 use Rattle.solv_tags.specs.declared.tag_fault.TagCause.{TagCause}
 use Rattle.solv_tags.specs.declared.tag_fault.TagCause.TheVariants as of_tag
 use Rattle.solv_tags.specs.declared.tag_fault.TagFault.{TagFault}
+use Rattle.solv_deps.proofs.SameReading.{same_reading}
+use Rattle.solv_tags.proofs.SameLines.{testtags_same}
 use Rattle.solv_list.proofs.Answers.{either}
 
 -- is it running out of memory?
@@ -86,7 +93,7 @@ reading_own p [] = end_own p.outer p.due
 reading_own p (w ∷ ws) = both_steps (step p w) _ (due_own p.outer p.operators p.due w) (λ q. reading_own q ws)
 
 pub dependency_own : (place : Place) (text : List ℕ) → IfErr (dependency place text) IsOwn
-dependency_own place text = both_steps (reading (words text)) _ (reading_own beginning (words text)) (λ d. either IsOwn (stands_at place d) _ _ tt refl)
+dependency_own place text = both_steps (reading (words text)) _ (rw (same_reading (words text)) (reading_own beginning (words text))) (λ d. either IsOwn (stands_at place d) _ _ tt refl)
 
 -- entering
 pub text_own : (text : List ℕ) (held : Held) → IfErr (text_entered text held) IsOwn
@@ -104,14 +111,11 @@ pair_own first second node h k held = both_steps (first held) _ (h held) (λ a. 
 
 triple_own : (first second third : Held → Result Entered DepFault) (node : ℕ → ℕ → ℕ → DepNode) → EntersOwn first → EntersOwn second → EntersOwn third → EntersOwn (triple_entered first second third node)
 triple_own first second third node h k l held =
-    both_steps (first held) _ (h held) (λ a. both_steps (second a.held) _ (k a.held) (λ b. both_steps (third b.held) _ (l b.held) (λ c. relation_own (node a.id b.id c.id) c.held)))
-
-capability_own : (c : Capability (List ℕ)) → EntersOwn (capability_entered c)
-capability_own (plain name) held = both_steps (text_entered name held) _ (text_own name held) (λ n. relation_own (Simple n.id) n.held)
-capability_own (versioned name c evr) held = pair_own (text_entered name) (text_entered evr) (λ n e. Versioned n c e) (text_own name) (text_own evr) held
+    both_steps (first held) _ (h held) (λ a. pair_own second third (node a.id) k l a.held)
 
 pub entered_own : (d : Dep (List ℕ)) (held : Held) → IfErr (dependency_entered d held) IsOwn
-entered_own (one c) held = capability_own c held
+entered_own (one (plain name)) held = both_steps (text_entered name held) _ (text_own name held) (λ n. relation_own (Simple n.id) n.held)
+entered_own (one (versioned name c evr)) held = pair_own (text_entered name) (text_entered evr) (λ n e. Versioned n c e) (text_own name) (text_own evr) held
 entered_own (namespace name) held = both_steps (text_entered name held) _ (text_own name held) (λ n. relation_own (Namespace n.id) n.held)
 entered_own (joined and a b) held = pair_own (dependency_entered a) (dependency_entered b) And (entered_own a) (entered_own b) held
 entered_own (joined or a b) held = pair_own (dependency_entered a) (dependency_entered b) Or (entered_own a) (entered_own b) held
@@ -260,4 +264,4 @@ lines_own last s [] = end_own_cause last s
 lines_own last s (line ∷ others) = bad_then line.0 (line_read s line.1) _ (by_block_own s s.block line.1) (λ t. lines_own line.0 t others)
 
 pub tags_own : (held : Held) (before repo : ℕ) (lines : List (ℕ × List ℕ)) → IfErr (testtags held before repo lines) (λ fault. is_tag_want fault.cause ≡ false)
-tags_own held before repo lines = lines_own 0 (no_line held before repo) lines
+tags_own held before repo lines = rw (testtags_same held before repo lines) (lines_own 0 (no_line held before repo) lines)

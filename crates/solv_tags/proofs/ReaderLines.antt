@@ -11,9 +11,11 @@ use Rattle.solv_pool.specs.Contents.{Contents, most_packages}
 use Rattle.solv_pool.specs.Written.{WrittenPackage, written_package}
 use Rattle.solv_pool.specs.declared.packages.Package.{Package}
 use Rattle.solv_tags.specs.Entries.{bare_package}
-use Rattle.solv_tags.specs.Headings.{entry_sign, opening_sign, closing_sign, after_heading, is_heading, letters, tag, trimmed}
+use Rattle.solv_tags.specs.Inner.Tags.{entry_sign, opening_sign, closing_sign, after_heading, tag}
+use Rattle.solv_tags.specs.Headings.{is_heading, letters, trimmed}
 use Rattle.solv_tags.specs.Inner.TagReading.{IsOf, IsCause, IsHand, IsReading, IsRead, IsEnded, HasMore, HasReadHand, AreWithin, HaveTexts, package_of, tagged_of, with_packages}
-use Rattle.solv_tags.specs.Testtags.{Tagged, packages_so_far, texts_entered, begun, entry, entry_of_hand, entry_if_tag, block_entry, inside_block, outside_block, opens_block, end_read}
+use Rattle.solv_tags.specs.Testtags.{Tagged, packages_so_far}
+use Rattle.solv_tags.specs.Inner.Lines.{texts_entered, begun, entry, entry_of_hand, entry_if_tag, block_entry, inside_block, outside_block, opens_block, end_read}
 use Rattle.solv_tags.specs.declared.package_words.PackageIds.{PackageIds}
 use Rattle.solv_tags.specs.declared.tag.Tag.{Tag}
 use Rattle.solv_tags.specs.declared.tag.Tag.TheVariants.{Pkg, Prv, Req, Prq, Con, Obs, Rec, Sug, Sup, Enh, Vnd, Fls}

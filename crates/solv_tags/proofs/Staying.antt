@@ -13,7 +13,8 @@ use Rattle.solv_pool.specs.Belonging.{fits, names_of, relations_of}
 use Rattle.solv_pool.specs.Written.{WrittenNeed, written_package}
 use Rattle.solv_pool.specs.declared.packages.Need.{Need}
 use Rattle.solv_pool.specs.declared.packages.Package.{Package}
-use Rattle.solv_tags.specs.Entries.{is_same, also_pre, with_need, with_dependency, with_entry}
+use Rattle.solv_tags.specs.Entries.{is_same, with_need, with_dependency}
+use Rattle.solv_tags.specs.Inner.Tags.{also_pre, with_entry}
 use Rattle.solv_tags.specs.Inner.TagReading.{IsOf, with_id, also_pre_id, with_need_id, with_entry_id}
 use Rattle.solv_tags.specs.declared.tag.Tag.{Tag}
 use Rattle.solv_tags.specs.declared.tag.Tag.TheVariants.{Pkg, Prv, Req, Prq, Con, Obs, Rec, Sug, Sup, Enh, Vnd, Fls}

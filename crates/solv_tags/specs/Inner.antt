@@ -1,4 +1,6 @@
 -- Words of contracts between layers, and what holds inside.
+pub mod Lines
 pub mod RepositoryReading
 pub mod TagReading
+pub mod Tags
 pub mod Testtags

@@ -6,7 +6,8 @@ ghost use Rattle.solv_deps.specs.Inner.Recent.{AreRead};
 ghost use Rattle.solv_tags.specs.Headings.{trimmed};
 ghost use Rattle.solv_tags.specs.Inner.RepositoryReading.{HasOneForm};
 ghost use Rattle.solv_tags.specs.Inner.TagReading.{IsOf, IsCause, HasRead, HasEnded, AreWithin, HaveTexts};
-ghost use Rattle.solv_tags.specs.Testtags.{Tagged, cause_of, or_cause, texts_entered, vendor_entry, path_entry, dependency_entry, entry_of};
+ghost use Rattle.solv_tags.specs.Testtags.{Tagged, cause_of, or_cause};
+ghost use Rattle.solv_tags.specs.Inner.Lines.{texts_entered, vendor_entry, path_entry, dependency_entry, entry_of};
 
 use crate::entries::{add_entry, add_name};
 use crate::headings::{place_of, trimmed};

@@ -1,6 +1,7 @@
 //! The headings of testtags lines, and the texts behind them.
 ghost use Rattle.std.specs.Prelude.{◌≡◌, ◌≤◌, length};
-ghost use Rattle.solv_tags.specs.Headings.{is_heading, letters, after_heading, tag, place_of, without_front_blanks, without_back_blanks, trimmed};
+ghost use Rattle.solv_tags.specs.Headings.{is_heading, letters, without_front_blanks, trimmed};
+ghost use Rattle.solv_tags.specs.Inner.Tags.{after_heading, tag, place_of, without_back_blanks};
 
 use crate::tag::Tag;
 use solv_deps::Place;

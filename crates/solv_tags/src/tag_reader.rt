@@ -6,11 +6,12 @@ ghost use Rattle.std.specs.Str.{bytes_eq};
 ghost use Rattle.solv_pool.specs.Written.{written_package};
 ghost use Rattle.solv_deps.specs.Inner.Recent.{AreRead};
 ghost use Rattle.solv_tags.specs.Entries.{evr_text};
-ghost use Rattle.solv_tags.specs.Headings.{closing_sign, is_heading, letters, tag};
+ghost use Rattle.solv_tags.specs.Inner.Tags.{closing_sign, tag};
+ghost use Rattle.solv_tags.specs.Headings.{is_heading, letters};
 ghost use Rattle.solv_io.specs.Words.{words_of};
 ghost use Rattle.solv_tags.specs.Inner.RepositoryReading.{IsTagRefusal, HasOneForm};
 ghost use Rattle.solv_tags.specs.Inner.TagReading.{IsCause, IsReading, IsRead, IsHand, HasReadHand, HasEndedHand, IsEnded, HasMore, package_of, with_packages, tagged_of};
-ghost use Rattle.solv_tags.specs.Testtags.{begun, package_entry, entry, entry_of_hand, entry_if_tag, opens_block, outside_block, inside_block, line_read, end_read};
+ghost use Rattle.solv_tags.specs.Inner.Lines.{begun, package_entry, entry, entry_of_hand, entry_if_tag, opens_block, outside_block, inside_block, line_read, end_read};
 
 use crate::hand::{enter_package, take_entry};
 use crate::headings::{after_heading, is_heading, letters, tag_of, trimmed};

@@ -9,7 +9,7 @@ ghost use Rattle.solv_io.specs.Lines.{numbered_lines};
 ghost use Rattle.solv_tags.specs.Inner.RepositoryReading.{IsTaken, IsTagRefusal, HasOneForm};
 ghost use Rattle.solv_tags.specs.Inner.TagReading.{IsReading, HasMore, IsReadTo, tagged_of};
 ghost use Rattle.solv_tags.specs.Inner.Testtags.{testtags_file};
-ghost use Rattle.solv_tags.specs.Testtags.{lines_read};
+ghost use Rattle.solv_tags.specs.Inner.Lines.{lines_read, tags_read};
 
 use crate::tag_fault::TagFault;
 use crate::tag_reader::TagReader;
@@ -58,9 +58,9 @@ fn read_all(
     requires before { reader.before ≡ length universe.old.packages }
     requires hand { reader.hand ≡ None }
     requires block { reader.block ≡ None }
-    ensures read { OnOk result (IsOkAnd (testtags_file pool.old (length universe.old.packages) reader.repo bytes.now) (λ r. IsTaken r pool.new universe.old universe.new)) }
+    ensures read { OnOk result (IsOkAnd (tags_read pool.old (length universe.old.packages) reader.repo (numbered_lines bytes.now)) (λ r. IsTaken r pool.new universe.old universe.new)) }
     ensures over { OnOk result (IsOver pool.new universe.new) }
-    ensures refused { IfErr result (λ fault. IsTagRefusal fault (testtags_file pool.old (length universe.old.packages) reader.repo bytes.now)) }
+    ensures refused { IfErr result (λ fault. IsTagRefusal fault (tags_read pool.old (length universe.old.packages) reader.repo (numbered_lines bytes.now))) }
     ensures form { IfErr result (λ fault. HasOneForm fault.cause) }
     ensures more { HasMore universe.old universe.new }
     ensures grows { Grows pool.old pool.new }

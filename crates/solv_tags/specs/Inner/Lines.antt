@@ -1,12 +1,10 @@
--- Testtags files, line by line: what the lines so far give, the cause of a line that is bad then, and what a whole file gives.
-use Rattle.std.specs.Prelude.{ℕ, ◌+◌, ◌&&◌, List, [], ◌∷◌, ◌++◌, length, Option, Some, None, Result, Ok, Err, option_to_list, nat_le, is_some, if◌then◌else◌}
+-- Testtags files, line by line, as the code reads them: the meaning of a line by its tag, the package in hand and the block that is open.
+use Rattle.std.specs.Prelude.{ℕ, ◌+◌, ◌&&◌, List, [], ◌∷◌, length, Option, Some, None, Result, Ok, Err, nat_le, is_some, if◌then◌else◌}
 use Rattle.std.specs.Str.{bytes_eq}
 use Rattle.solv_io.specs.Words.{words_of}
 use Rattle.solv_base.specs.Pool.{Held}
 use Rattle.solv_pool.specs.Contents.{most_packages}
 use Rattle.solv_pool.specs.Written.{WrittenPackage}
-use Rattle.solv_deps.specs.declared.fault.DepFault.{DepFault}
-use Rattle.solv_deps.specs.declared.fault.DepFault.TheVariants as of_text
 use Rattle.solv_tags.specs.declared.tag.Tag.{Tag}
 use Rattle.solv_tags.specs.declared.tag.Tag.TheVariants.{Pkg, Vnd, Fls}
 use Rattle.solv_tags.specs.declared.tag_fault.TagCause.{TagCause}
@@ -14,32 +12,10 @@ use Rattle.solv_tags.specs.declared.tag_fault.TagCause.TheVariants as cause
 use Rattle.solv_tags.specs.declared.tag_fault.TagFault.{TagFault}
 use Rattle.solv_deps.specs.Reading.{dependency}
 use Rattle.solv_deps.specs.Entering.{text_entered, dependency_entered}
-use Rattle.solv_tags.specs.Headings.{entry_sign, opening_sign, closing_sign, is_heading, letters, after_heading, tag, place_of, trimmed}
-use Rattle.solv_tags.specs.Entries.{with_entry, with_path, evr_text, bare_package}
-
--- what the lines so far give
-pub record Tagged : Type 0 where
-  pub repo : ℕ  -- the number of the repository
-  pub before : ℕ  -- how many packages stand before the repository's
-  pub held : Held  -- the texts and relations that the pool holds
-  pub done : List WrittenPackage  -- the packages before the one in hand
-  pub hand : Option WrittenPackage  -- the package that entries belong to: the last one
-  pub block : Option (List ℕ)  -- the letters of the block that is open
-
--- the packages of the repository so far
-abbrev pub packages_so_far : Tagged → List WrittenPackage
-packages_so_far s = s.done ++ option_to_list s.hand
-
--- the cause at a line that a dependency's is
-abbrev pub cause_of : DepFault → TagCause
-cause_of of_text.FullNames = cause.FullNames
-cause_of of_text.Memory = cause.Memory
-cause_of fault = cause.Dep fault
-
--- what follows where a text was read or entered, or else its cause
-abbrev pub or_cause : {A B : Type 0} → Result A DepFault → (A → Result B TagCause) → Result B TagCause
-or_cause (Ok x) next = next x
-or_cause (Err fault) next = Err (cause_of fault)
+use Rattle.solv_tags.specs.Headings.{is_heading, letters, trimmed}
+use Rattle.solv_tags.specs.Entries.{evr_text, bare_package}
+use Rattle.solv_tags.specs.Inner.Tags.{entry_sign, opening_sign, closing_sign, after_heading, tag, place_of, with_path, with_entry}
+use Rattle.solv_tags.specs.Testtags.{Tagged, packages_so_far, or_cause, Repository}
 
 -- texts entered from left to right
 abbrev pub texts_entered : List (List ℕ) → Held → (Held → Result Tagged TagCause) → Result Tagged TagCause
@@ -136,11 +112,6 @@ line_by_block s (Some name) line = inside_block s name line
 abbrev pub line_read : Tagged → List ℕ → Result Tagged TagCause
 line_read s line = line_by_block s s.block line
 
--- what a whole file gives: what the pool holds then, and the packages of the repository
-pub record Repository : Type 0 where
-  pub held : Held
-  pub packages : List WrittenPackage
-
 -- the end of the file behind the line of this number, where no block may be open
 abbrev pub end_read : ℕ → Tagged → Result Repository TagFault
 end_read last s =
@@ -162,5 +133,5 @@ abbrev pub no_line : Held → ℕ → ℕ → Tagged
 no_line held before repo = record { repo = repo; before = before; held = held; done = []; hand = None; block = None }
 
 -- the numbered lines of a repository: its packages, or the first bad line and its first cause
-abbrev pub testtags : Held → ℕ → ℕ → List (ℕ × List ℕ) → Result Repository TagFault
-testtags held before repo lines = lines_read 0 (no_line held before repo) lines
+abbrev pub tags_read : Held → ℕ → ℕ → List (ℕ × List ℕ) → Result Repository TagFault
+tags_read held before repo lines = lines_read 0 (no_line held before repo) lines

@@ -16,7 +16,8 @@ use Rattle.solv_tags.specs.declared.tag.Tag.TheVariants.{Pkg, Prv, Req, Prq, Con
 use Rattle.solv_tags.specs.declared.tag_fault.TagCause.{TagCause}
 use Rattle.solv_tags.specs.declared.tag_fault.TagCause.TheVariants.{Memory}
 use Rattle.solv_tags.specs.declared.tag_fault.TagFault.{TagFault}
-use Rattle.solv_tags.specs.Testtags.{Tagged, Repository, end_read}
+use Rattle.solv_tags.specs.Testtags.{Tagged, Repository}
+use Rattle.solv_tags.specs.Inner.Lines.{end_read}
 
 -- a list with an id, which stands in it once, at its first place
 abbrev pub with_id : ℕ → List ℕ → List ℕ

@@ -1,5 +1,5 @@
 use Rattle.std.proofs.Common.{length, ◌≡◌, ◌≤◌, take}
-use Rattle.solv_tags.specs.Headings.{without_back_blanks}
+use Rattle.solv_tags.specs.Inner.Tags.{without_back_blanks}
 use Rattle.solv_tags.proofs.headings.skip_back.Given as goal
 
 abbrev pub invariant-loop-n : goal.invariant-loop-n

@@ -2,7 +2,7 @@ use Rattle.std.proofs.Common.{◌≡◌}
 use Rattle.solv_base.specs.Pool.{Grows}
 use Rattle.solv_io.specs.Lines.{numbered_lines}
 use Rattle.solv_tags.specs.Inner.TagReading.{IsReading, HasMore, tagged_of}
-use Rattle.solv_tags.specs.Testtags.{lines_read}
+use Rattle.solv_tags.specs.Inner.Lines.{lines_read}
 use Rattle.solv_tags.proofs.testtags.read_lines.Given as goal
 
 abbrev pub invariant-loop-number : goal.invariant-loop-number

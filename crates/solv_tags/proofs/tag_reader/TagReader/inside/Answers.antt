@@ -2,7 +2,8 @@ use Rattle.std.proofs.Common.{◌≡◌, length, false, arith}
 use Rattle.std.specs.Prelude.{◌&&◌}
 use Rattle.std.specs.Str.{bytes_eq}
 use Rattle.std.proofs.lemmas.Bool.Decides.{nat_tests}
-use Rattle.solv_tags.specs.Headings.{closing_sign, is_heading, letters, trimmed}
+use Rattle.solv_tags.specs.Inner.Tags.{closing_sign}
+use Rattle.solv_tags.specs.Headings.{is_heading, letters, trimmed}
 use Rattle.solv_tags.specs.Inner.TagReading.{tagged_of}
 use Rattle.solv_tags.proofs.ReaderLines.{inside_entry}
 use Rattle.solv_tags.proofs.tag_reader.TagReader.inside.Goals as goal

@@ -1,5 +1,6 @@
 use Rattle.std.proofs.Common.{◌≡◌, false, true}
-use Rattle.solv_tags.specs.Headings.{entry_sign, opening_sign, is_heading}
+use Rattle.solv_tags.specs.Inner.Tags.{entry_sign, opening_sign}
+use Rattle.solv_tags.specs.Headings.{is_heading}
 use Rattle.solv_tags.specs.Inner.TagReading.{tagged_of}
 use Rattle.solv_tags.proofs.ReaderLines.{on_both, outside_entry, open_read, open_ended}
 use Rattle.solv_tags.proofs.tag_reader.TagReader.outside.Goals as goal
