@@ -17,9 +17,13 @@ use Rattle.solv_deps.specs.declared.place.Place.{Place}
 use Rattle.solv_deps.specs.declared.place.Place.TheVariants.{Requires, Conflicts, Plain}
 use Rattle.solv_pool.specs.Contents.{most_packages}
 use Rattle.solv_pool.specs.Written.{WrittenPackage, WrittenNeed}
-use Rattle.solv_tags.specs.Entries.{is_same, with_dependency, also_pre, with_need, with_path, with_entry, bare_package, evr_text}
-use Rattle.solv_tags.specs.Headings.{entry_sign, opening_sign, closing_sign, is_heading, letters, after_heading, tag, place_of, trimmed}
-use Rattle.solv_tags.specs.Testtags.{Tagged, Repository, packages_so_far, begun, package_entry, vendor_entry, path_entry, dependency_entry, entry_of, entry_of_hand, entry, entry_if_tag, opens_block, with_block, outside_block, block_entry, inside_block, line_by_block, line_read, end_read, or_bad, lines_read, no_line, testtags}
+use Rattle.solv_tags.specs.Entries.{is_same, with_dependency, with_need, bare_package, evr_text}
+use Rattle.solv_tags.specs.Inner.Tags.{also_pre, with_path, with_entry}
+use Rattle.solv_tags.specs.Inner.Tags.{entry_sign, opening_sign, closing_sign, after_heading, tag, place_of}
+use Rattle.solv_tags.specs.Headings.{is_heading, letters, trimmed}
+use Rattle.solv_tags.proofs.SameLines.{testtags_same}
+use Rattle.solv_tags.specs.Testtags.{Tagged, Repository, packages_so_far, testtags}
+use Rattle.solv_tags.specs.Inner.Lines.{begun, package_entry, vendor_entry, path_entry, dependency_entry, entry_of, entry_of_hand, entry, entry_if_tag, opens_block, with_block, outside_block, block_entry, inside_block, line_by_block, line_read, end_read, or_bad, lines_read, no_line}
 use Rattle.solv_tags.specs.declared.tag.Tag.{Tag}
 use Rattle.solv_tags.specs.declared.tag.Tag.TheVariants.{Pkg, Prv, Req, Prq, Con, Obs, Rec, Sug, Sup, Enh, Vnd, Fls}
 use Rattle.solv_tags.specs.declared.tag_fault.TagCause.{TagCause}
@@ -325,4 +329,4 @@ module _ (again : PrintedIsReadAgain) (written : ReadIsWritten) (repo before : �
 
   pub tags_given : (lines : List (ℕ × List ℕ)) (held : Held) → list_all (λ line. is_line line.1) lines ≡ true → before ≤ most_packages → IfOk (testtags held before repo lines) IsReadRepository
   tags_given lines held l few =
-      lines_given lines 0 (no_line held before repo) l (record { done = All-nil (IsGiven repo); hand = tt; own = refl; front = refl; few = omega (arith, few) })
+      rw (testtags_same held before repo lines) (lines_given lines 0 (no_line held before repo) l (record { done = All-nil (IsGiven repo); hand = tt; own = refl; front = refl; few = omega (arith, few) }))

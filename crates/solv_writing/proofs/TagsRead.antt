@@ -17,9 +17,12 @@ use Rattle.solv_deps.specs.Reading.{dependency}
 use Rattle.solv_deps.specs.declared.place.Place.TheVariants.{Requires}
 use Rattle.solv_pool.specs.Contents.{most_packages}
 use Rattle.solv_pool.specs.Written.{WrittenPackage, WrittenNeed}
-use Rattle.solv_tags.specs.Entries.{is_same, with_dependency, with_need, with_path, with_entry, bare_package}
-use Rattle.solv_tags.specs.Headings.{place_of}
-use Rattle.solv_tags.specs.Testtags.{Tagged, Repository, packages_so_far, begun, package_entry as package_read, dependency_entry, vendor_entry, path_entry, line_read, line_by_block, end_read, or_bad, lines_read, no_line, testtags}
+use Rattle.solv_tags.specs.Entries.{is_same, with_dependency, with_need, bare_package}
+use Rattle.solv_tags.specs.Inner.Tags.{with_path, with_entry}
+use Rattle.solv_tags.specs.Inner.Tags.{place_of}
+use Rattle.solv_tags.proofs.SameLines.{testtags_same}
+use Rattle.solv_tags.specs.Testtags.{Tagged, Repository, packages_so_far, testtags}
+use Rattle.solv_tags.specs.Inner.Lines.{begun, package_entry as package_read, dependency_entry, vendor_entry, path_entry, line_read, line_by_block, end_read, or_bad, lines_read, no_line}
 use Rattle.solv_tags.specs.declared.tag.Tag.{Tag}
 use Rattle.solv_tags.specs.declared.tag.Tag.TheVariants.{Prv, Req, Prq, Con, Obs, Rec, Sug, Sup, Enh, Vnd, Fls}
 use Rattle.solv_tags.specs.declared.tag_fault.TagCause.{TagCause}
@@ -330,8 +333,9 @@ module _ (again : HeldIsEntered) (whole : Held) (p : IsPool whole) (repo before 
   pub tags_read : (packages : List WrittenPackage) (held : Held) (n : ℕ) → All IsOfRepo packages → IsPart held whole → before + length packages ≤ most_packages
       → IsOkAnd (testtags held before repo (enumerate_from n (tag_lines packages))) (IsReadAs packages)
   tags_read packages held n are part room =
-      numbered_are (Between whole repo before packages) (IsReadAs packages) ends (tag_lines packages) n 0 (no_line held before repo)
-      (packages_go packages [] (no_line held before repo) are (record { part = part; no_block = refl; own = refl; front = refl; is = refl }) (omega (arith, room)))
+      rw (testtags_same held before repo (enumerate_from n (tag_lines packages)))
+      (numbered_are (Between whole repo before packages) (IsReadAs packages) ends (tag_lines packages) n 0 (no_line held before repo)
+      (packages_go packages [] (no_line held before repo) are (record { part = part; no_block = refl; own = refl; front = refl; is = refl }) (omega (arith, room))))
     where
       ends : (t : Tagged) (last : ℕ) → Between whole repo before packages t → IsOkAnd (end_read last t) (IsReadAs packages)
       ends t last b = rw b.no_block (record { part = b.part; is = b.is })
