@@ -1,6 +1,7 @@
 -- Lines of scripts as commands: what the words of a line say by themselves, or the first cause for which they say nothing.
-use Rattle.std.specs.Prelude.{ℕ, ℤ, ◌-◌, ◌==◌, not, ◌&&◌, ◌||◌, Bool, true, false, List, [], ◌∷◌, codes, length, take, drop, nat_le, Option, Some, None, ok_or, Result, Ok, Err, if◌then◌else◌}
-use Rattle.std.specs.List.{list_any}
+use Rattle.std.specs.Prelude.{ℕ, ℤ, ◌-◌, ◌==◌, not, ◌&&◌, ◌||◌, Bool, true, false, List, [], ◌∷◌, codes, length, take, drop, nat_lt, nat_le, slice_get, Option, Some, None, ok_or, option_and_then, Result, Ok, Err, if◌then◌else◌}
+use Rattle.std.specs.List.{last_or}
+use Rattle.std.specs.Option.{option_len, option_map_or}
 use Rattle.std.specs.Str.{bytes_eq}
 use Rattle.solv_io.specs.JoinedWords.{joined}
 use Rattle.solv_base.specs.declared.comparison.Cmp.{Cmp}
@@ -10,6 +11,7 @@ use Rattle.solv_pool.specs.declared.jobs.Action.TheVariants.{Install, Erase, Upd
 use Rattle.solv_pool.specs.JobKinds.{acts}
 use Rattle.solv_commands.specs.Commas.{between_commas}
 use Rattle.solv_commands.specs.Numbers.{priority}
+use Rattle.solv_commands.specs.Switches.{Switch, with_switches}
 use Rattle.solv_commands.specs.declared.flags_of_jobs.JobFlags.{JobFlags}
 use Rattle.solv_commands.specs.declared.causes.Cause.{Cause}
 use Rattle.solv_commands.specs.declared.causes.Cause.TheVariants.{BadWords, BadNumber, BadRepoType, BadNamespace, BadOperator, UnknownJob, UnknownJobFlag, FlagNotHere, UnknownSelection, UnknownLine}
@@ -37,21 +39,15 @@ abbrev pub and_then : {A B E : Type 0} → Result A E → (A → Result B E) →
 and_then (Ok x) next = next x
 and_then (Err cause) next = Err cause
 
--- may so many words stand behind the type of a repository?
-abbrev pub fits_type : List ℕ → ℕ → Bool
-fits_type type n = if bytes_eq type (codes "empty") then n == 0 else (if bytes_eq type (codes "testtags") then n == 1 else nat_le n 1)
+-- how many files stand behind the type of a repository
+abbrev pub file_count : List ℕ → Option ℕ
+file_count type = if bytes_eq type (codes "empty") then Some 0 else (if bytes_eq type (codes "testtags") then Some 1 else None)
 
--- the file behind the type of a repository: none where it is empty
-abbrev pub file_of : List ℕ → List (List ℕ) → Result (Option (List ℕ)) Cause
-file_of type words =
-    if bytes_eq type (codes "empty") then Ok None
-    else (if bytes_eq type (codes "testtags") then Ok (elim words [ [] ↦ None | word ∷ others ↦ Some word ]) else Err BadRepoType)
-
--- `repo NAME PRIORITY testtags FILE`, `repo NAME PRIORITY empty`
+-- `repo NAME PRIORITY testtags FILE`, `repo NAME PRIORITY empty`; behind another type no word or one stands
 abbrev pub repo_line : List (List ℕ) → Result Command Cause
-repo_line (name ∷ number ∷ type ∷ words) =
-    if fits_type type (length words)
-    then and_then (ok_or (priority number) BadNumber) (λ p. and_then (file_of type words) (λ file. Ok (repo name p file)))
+repo_line (name ∷ number ∷ type ∷ files) =
+    if option_map_or (λ count. length files == count) (file_count type) (nat_le (length files) 1)
+    then and_then (ok_or (priority number) BadNumber) (λ p. and_then (ok_or (file_count type) BadRepoType) (λ count. Ok (repo name p (slice_get files 0))))
     else Err BadWords
 repo_line words = Err BadWords
 
@@ -76,11 +72,6 @@ abbrev pub evrcmp_line : List (List ℕ) → Result Command Cause
 evrcmp_line (left ∷ sign ∷ right ∷ []) = and_then (ok_or (comparison sign) BadOperator) (λ c. Ok (evrcmp left c right))
 evrcmp_line words = Err BadWords
 
--- `result KIND,.. FILE`
-abbrev pub result_line : List (List ℕ) → Result Command Cause
-result_line (kinds ∷ file ∷ []) = Ok (results kinds file)
-result_line words = Err BadWords
-
 -- the action that a word is
 abbrev pub action : List ℕ → Result Action Cause
 action word =
@@ -100,55 +91,35 @@ action word =
 
 -- a word in square brackets
 abbrev pub is_bracketed : List ℕ → Bool
-is_bracketed word =
-    nat_le 2 (length word) && (list_any (λ byte. byte == 91) (take 1 word) && list_any (λ byte. byte == 93) (drop (length word - 1) word))
-
--- what stands in the brackets
-abbrev pub in_brackets : List ℕ → List ℕ
-in_brackets word = take (length word - 2) (drop 1 word)
+is_bracketed word = nat_le 2 (length word) && (bytes_eq (take 1 word) (codes "[") && bytes_eq (drop (length word - 1) word) (codes "]"))
 
 -- the flags of a job: its last word, where it is in brackets
 abbrev pub flag_word : List (List ℕ) → Option (List ℕ)
-flag_word [] = None
-flag_word (word ∷ []) = if is_bracketed word then Some word else None
-flag_word (word ∷ next ∷ others) = flag_word (next ∷ others)
+flag_word words = option_and_then (λ word. if is_bracketed word then Some word else None) (last_or None words)
 
 -- the words before them
 abbrev pub before_flags : List (List ℕ) → List (List ℕ)
-before_flags [] = []
-before_flags (word ∷ []) = if is_bracketed word then [] else word ∷ []
-before_flags (word ∷ next ∷ others) = word ∷ before_flags (next ∷ others)
+before_flags words = take (length words - option_len (flag_word words)) words
 
 -- no flag
 abbrev pub no_job_flags : JobFlags
 no_job_flags = record { forcebest = false; cleandeps = false }
 
--- the flags with the one of this name
-abbrev pub with_job_flag : List ℕ → JobFlags → Result JobFlags Cause
-with_job_flag name flags =
-    if bytes_eq name (codes "forcebest") then Ok (record flags { forcebest = true })
-    else (if bytes_eq name (codes "cleandeps") then Ok (record flags { cleandeps = true })
-    else Err UnknownJobFlag)
-
--- the flags with those of these names, in order
-abbrev pub with_job_flags : List (List ℕ) → JobFlags → Result JobFlags Cause
-with_job_flags [] flags = Ok flags
-with_job_flags (name ∷ names) flags = and_then (with_job_flag name flags) (with_job_flags names)
+-- what turns a flag of a job on or off
+abbrev pub job_switches : List (Switch JobFlags)
+job_switches =
+    record { name = codes "forcebest"; is_on = λ flags. flags.forcebest; turned = λ on flags. record flags { forcebest = on } }
+    ∷ record { name = codes "cleandeps"; is_on = λ flags. flags.cleandeps; turned = λ on flags. record flags { cleandeps = on } }
+    ∷ []
 
 -- the flags of a job, which the word in brackets names between commas
 abbrev pub job_flags : Option (List ℕ) → Result JobFlags Cause
 job_flags None = Ok no_job_flags
-job_flags (Some word) = with_job_flags (between_commas (in_brackets word)) no_job_flags
+job_flags (Some word) = ok_or (with_switches job_switches (between_commas (take (length word - 2) (drop 1 word))) no_job_flags) UnknownJobFlag
 
 -- words, one at least
 abbrev pub some_words : (List (List ℕ) → Asked) → List (List ℕ) → Result Asked Cause
-some_words asked [] = Err BadWords
-some_words asked (word ∷ others) = Ok (asked (word ∷ others))
-
--- the one word `packages`
-abbrev pub all_packages : List (List ℕ) → Result Asked Cause
-all_packages (word ∷ []) = if bytes_eq word (codes "packages") then Ok all else Err BadWords
-all_packages words = Err BadWords
+some_words asked words = if length words == 0 then Err BadWords else Ok (asked words)
 
 -- a selection: `pkg PACKAGE`, `name DEPENDENCY`, `provides DEPENDENCY`, `oneof PACKAGE ..`, `all packages`
 abbrev pub selection : List ℕ → List (List ℕ) → Result Asked Cause
@@ -157,7 +128,7 @@ selection kind words =
     else (if bytes_eq kind (codes "name") then some_words by_name words
     else (if bytes_eq kind (codes "provides") then some_words by_provides words
     else (if bytes_eq kind (codes "oneof") then some_words one_of words
-    else (if bytes_eq kind (codes "all") then all_packages words
+    else (if bytes_eq kind (codes "all") then (elim words [ word ∷ [] ↦ if bytes_eq word (codes "packages") then Ok all else Err BadWords | others ↦ Err BadWords ])
     else Err UnknownSelection))))
 
 -- the selection of an action: `noop` may go without one
@@ -166,30 +137,20 @@ asked Noop [] = Ok nothing
 asked other [] = Err UnknownSelection
 asked action (kind ∷ words) = selection kind words
 
--- has a job the words that it must have?
-abbrev pub has_job_words : List ℕ → List (List ℕ) → Bool
-has_job_words word [] = bytes_eq word (codes "noop")
-has_job_words word (next ∷ others) = true
-
 -- may these flags stand at this action? The best may be forced where something comes, and only an erase job cleans
 abbrev pub fits_flags : Action → JobFlags → Bool
 fits_flags action flags = (not flags.forcebest || (elim action [ Install ↦ true | Update ↦ true | other ↦ false ])) && (not flags.cleandeps || acts Erase action)
 
--- `job ACTION SELECTION [FLAG,..]`
+-- `job ACTION SELECTION [FLAG,..]`; `noop` may stand alone
 abbrev pub job_line : List (List ℕ) → Result Command Cause
 job_line [] = Err BadWords
 job_line (word ∷ words) =
-    if has_job_words word words
+    if nat_lt 0 (length words) || bytes_eq word (codes "noop")
     then and_then (action word) (λ a. and_then (job_flags (flag_word words)) (λ flags.
     if fits_flags a flags then and_then (asked a (before_flags words)) (λ s. Ok (job a s flags (joined (word ∷ words)))) else Err FlagNotHere))
     else Err BadWords
 
--- `nextjob`
-abbrev pub next_line : List (List ℕ) → Result Command Cause
-next_line [] = Ok next_round
-next_line words = Err BadWords
-
--- a line, by its first word and the others
+-- a line, by its first word and the others: one of those above, `solverflags FLAG ..`, `result KIND,.. FILE` or `nextjob`
 abbrev pub command : List ℕ → List (List ℕ) → Result Command Cause
 command first words =
     if bytes_eq first (codes "repo") then repo_line words
@@ -199,6 +160,6 @@ command first words =
     else (if bytes_eq first (codes "disable") then disable_line words
     else (if bytes_eq first (codes "evrcmp") then evrcmp_line words
     else (if bytes_eq first (codes "job") then job_line words
-    else (if bytes_eq first (codes "result") then result_line words
-    else (if bytes_eq first (codes "nextjob") then next_line words
+    else (if bytes_eq first (codes "result") then (elim words [ kinds ∷ file ∷ [] ↦ Ok (results kinds file) | others ↦ Err BadWords ])
+    else (if bytes_eq first (codes "nextjob") then (elim words [ [] ↦ Ok next_round | others ↦ Err BadWords ])
     else Err UnknownLine))))))))
