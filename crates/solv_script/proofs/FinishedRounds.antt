@@ -12,7 +12,7 @@ use Rattle.solv_pool.specs.declared.jobs.Job.{Job}
 use Rattle.solv_pool.specs.declared.tasks.Task.{Task}
 use Rattle.solv_script.specs.Inner.Readings.{IsReader, state_of}
 use Rattle.solv_script.specs.Inner.WrittenForms.{HasWrittenForms, is_written_choice}
-use Rattle.solv_script.specs.Reads.{written_round}
+use Rattle.solv_script.specs.Inner.WrittenRounds.{written_round}
 use Rattle.solv_script.specs.Rounds.{first_round, tasks, with_jobs_of}
 use Rattle.solv_script.specs.Inner.Turns.{exchanged, with_front}
 use Rattle.solv_script.specs.ScriptsOf.{IsScriptOf}

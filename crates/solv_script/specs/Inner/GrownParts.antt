@@ -1,6 +1,10 @@
 -- Names for parts of the large script.
 use Rattle.std.specs.Prelude.{ℕ, List, [], ◌∷◌, ◌++◌, codes}
-use Rattle.solv_script.specs.Generator.{Drafted, digit, with_name}
+use Rattle.solv_script.specs.Generator.{Drafted, digit, name_text}
+
+-- a name between words
+abbrev pub with_name : List ℕ → ℕ → List ℕ → List ℕ
+with_name front name behind = front ++ (name_text name ++ behind)
 
 -- the line of a requirement, and of a conflict
 abbrev pub need_line : ℕ → List ℕ
