@@ -15,13 +15,15 @@ use Rattle.solv_pool.specs.declared.packages.Repo.{Repo}
 use Rattle.solv_pool.specs.declared.tasks.Task.{Task}
 use Rattle.solv_pool.specs.declared.universes.Arch.{Arch}
 use Rattle.solv_script.proofs.Finding.{number_text}
-use Rattle.solv_script.specs.Reads.{WrittenCheck, written_round}
+use Rattle.solv_script.specs.Reads.{WrittenCheck}
+use Rattle.solv_script.specs.Inner.WrittenRounds.{written_round}
 use Rattle.solv_script.specs.States.{repo_name, text_of, text_of_number}
 use Rattle.solv_script.specs.declared.scripts.EvrCheck.{EvrCheck}
 use Rattle.solv_script.specs.declared.scripts.Round.{Round}
 use Rattle.solv_writing.specs.Inner.ByIds.{disable_text, disabled_texts, installed_texts, namespace_text, system_text}
 use Rattle.solv_writing.specs.Inner.RoundTexts.{later_text, round_text}
-use Rattle.solv_writing.specs.ScriptTexts.{arch_text, disabled_lines, flag_words, installed_words, result_lines, round_lines, system_lines}
+use Rattle.solv_script.specs.Rows.{arch_text}
+use Rattle.solv_writing.specs.Inner.ScriptParts.{disabled_lines, flag_words, installed_words, result_lines, round_lines, system_lines}
 use Rattle.solv_writing.specs.Inner.LineNames.{namespace_line}
 use Rattle.solv_writing.specs.Inner.LineNames.{check_line, job_line, later_lines}
 

@@ -1,16 +1,18 @@
 -- What the words of a line say is made of these words.
 use Rattle.std.proofs.Common.{◌≡◌, ℕ, Bool, true, false, List, [], ◌∷◌, length, Option, Some, None, Result, Ok, Err, refl, ap, subst}
-use Rattle.std.specs.Prelude.{codes, IfOk, ok_or, option_to_list, if◌then◌else◌}
+use Rattle.std.specs.Prelude.{◌==◌, ◌||◌, codes, nat_le, nat_lt, IfOk, ok_or, option_to_list, if◌then◌else◌}
+use Rattle.std.specs.Option.{option_map_or}
 use Rattle.std.specs.List.{list_all}
 use Rattle.std.specs.Str.{bytes_eq}
 use Rattle.solv_base.specs.declared.comparison.Cmp.{Cmp}
 use Rattle.solv_deps.specs.Canonical.{comparison_text}
 use Rattle.solv_deps.specs.Grammar.{comparison, is_namespace}
 use Rattle.solv_io.specs.JoinedWords.{joined, is_word}
-use Rattle.solv_commands.specs.Commands.{Command, repo, system, solverflags, namespace, disable, evrcmp, results, job, next_round, and_then, fits_type, file_of, repo_line, system_line, namespace_line, disable_line, evrcmp_line, result_line, has_job_words, action, flag_word, job_flags, fits_flags, asked, before_flags, job_line, next_line, command}
+use Rattle.solv_commands.specs.Commands.{Command, repo, system, solverflags, namespace, disable, evrcmp, results, job, next_round, and_then, file_count, repo_line, system_line, namespace_line, disable_line, evrcmp_line, action, flag_word, job_flags, fits_flags, asked, before_flags, job_line, command}
+use Rattle.solv_commands.specs.Inner.LineWords.{next_line, result_line}
 use Rattle.solv_commands.specs.Numbers.{priority}
 use Rattle.solv_commands.specs.declared.causes.Cause.{Cause}
-use Rattle.solv_commands.specs.declared.causes.Cause.TheVariants.{BadNumber, BadOperator, BadWords, BadNamespace, FlagNotHere, UnknownLine}
+use Rattle.solv_commands.specs.declared.causes.Cause.TheVariants.{BadNumber, BadOperator, BadRepoType, BadWords, BadNamespace, FlagNotHere, UnknownLine}
 use Rattle.solv_list.proofs.Booleans.{first_of_both, second_of_both}
 use Rattle.solv_writing.proofs.Priorities.{IsPriority, priority_again}
 
@@ -53,9 +55,9 @@ or_some c None x h = absurd (cc)
 or_some c (Some y) x h = let e : y ≡ x = cc in ap Some e
 
 repo_of : (words : List (List ℕ)) → list_all is_word words ≡ true → IfOk (repo_line words) IsOfWords
-repo_of (name ∷ number ∷ type ∷ words) h =
-    either_if IsOfWords (fits_type type (length words)) _ (Err BadWords) (λ f. then_if IsOfWords (ok_or (priority number) BadNumber) _
-    (λ p e. then_if IsOfWords (file_of type words) _ (λ file g. (first_of_both (is_word name) _ h, priority_again number p (or_some BadNumber (priority number) p e)))))
+repo_of (name ∷ number ∷ type ∷ files) h =
+    either_if IsOfWords (option_map_or (λ count. length files == count) (file_count type) (nat_le (length files) 1)) _ (Err BadWords) (λ f. then_if IsOfWords (ok_or (priority number) BadNumber) _
+    (λ p e. then_if IsOfWords (ok_or (file_count type) BadRepoType) _ (λ count g. (first_of_both (is_word name) _ h, priority_again number p (or_some BadNumber (priority number) p e)))))
     (λ f. tt)
 repo_of [] h = tt
 repo_of (a ∷ []) h = tt
@@ -126,7 +128,7 @@ IsAJob words c = ⊥
 
 job_is : (word : List ℕ) (words : List (List ℕ)) → IfOk (job_line (word ∷ words)) (IsAJob (word ∷ words))
 job_is word words =
-    either_if (IsAJob (word ∷ words)) (has_job_words word words) _ (Err BadWords)
+    either_if (IsAJob (word ∷ words)) (nat_lt 0 (length words) || bytes_eq word (codes "noop")) _ (Err BadWords)
     (λ e. then_if (IsAJob (word ∷ words)) (action word) _ (λ a f. then_if (IsAJob (word ∷ words)) (job_flags (flag_word words)) _
     (λ flags g. either_if (IsAJob (word ∷ words)) (fits_flags a flags) _ (Err FlagNotHere) (λ k. then_if (IsAJob (word ∷ words)) (asked a (before_flags words)) _ (λ s l. refl)) (λ k. tt))))
     (λ e. tt)

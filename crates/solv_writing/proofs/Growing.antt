@@ -23,7 +23,7 @@ use Rattle.solv_list.proofs.Numbers.{equal_to_itself}
 use Rattle.solv_io.specs.JoinedWords.{is_word}
 use Rattle.solv_writing.specs.Inner.ReadPackages.{are_apart, IsReadPackage}
 use Rattle.solv_writing.specs.Inner.ReadScripts.{Chooses, IsReadJob, IsReadRepo, IsReadNamespace, IsToldByName, IsToldByText, packages_from, IsReadSystem, AreDisabledTold, view, IsReadRound}
-use Rattle.solv_writing.specs.ScriptTexts.{packages_of}
+use Rattle.solv_writing.specs.Inner.ScriptParts.{packages_of}
 use Rattle.solv_writing.proofs.GoodStates.{are_below, IsGood}
 use Rattle.solv_writing.proofs.ReadTags.{IsGiven, apart_behind}
 use Rattle.solv_writing.proofs.Told.{text_stays, number_stays, numbers_stay, told_stays}

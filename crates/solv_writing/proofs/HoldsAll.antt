@@ -15,7 +15,8 @@ use Rattle.solv_pool.specs.declared.packages.Need.{Need}
 use Rattle.solv_pool.specs.declared.packages.Package.{Package}
 use Rattle.solv_pool.specs.declared.packages.Repo.{Repo}
 use Rattle.solv_pool.specs.declared.tasks.Task.{Task}
-use Rattle.solv_script.specs.Reads.{WrittenRound, written_round, written_script}
+use Rattle.solv_script.specs.Reads.{WrittenRound, written_script}
+use Rattle.solv_script.specs.Inner.WrittenRounds.{written_round}
 use Rattle.solv_script.specs.Rounds.{first_round, rounds, with_jobs_of, tasks}
 use Rattle.solv_script.specs.declared.scripts.Round.{Round}
 use Rattle.solv_script.specs.declared.scripts.Script.{Script}

@@ -20,11 +20,13 @@ use Rattle.solv_commands.specs.Commands.{Command, repo, system, solverflags, nam
 use Rattle.solv_commands.specs.declared.causes.Cause.{Cause}
 use Rattle.solv_commands.specs.declared.causes.Cause.TheVariants.{AfterNextjob, DuplicateRepo, Compressed, BadFileName, FileTooLong, ScriptTooLong}
 use Rattle.solv_script.specs.FileNames.{is_compressed, fetched_name}
-use Rattle.solv_script.specs.Grammar.{Bad, Row, done, asks, Named, Purpose, of_packages, of_result, counted, repository_given, with_lines, file_named, inline, next_bytes, answered, fetched_behind, then_row, at_line, fetched_given, file_row, lines_row, said_row, words_row, row, most_file, most_script, lines_given, script_read}
+use Rattle.solv_script.specs.Grammar.{Bad, counted, repository_given, inline, most_file, most_script, script_read}
+use Rattle.solv_script.specs.Inner.LineRows.{Row, done, asks, Named, Purpose, of_packages, of_result, with_lines, file_named, next_bytes, answered, fetched_behind, then_row, at_line, fetched_given, file_row, lines_row, said_row, words_row, row, lines_given}
 use Rattle.solv_script.specs.Results.{expected}
 use Rattle.solv_script.specs.Rows.{is_too_late, plain_row, with_repo}
 use Rattle.solv_commands.specs.Commands.{and_then}
-use Rattle.solv_script.specs.ScriptLines.{ScriptLine, is_inline, inline_lines, script_lines, own_words}
+use Rattle.solv_script.specs.ScriptLines.{ScriptLine, inline_lines, script_lines, own_words}
+use Rattle.solv_script.specs.Inner.LineParts.{is_inline}
 use Rattle.solv_script.specs.States.{State, no_line, repo_place}
 use Rattle.solv_list.proofs.Booleans.{first_of_both, second_of_both}
 use Rattle.solv_io.specs.JoinedWords.{is_inner, is_word, is_line}
@@ -39,6 +41,7 @@ use Rattle.solv_writing.proofs.Trimmed.{trimmed_kept}
 use Rattle.solv_io.proofs.WordsAgain.{line_words}
 use Rattle.solv_list.proofs.Lists.{place_within, list_any_map}
 use Rattle.solv_script.proofs.RowForms.{text_then}
+use Rattle.solv_script.proofs.RowsInTurn.{given_in_turn}
 
 -- numbered lines that are lines
 abbrev are_lined : List (ℕ × List ℕ) → Bool
@@ -277,7 +280,9 @@ module _ (again : PrintedIsReadAgain) (written : ReadIsWritten) (script : List �
 
   -- what a script gives
   pub script_kept : (fetched : List (List ℕ)) (bytes : List ℕ) → IfOk (script_read script fetched bytes) IsGood
-  script_kept fetched bytes = on (counted no_line (length bytes)) (either_if IsGood (nat_lt most_file (length bytes)) (Err FileTooLong) _ (λ e. tt) (λ e. either_if IsGood (nat_lt most_script (0 + length bytes)) (Err ScriptTooLong) _ (λ e. tt) (λ e. start_kept (0 + length bytes))))
+  script_kept fetched bytes =
+      subst (λ (r : Result State Bad). IfOk r IsGood) (sym (given_in_turn script bytes fetched))
+      (on (counted no_line (length bytes)) (either_if IsGood (nat_lt most_file (length bytes)) (Err FileTooLong) _ (λ e. tt) (λ e. either_if IsGood (nat_lt most_script (0 + length bytes)) (Err ScriptTooLong) _ (λ e. tt) (λ e. start_kept (0 + length bytes)))))
     where
       on : (r : Result State Cause) → IfOk r IsGood → IfOk (and_then (at_line script 1 r) (λ s. lines_given script s (script_lines 1 (lines_of bytes)) fetched)) IsGood
       on (Ok s) g = lines_kept 1 (lines_of bytes) fetched s (lines_lined bytes) g

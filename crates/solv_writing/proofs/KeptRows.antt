@@ -1,8 +1,8 @@
 -- What the lines of a script give can be written again.
 use Rattle.std.proofs.Common.{◌≡◌, ℕ, zero, suc, ◌+◌, ◌==◌, Bool, true, false, ◌||◌, List, [], ◌∷◌, ◌++◌, map, length, slice_get, Option, Some, None, Result, Ok, Err, cond, refl, sym, ap, subst, ◌∙◌, arith, All}
-use Rattle.std.specs.Prelude.{pos, get_or, codes, find, is_some, IfOk, slice_set, option_to_list, if◌then◌else◌}
+use Rattle.std.specs.Prelude.{pos, get_or, codes, find, is_some, ok_or, option_and_then, option_map, IfOk, slice_set, option_to_list, if◌then◌else◌}
 use Rattle.std.specs.List.{list_all, list_any, range_with_len}
-use Rattle.std.specs.Option.{option_map_or}
+use Rattle.std.specs.Option.{option_map_or, option_transpose}
 use Rattle.std.specs.Str.{bytes_eq}
 use Rattle.std.proofs.lemmas.List.Elements.{All-head, All-tail, All-nil, All-cons, All-push, All-append}
 use Rattle.solv_io.specs.Words.{between, lengthened}
@@ -19,14 +19,15 @@ use Rattle.solv_pool.specs.declared.universes.Arch.{Arch}
 use Rattle.solv_commands.specs.Commas.{between_commas}
 use Rattle.solv_io.specs.JoinedWords.{joined, is_word}
 use Rattle.solv_commands.specs.Commands.{Asked, job, pkg, by_name, by_provides, one_of, all, nothing, and_then as commands_then}
-use Rattle.solv_commands.specs.SolverFlags.{with_words}
+use Rattle.solv_commands.specs.Inner.FlagWords.{with_words}
+use Rattle.solv_commands.specs.Switches.{Switch, with_switch, with_switches}
 use Rattle.solv_commands.specs.declared.flags_of_jobs.JobFlags.{JobFlags}
 use Rattle.solv_commands.specs.declared.causes.Cause.{Cause}
-use Rattle.solv_commands.specs.declared.causes.Cause.TheVariants.{UnknownFlag, DuplicateSystem, BadArch, BadDisttype, UnknownRepo, UnknownPackage, DuplicateResult, SystemInJob}
+use Rattle.solv_commands.specs.declared.causes.Cause.TheVariants.{UnknownFlag, DuplicateSystem, BadArch, BadDisttype, UnknownRepo, UnknownPackage, DuplicateResult, SystemInJob, UnknownKind}
 use Rattle.solv_script.specs.Reads.{default_kinds}
-use Rattle.solv_script.specs.Results.{no_kinds, with_kind, with_kinds, kinds_named}
-use Rattle.solv_script.specs.Rows.{arch_named, installed_row, system_row, package_numbers, with_namespace, namespace_row, disabled, result_row, no_system, one_package, chosen, job_row}
-use Rattle.solv_script.specs.Inner.LineParts.{disable_row, evrcmp_row, flags_row}
+use Rattle.solv_script.specs.Results.{no_kinds, kind_switches, kinds_named}
+use Rattle.solv_script.specs.Rows.{arch_named, system_row, package_numbers, with_namespace, namespace_row, Chosen, chosen, job_row}
+use Rattle.solv_script.specs.Inner.LineParts.{disable_row, disabled, evrcmp_row, flags_row, installed_row, one_package, result_row, some_packages}
 use Rattle.solv_commands.specs.Commands.{and_then}
 use Rattle.solv_script.specs.Inner.LineParts.{or_cause}
 use Rattle.solv_script.specs.States.{State, rounds_given, repo_place, repo_name, text_of, text_of_number, package_number}
@@ -35,7 +36,7 @@ use Rattle.solv_list.proofs.Booleans.{first_of_both, second_of_both}
 use Rattle.solv_list.proofs.Lists.{same_bytes}
 use Rattle.solv_writing.specs.Inner.ReadPackages.{are_apart, IsKept}
 use Rattle.solv_writing.specs.Inner.ReadScripts.{Chooses, IsReadJob, IsReadCheck, IsReadNamespace, IsToldByName, IsToldByText, IsReadSystem, AreDisabledTold, view}
-use Rattle.solv_writing.specs.ScriptTexts.{kind_names, with_commas}
+use Rattle.solv_writing.specs.Inner.ScriptParts.{kind_names, with_commas}
 use Rattle.solv_writing.proofs.CommandWords.{AreSome, IsJobOf, either_if}
 use Rattle.solv_writing.proofs.GoodStates.{IsGood, rounds_good}
 use Rattle.solv_writing.proofs.Growing.{place_found}
@@ -112,10 +113,14 @@ system_kept s arch_text type installed word g =
   where
     on : (arch : Arch) (installed : Option (List ℕ)) → list_all is_word (option_to_list installed) ≡ true → IfOk (installed_row s arch installed) IsGood
     on arch None w = with_system s arch None tt g
-    on arch (Some text) w =
-        or_if IsGood (repo_place s.task text) UnknownRepo _ (λ place e.
-        let told = place_told s.task text place (first_of_both (is_word text) true w) e in
-        with_system s arch (Some place) (record { word = told.word; place_is = told.place_is }) g)
+    on arch (Some text) w = at (repo_place s.task text) refl
+      where
+        at : (o : Option ℕ) → repo_place s.task text ≡ o
+            → IfOk (and_then (option_transpose (Some (ok_or o UnknownRepo))) (λ place. Ok (record s { task = record s.task { arch = Some arch; installed = place } }))) IsGood
+        at None e = tt
+        at (Some place) e =
+            let told = place_told s.task text place (first_of_both (is_word text) true w) e in
+            with_system s arch (Some place) (record { word = told.word; place_is = told.place_is }) g
 
 -- a name of a namespace
 pub record IsNamespaceName (text : List ℕ) : Type 0 where
@@ -250,14 +255,12 @@ chosen_is task held (pkg w) = or_if (λ c. Chooses task (pkg w) c.choice) (packa
 chosen_is task held (by_name ws) = text_then (λ c. Chooses task (by_name ws) c.choice) (dependency Plain (joined ws)) _ (λ d e. text_then (λ c. Chooses task (by_name ws) c.choice) (dependency_entered d held) _ (λ x f. (d, e, refl)))
 chosen_is task held (by_provides ws) = text_then (λ c. Chooses task (by_provides ws) c.choice) (dependency Plain (joined ws)) _ (λ d e. text_then (λ c. Chooses task (by_provides ws) c.choice) (dependency_entered d held) _ (λ x f. (d, e, refl)))
 chosen_is task held (one_of ws) =
-    ok_then (λ c. Chooses task (one_of ws) c.choice) (package_numbers task ws) _ (λ ps e. ok_then (λ c. Chooses task (one_of ws) c.choice) (no_system ps) _ (λ qs f. on ps qs e f))
+    ok_then (λ c. Chooses task (one_of ws) c.choice) (package_numbers task ws) _ (λ ps e. on ps e (list_any (λ p. p == 0) ps) refl)
   where
-    on : (ps qs : List ℕ) → package_numbers task ws ≡ Ok ps → no_system ps ≡ Ok qs → Chooses task (one_of ws) (written.one_of qs)
-    on ps qs e f =
-        (elim (list_any (λ p. p == 0) ps) as (λ b. list_any (λ p. p == 0) ps ≡ b → (let r : Result (List ℕ) Cause = if b then Err SystemInJob else Ok ps in r) ≡ Ok qs → Chooses task (one_of ws) (written.one_of qs)) [
-          | true ↦ λ g h. absurd (cc)
-          | false ↦ λ g h. let same : ps ≡ qs = cc in (ps, e, g, ap written.one_of (sym same))
-        ]) refl f
+    on : (ps : List ℕ) → package_numbers task ws ≡ Ok ps → (b : Bool) → list_any (λ p. p == 0) ps ≡ b
+        → IfOk (if b then Err SystemInJob else Ok (record { choice = written.one_of ps; held = held })) (λ (c : Chosen). Chooses task (one_of ws) c.choice)
+    on ps e true g = tt
+    on ps e false g = (ps, e, g, refl)
 chosen_is task held all = refl
 chosen_is task held nothing = refl
 
@@ -283,6 +286,23 @@ some_kind k = k.transaction || (k.problems || (k.order || (k.reason || (k.userin
 record AreNamed (k : Kinds) : Type 0 where
   some : some_kind k ≡ true
 
+-- the kinds with the one of this name, and with those of these names
+abbrev with_kind : List ℕ → Kinds → Result Kinds Cause
+with_kind name k = ok_or (with_switch kind_switches true name k) UnknownKind
+
+abbrev with_kinds : List (List ℕ) → Kinds → Result Kinds Cause
+with_kinds [] k = Ok k
+with_kinds (name ∷ names) k = commands_then (with_kind name k) (with_kinds names)
+
+with_kinds_are : (names : List (List ℕ)) (k : Kinds) → ok_or (with_switches kind_switches names k) UnknownKind ≡ with_kinds names k
+with_kinds_are [] k = refl
+with_kinds_are (name ∷ names) k = by (with_switch kind_switches true name k) (with_kinds_are names)
+  where
+    by : (o : Option Kinds) → ((q : Kinds) → ok_or (with_switches kind_switches names q) UnknownKind ≡ with_kinds names q)
+        → ok_or (option_and_then (with_switches kind_switches names) o) UnknownKind ≡ commands_then (ok_or o UnknownKind) (with_kinds names)
+    by None same = refl
+    by (Some q) same = same q
+
 kind_named : (name : List ℕ) (k : Kinds) → IfOk (with_kind name k) AreNamed
 kind_named name k =
     either_kinds (bytes_eq name (codes "transaction")) _ _ (record { some = refl })
@@ -292,9 +312,10 @@ kind_named name k =
     (either_kinds (bytes_eq name (codes "userinstalled")) _ _ (record { some = behind_reason refl })
     (either_kinds (bytes_eq name (codes "unneeded")) _ _ (record { some = behind_reason (or_right k.userinstalled true refl) }) tt)))))
   where
-    either_kinds : (b : Bool) (q r : Result Kinds Cause) → IfOk q AreNamed → IfOk r AreNamed → IfOk (if b then q else r) AreNamed
-    either_kinds true q r h l = h
-    either_kinds false q r h l = l
+    either_kinds : (b : Bool) (s : Switch Kinds) (o : Option (Switch Kinds)) → AreNamed (s.turned true k) → IfOk (ok_or (option_map (λ switch. switch.turned true k) o) UnknownKind) AreNamed
+        → IfOk (ok_or (option_map (λ switch. switch.turned true k) (cond b (Some s) o)) UnknownKind) AreNamed
+    either_kinds true s o h l = h
+    either_kinds false s o h l = l
 
     behind_transaction : {b : Bool} → b ≡ true → (k.transaction || b) ≡ true
     behind_transaction {b} h = or_right k.transaction b h
@@ -414,7 +435,7 @@ kinds_read : (word : List ℕ) (k : Kinds) → kinds_named word ≡ Ok k → IsK
 kinds_read word k h =
     let b = between_some 44 word in
     let are : IfOk (with_kinds (between_commas word) no_kinds) AreNamed = subst (λ ns. IfOk (with_kinds ns no_kinds) AreNamed) (sym b.is) (kinds_some b.rest b.first) in
-    kinds_again k (if_is AreNamed (kinds_named word) k h are)
+    kinds_again k (if_is AreNamed (kinds_named word) k h (subst (λ (r : Result Kinds Cause). IfOk r AreNamed) (sym (with_kinds_are (between_commas word) no_kinds)) are))
 
 -- its kinds were named
 pub record HasKinds (t : State) : Type 0 where

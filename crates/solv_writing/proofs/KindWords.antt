@@ -5,7 +5,7 @@ use Rattle.solv_io.specs.Lines.{ended_lines}
 use Rattle.solv_script.specs.Grammar.{inline}
 use Rattle.solv_script.specs.declared.scripts.Kinds.{Kinds}
 use Rattle.solv_writing.specs.Inner.KindWords.{more, kinds_so_far}
-use Rattle.solv_writing.specs.ScriptTexts.{kind_names, with_commas}
+use Rattle.solv_writing.specs.Inner.ScriptParts.{kind_names, with_commas}
 use Rattle.solv_io.specs.JoinedWords.{joined}
 
 all_kinds : (k : Kinds) → kinds_so_far k ≡ with_commas (kind_names k)

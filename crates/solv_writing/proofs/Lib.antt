@@ -24,3 +24,4 @@ pub mod RepositorySpans
 pub mod DisabledPackages
 pub mod ByTexts
 pub mod WholeTexts
+pub mod TextInParts

@@ -24,10 +24,13 @@ use Rattle.solv_list.proofs.Lists.{list_all_join}
 use Rattle.solv_io.specs.JoinedWords.{is_inner, is_solid, is_word, is_line, joined}
 use Rattle.solv_writing.specs.Inner.ReadPackages.{ReadsBack, IsKept, IsReadPackage}
 use Rattle.solv_writing.specs.Inner.ReadScripts.{IsReadJob, IsReadCheck, AreReadKinds, IsReadRepo, IsToldByText, IsReadNamespace, IsReadSystem, AreDisabledTold, IsReadRound, view_of, IsReadUniverse, universe_of, IsReadScript}
-use Rattle.solv_writing.specs.ScriptTexts.{inlined, content_words, repository_lines, packages_of, repositories_from, arch_text, installed_words, system_lines, disabled_lines, universe_lines, flag_word, flag_words, kind_names, with_commas, result_lines, round_lines, first_round, lines_of_script}
+use Rattle.solv_writing.specs.ScriptTexts.{inlined}
+use Rattle.solv_script.specs.Rows.{arch_text}
+use Rattle.solv_writing.specs.Inner.ScriptParts.{content_words, repository_lines, packages_of, repositories_from, installed_words, system_lines, disabled_lines, universe_lines, flag_word, flag_words, kind_names, with_commas, result_lines, round_lines, first_round, lines_of_script}
 use Rattle.solv_writing.specs.Inner.LineNames.{disable_line, namespace_line}
 use Rattle.solv_writing.specs.Inner.LineNames.{check_line, job_line, later_lines}
-use Rattle.solv_writing.specs.TagLines.{Entry, letters_of, entry_line, evr_words, text_entry, dep_entry, entries_of, package_lines, tag_lines}
+use Rattle.solv_writing.specs.TagLines.{evr_words}
+use Rattle.solv_writing.specs.Inner.TagParts.{Entry, letters_of, entry_line, text_entry, dep_entry, entries_of, package_lines, tag_lines}
 use Rattle.solv_writing.specs.Inner.LineNames.{package_entry, need_entry}
 use Rattle.solv_writing.proofs.EvrWords.{evr_parts}
 use Rattle.solv_deps.proofs.OneLine.{join}

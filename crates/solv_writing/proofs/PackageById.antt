@@ -15,9 +15,9 @@ use Rattle.solv_tags.specs.declared.tag.Tag.{Tag}
 use Rattle.solv_tags.specs.declared.tag.Tag.TheVariants.{Prv, Req, Prq, Con, Obs, Rec, Sug, Sup, Enh, Vnd, Fls}
 use Rattle.solv_list.proofs.Booleans.{first_of_both, second_of_both}
 use Rattle.solv_list.proofs.Lists.{all_left, all_right, all_at, drop_get}
-use Rattle.solv_writing.specs.TagLines.{Entry, letters_of, tag_line, entry_line, text_entry, dep_entry, entries_of, package_lines, tag_lines}
+use Rattle.solv_writing.specs.Inner.TagParts.{Entry, letters_of, tag_line, entry_line, text_entry, dep_entry, entries_of, package_lines, tag_lines}
 use Rattle.solv_writing.specs.Inner.LineNames.{need_entry, package_entry}
-use Rattle.solv_writing.specs.ScriptTexts.{packages_of}
+use Rattle.solv_writing.specs.Inner.ScriptParts.{packages_of}
 use Rattle.solv_writing.specs.Inner.PackageLines.{HasNames, HasRelations, dep_lines, need_lines, strong_lines, weak_lines}
 
 module _ (pool : Held) where

@@ -15,8 +15,9 @@ use Rattle.solv_script.specs.Grammar.{inline}
 use Rattle.solv_list.proofs.Lists.{all_at, drop_get, some_there}
 use Rattle.solv_writing.specs.declared.spans.Span.{Span}
 use Rattle.solv_writing.specs.Inner.Spans.{IsSpan}
-use Rattle.solv_writing.specs.ScriptTexts.{content_words, inlined, packages_of, repository_lines, repositories_from}
-use Rattle.solv_writing.specs.TagLines.{tag_lines}
+use Rattle.solv_writing.specs.ScriptTexts.{inlined}
+use Rattle.solv_writing.specs.Inner.ScriptParts.{content_words, packages_of, repository_lines, repositories_from}
+use Rattle.solv_writing.specs.Inner.TagParts.{tag_lines}
 use Rattle.solv_writing.proofs.PackageById.{own_first, tags_both}
 use Rattle.solv_writing.proofs.RepositorySpans.{content_is, same_there}
 use Rattle.solv_io.proofs.WrittenLines.{ended_lines-append}

@@ -14,7 +14,7 @@ use Rattle.solv_list.proofs.Lists.{place_there}
 use Rattle.solv_list.proofs.Numbers.{equal_to_itself, same_number}
 use Rattle.solv_writing.specs.declared.spans.Span.{Span}
 use Rattle.solv_writing.specs.Inner.Spans.{IsSpan, AreSpans}
-use Rattle.solv_writing.specs.ScriptTexts.{content_words, packages_of}
+use Rattle.solv_writing.specs.Inner.ScriptParts.{content_words, packages_of}
 use Rattle.std.proofs.lemmas.Bool.{cases_eq, ne_eqb}
 
 below_or_at : (k i : ℕ) → k < i + 1 → (k < i) ⊎ (k ≡ i)

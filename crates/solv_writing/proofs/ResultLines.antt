@@ -11,7 +11,8 @@ use Rattle.solv_deps.specs.Laws.{HeldIsEntered}
 use Rattle.solv_tags.specs.Headings.{trimmed}
 use Rattle.solv_commands.specs.Commands.{Command, results, command}
 use Rattle.solv_commands.specs.declared.causes.Cause.{Cause}
-use Rattle.solv_script.specs.Grammar.{Bad, done, Purpose, of_result, inline, file_named, row, command_row, with_lines}
+use Rattle.solv_script.specs.Grammar.{Bad, inline}
+use Rattle.solv_script.specs.Inner.LineRows.{done, Purpose, of_result, file_named, row, command_row, with_lines}
 use Rattle.solv_script.specs.Results.{expected}
 use Rattle.solv_script.specs.Rows.{is_too_late, plain_row}
 use Rattle.solv_script.specs.ScriptLines.{ScriptLine, inline_lines, script_lines}
@@ -21,7 +22,8 @@ use Rattle.solv_list.proofs.Numbers.{successor_not_zero}
 use Rattle.solv_io.specs.JoinedWords.{is_word, joined}
 use Rattle.solv_writing.specs.Inner.ReadPackages.{IsKept}
 use Rattle.solv_writing.specs.Inner.ReadScripts.{AreReadKinds}
-use Rattle.solv_writing.specs.ScriptTexts.{inlined, kind_names, with_commas}
+use Rattle.solv_writing.specs.ScriptTexts.{inlined}
+use Rattle.solv_writing.specs.Inner.ScriptParts.{kind_names, with_commas}
 use Rattle.solv_writing.proofs.ScriptLines.{SoFar, Reads, Goes, Leads, comments, one_row, row_said, command_then, block_is, second_of_each}
 use Rattle.solv_io.proofs.WordsAgain.{words_again}
 

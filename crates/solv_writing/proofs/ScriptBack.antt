@@ -14,7 +14,8 @@ use Rattle.solv_pool.specs.Contents.{most_packages}
 use Rattle.solv_pool.specs.Written.{WrittenRepo, WrittenPackage, WrittenJob}
 use Rattle.solv_pool.specs.declared.tasks.Flags.{Flags}
 use Rattle.solv_pool.specs.declared.universes.Arch.{Arch}
-use Rattle.solv_script.specs.Grammar.{Bad, begun, most_file, most_script, script_read}
+use Rattle.solv_script.specs.Grammar.{Bad, most_file, most_script, script_read}
+use Rattle.solv_script.specs.Inner.LineRows.{begun}
 use Rattle.solv_script.specs.Reads.{WrittenScript, WrittenCheck, WrittenRound, first_flags, default_kinds}
 use Rattle.solv_script.specs.ScriptLines.{script_lines}
 use Rattle.solv_script.specs.States.{State, no_line, with_rounds, script_given}
@@ -26,7 +27,8 @@ use Rattle.solv_io.specs.JoinedWords.{is_line, joined}
 use Rattle.solv_deps.specs.Parts.{IsPart}
 use Rattle.solv_writing.specs.Inner.ReadPackages.{are_apart, IsReadPackage, HoldsText, HoldsPackage}
 use Rattle.solv_writing.specs.Inner.ReadScripts.{IsReadJob, HoldsChoice, IsReadCheck, AreReadKinds, IsReadRound, IsReadRepo, IsReadNamespace, packages_from, IsReadSystem, view_of, IsReadScript, HoldsScript}
-use Rattle.solv_writing.specs.ScriptTexts.{packages_of, repositories_from, system_lines, disabled_lines, result_lines, repository_lines, arch_text, installed_words, round_lines, first_round, lines_of_script, text_of_script}
+use Rattle.solv_script.specs.Rows.{arch_text}
+use Rattle.solv_writing.specs.Inner.ScriptParts.{packages_of, repositories_from, system_lines, disabled_lines, result_lines, repository_lines, installed_words, round_lines, first_round, lines_of_script, text_in_parts}
 use Rattle.solv_writing.specs.Inner.LineNames.{namespace_line}
 use Rattle.solv_writing.specs.Inner.LineNames.{check_line, job_line, later_lines}
 use Rattle.solv_writing.specs.WrittenBack.{IsReadBack}
@@ -35,6 +37,7 @@ use Rattle.solv_writing.proofs.ScriptLines.{SoFar, so_far, hand_of, Reads, Goes,
 use Rattle.solv_writing.proofs.TagsRead.{IsOfRepo}
 use Rattle.solv_writing.proofs.UniverseLines.{bare_system_leads, system_leads, disabled_lead, namespace_leads, repository_leads}
 use Rattle.solv_list.proofs.Lists.{place_none, list_any_map}
+use Rattle.solv_script.proofs.RowsInTurn.{given_in_turn, due_in_turn}
 
 -- what lines gave that have these parts, and nothing of a round
 abbrev made : List WrittenRepo → List WrittenPackage → List Bool → Option Arch → Option ℕ → List (List ℕ × List ℕ) → List WrittenCheck → SoFar
@@ -303,18 +306,19 @@ empty_part whole = record {
 }
 
 -- a script with these facts is read back, where its text is no longer than a file may be and its lines are lines
-pub read_back : HeldIsEntered → (whole : Held) → IsPool whole → (w : WrittenScript) → IsReadScript w → HoldsScript whole w → list_all is_line (lines_of_script w) ≡ true → length (text_of_script w) ≤ most_file
-    → IsReadBack w (text_of_script w)
+pub read_back : HeldIsEntered → (whole : Held) → IsPool whole → (w : WrittenScript) → IsReadScript w → HoldsScript whole w → list_all is_line (lines_of_script w) ≡ true → length (text_in_parts w) ≤ most_file
+    → IsReadBack w (text_in_parts w)
 read_back again whole p w is holds lined short = record {
   given = λ name fetched.
-      let goes : Goes whole p again name (record no_line { bytes = 0 + length (text_of_script w) }) (script_lines 1 (lines_of_script w)) (end_of whole p again name w is holds)
-      = (all_on whole p again name w is holds).goes (record no_line { bytes = 0 + length (text_of_script w) }) (begins whole p again name w is holds (length (text_of_script w)) (empty_part whole)) 1 in
-      weaker name (script_read name fetched (text_of_script w))
-      (rw (whole_name whole p again name w is holds (length (text_of_script w)) short, lines_of-ended (lines_of_script w) (all_lines (lines_of_script w) lined)) (goes.given fetched));
+      let goes : Goes whole p again name (record no_line { bytes = 0 + length (text_in_parts w) }) (script_lines 1 (lines_of_script w)) (end_of whole p again name w is holds)
+      = (all_on whole p again name w is holds).goes (record no_line { bytes = 0 + length (text_in_parts w) }) (begins whole p again name w is holds (length (text_in_parts w)) (empty_part whole)) 1 in
+      weaker name (script_read name fetched (text_in_parts w))
+      (subst (λ (r : Result State Bad). IsOkAnd r (Reads whole p again name (end_of whole p again name w is holds))) (sym (given_in_turn name (text_in_parts w) fetched))
+      (rw (whole_name whole p again name w is holds (length (text_in_parts w)) short, lines_of-ended (lines_of_script w) (all_lines (lines_of_script w) lined)) (goes.given fetched)));
   due = λ name fetched.
-      let goes : Goes whole p again name (record no_line { bytes = 0 + length (text_of_script w) }) (script_lines 1 (lines_of_script w)) (end_of whole p again name w is holds)
-      = (all_on whole p again name w is holds).goes (record no_line { bytes = 0 + length (text_of_script w) }) (begins whole p again name w is holds (length (text_of_script w)) (empty_part whole)) 1 in
-      rw (whole_name whole p again name w is holds (length (text_of_script w)) short, lines_of-ended (lines_of_script w) (all_lines (lines_of_script w) lined)) (goes.due fetched);
+      let goes : Goes whole p again name (record no_line { bytes = 0 + length (text_in_parts w) }) (script_lines 1 (lines_of_script w)) (end_of whole p again name w is holds)
+      = (all_on whole p again name w is holds).goes (record no_line { bytes = 0 + length (text_in_parts w) }) (begins whole p again name w is holds (length (text_in_parts w)) (empty_part whole)) 1 in
+      due_in_turn name (text_in_parts w) fetched ∙ rw (whole_name whole p again name w is holds (length (text_in_parts w)) short, lines_of-ended (lines_of_script w) (all_lines (lines_of_script w) lined)) (goes.due fetched);
 }
   where
     weaker : (name : List ℕ) (r : Result State Bad) → IsOkAnd r (Reads whole p again name (end_of whole p again name w is holds)) → IsOkAnd r (λ t. script_given t ≡ w)

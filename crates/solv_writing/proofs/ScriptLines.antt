@@ -1,6 +1,6 @@
 -- Lines of a written script are read one after the other, and no file is asked for.
 use Rattle.std.proofs.Common.{◌≡◌, ℕ, ◌+◌, Bool, true, false, List, [], ◌∷◌, ◌++◌, map, take, Option, Some, None, Result, Ok, Err, refl, sym, ap, subst, ◌∙◌}
-use Rattle.std.specs.Prelude.{◌&&◌, nat_lt, length, codes, IsOkAnd, if◌then◌else◌}
+use Rattle.std.specs.Prelude.{◌&&◌, nat_lt, length, codes, flat_map, option_and_then, IsOkAnd, if◌then◌else◌}
 use Rattle.std.specs.List.{list_all, enumerate_from}
 use Rattle.std.specs.Str.{bytes_eq}
 use Rattle.std.proofs.lemmas.Bool.{and_from}
@@ -15,9 +15,10 @@ use Rattle.solv_commands.specs.Commas.{between_commas}
 use Rattle.solv_io.specs.JoinedWords.{joined, is_word}
 use Rattle.solv_commands.specs.Commands.{Command, Asked, solverflags, evrcmp, job, next_round, pkg, by_name, by_provides, one_of, all, nothing, command}
 use Rattle.solv_commands.specs.declared.flags_of_jobs.JobFlags.{JobFlags}
-use Rattle.solv_commands.specs.SolverFlags.{with_settings, with_words}
+use Rattle.solv_commands.specs.SolverFlags.{with_settings}
+use Rattle.solv_commands.specs.Inner.FlagWords.{with_words}
 use Rattle.solv_commands.specs.declared.causes.Cause.{Cause}
-use Rattle.solv_script.specs.Grammar.{done, Named, file_named, row, words_row, said_row, command_row, lines_row, lines_given, lines_due}
+use Rattle.solv_script.specs.Inner.LineRows.{done, Named, file_named, row, words_row, said_row, command_row, lines_row, lines_given, lines_due}
 use Rattle.solv_script.specs.Reads.{WrittenCheck, WrittenRound, default_kinds}
 use Rattle.solv_script.specs.Rows.{plain_row, chosen, is_too_late}
 use Rattle.solv_script.specs.Inner.LineParts.{is_of_packages}
@@ -26,10 +27,12 @@ use Rattle.solv_script.specs.States.{State}
 use Rattle.solv_script.specs.declared.scripts.Kinds.{Kinds}
 use Rattle.solv_deps.specs.Parts.{HoldsTree, IsPart, IsEnteredTree}
 use Rattle.solv_writing.specs.Inner.ReadScripts.{Chooses, IsReadJob, HoldsChoice, IsReadCheck}
-use Rattle.solv_writing.specs.ScriptTexts.{inlined, flag_word, flag_words}
+use Rattle.solv_writing.specs.ScriptTexts.{inlined}
+use Rattle.solv_writing.specs.Inner.ScriptParts.{flag_word, flag_words}
 use Rattle.solv_writing.specs.Inner.LineNames.{check_line, job_line}
 use Rattle.solv_deps.proofs.PartEntered.{trees_entered}
 use Rattle.solv_io.proofs.WordsAgain.{words_again}
+use Rattle.solv_commands.proofs.SettingLists.{settings_behind}
 use Rattle.solv_script.proofs.GrownScripts.{texts_then, rows_then}
 
 -- what lines so far gave: the packages with the flags and jobs of the round in hand, the comparisons, what is expected of that round, and the rounds before it
@@ -136,16 +139,31 @@ module _ (whole : Held) (p : IsPool whole) (again : HeldIsEntered) (script : Lis
 
   pub flags_set : (f g : Flags) → with_words (flag_words f) g ≡ Some f
   flags_set f g =
-      rw (
-        flag_set f.allow_downgrade g,
-        name_change f.allow_name_change (record g { allow_downgrade = f.allow_downgrade }),
-        arch_change f.allow_arch_change _,
-        vendor_change f.allow_vendor_change _,
-        uninstall f.allow_uninstall _,
-        recommended f.ignore_recommended _,
-        infarch f.no_infarch_check _,
-      ) refl
+      let g1 : Flags = record g { allow_downgrade = f.allow_downgrade } in
+      let g2 : Flags = record g1 { allow_name_change = f.allow_name_change } in
+      let g3 : Flags = record g2 { allow_arch_change = f.allow_arch_change } in
+      let g4 : Flags = record g3 { allow_vendor_change = f.allow_vendor_change } in
+      let g5 : Flags = record g4 { allow_uninstall = f.allow_uninstall } in
+      let g6 : Flags = record g5 { ignore_recommended = f.ignore_recommended } in
+      let g7 : Flags = record g6 { no_infarch_check = f.no_infarch_check } in
+      let downgrade_word : List ℕ = flag_word f.allow_downgrade (codes "allowdowngrade") in
+      let name_word : List ℕ = flag_word f.allow_name_change (codes "allownamechange") in
+      let arch_word : List ℕ = flag_word f.allow_arch_change (codes "allowarchchange") in
+      let vendor_word : List ℕ = flag_word f.allow_vendor_change (codes "allowvendorchange") in
+      let uninstall_word : List ℕ = flag_word f.allow_uninstall (codes "allowuninstall") in
+      let recommended_word : List ℕ = flag_word f.ignore_recommended (codes "ignorerecommended") in
+      let infarch_word : List ℕ = flag_word f.no_infarch_check (codes "noinfarchcheck") in
+      word_set downgrade_word (name_word ∷ arch_word ∷ vendor_word ∷ uninstall_word ∷ recommended_word ∷ infarch_word ∷ []) g g1 (Some f) (flag_set f.allow_downgrade g)
+      (word_set name_word (arch_word ∷ vendor_word ∷ uninstall_word ∷ recommended_word ∷ infarch_word ∷ []) g1 g2 (Some f) (name_change f.allow_name_change g1)
+      (word_set arch_word (vendor_word ∷ uninstall_word ∷ recommended_word ∷ infarch_word ∷ []) g2 g3 (Some f) (arch_change f.allow_arch_change g2)
+      (word_set vendor_word (uninstall_word ∷ recommended_word ∷ infarch_word ∷ []) g3 g4 (Some f) (vendor_change f.allow_vendor_change g3)
+      (word_set uninstall_word (recommended_word ∷ infarch_word ∷ []) g4 g5 (Some f) (uninstall f.allow_uninstall g4)
+      (word_set recommended_word (infarch_word ∷ []) g5 g6 (Some f) (recommended f.ignore_recommended g5)
+      (word_set infarch_word [] g6 g7 (Some f) (infarch f.no_infarch_check g6) refl))))))
     where
+      word_set : (word : List ℕ) (words : List (List ℕ)) (f g : Flags) (r : Option Flags) → with_settings (between_commas word) f ≡ Some g → with_words words g ≡ r → with_words (word ∷ words) f ≡ r
+      word_set word words f g r h k = settings_behind (between_commas word) (flat_map between_commas words) f ∙ ap (option_and_then (with_words words)) h ∙ k
+
       name_change : (on : Bool) (f : Flags) → with_settings (between_commas (flag_word on (codes "allownamechange"))) f ≡ Some (record f { allow_name_change = on })
       name_change true f = refl
       name_change false f = refl

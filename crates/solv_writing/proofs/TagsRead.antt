@@ -28,7 +28,8 @@ use Rattle.solv_tags.specs.declared.tag.Tag.TheVariants.{Prv, Req, Prq, Con, Obs
 use Rattle.solv_tags.specs.declared.tag_fault.TagCause.{TagCause}
 use Rattle.solv_list.proofs.Booleans.{first_of_both, second_of_both, false_of_not}
 use Rattle.solv_io.specs.JoinedWords.{is_word, joined}
-use Rattle.solv_writing.specs.TagLines.{Entry, entry_line, evr_words, text_entry, dep_entry, entries_of, package_lines, tag_lines}
+use Rattle.solv_writing.specs.TagLines.{evr_words}
+use Rattle.solv_writing.specs.Inner.TagParts.{Entry, entry_line, text_entry, dep_entry, entries_of, package_lines, tag_lines}
 use Rattle.solv_writing.specs.Inner.LineNames.{package_entry, need_entry}
 use Rattle.solv_deps.specs.Parts.{HoldsTree, IsPart, IsEnteredText, IsEnteredTree}
 use Rattle.solv_writing.specs.Inner.ReadPackages.{are_apart, ReadsBack, IsKept, IsReadPackage, HoldsText, HoldsPackage}

@@ -18,16 +18,18 @@ use Rattle.solv_pool.specs.declared.universes.Arch.TheVariants.{X86_64, I686, Aa
 use Rattle.solv_tags.specs.Testtags.{Repository, testtags}
 use Rattle.solv_tags.specs.declared.tag_fault.TagFault.{TagFault}
 use Rattle.solv_commands.specs.Commands.{repo, system, namespace, disable, command}
-use Rattle.solv_script.specs.Grammar.{of_packages, inline, repository_given}
+use Rattle.solv_script.specs.Grammar.{inline, repository_given}
+use Rattle.solv_script.specs.Inner.LineRows.{of_packages}
 use Rattle.solv_script.specs.Rows.{is_too_late, with_repo, arch_named, package_numbers, with_namespace}
 use Rattle.solv_script.specs.States.{State, repo_place, repo_name, text_of, text_of_number, package_number}
 use Rattle.solv_io.specs.JoinedWords.{is_word, joined}
 use Rattle.solv_deps.specs.Parts.{IsEnteredText}
 use Rattle.solv_writing.specs.Inner.ReadPackages.{HoldsText}
 use Rattle.solv_writing.specs.Inner.ReadScripts.{IsReadRepo, IsToldByName, IsToldByText, IsReadNamespace, AreDisabledTold}
-use Rattle.solv_writing.specs.ScriptTexts.{repository_lines, arch_text, disabled_lines}
+use Rattle.solv_script.specs.Rows.{arch_text}
+use Rattle.solv_writing.specs.Inner.ScriptParts.{repository_lines, disabled_lines}
 use Rattle.solv_writing.specs.Inner.LineNames.{disable_line, namespace_line}
-use Rattle.solv_writing.specs.TagLines.{tag_lines}
+use Rattle.solv_writing.specs.Inner.TagParts.{tag_lines}
 use Rattle.solv_deps.proofs.PartEntered.{texts_entered}
 use Rattle.solv_writing.proofs.ResultLines.{block_leads}
 use Rattle.solv_writing.proofs.ScriptLines.{SoFar, Reads, Leads, in_first_round, plain_leads}

@@ -12,7 +12,7 @@ use Rattle.solv_script.specs.declared.scripts.EvrCheck.{EvrCheck}
 use Rattle.solv_script.specs.declared.scripts.Script.{Script}
 use Rattle.solv_writing.specs.Inner.ByIds.{disabled_texts, namespace_text, system_text}
 use Rattle.solv_writing.specs.Inner.RoundTexts.{later_text, round_text}
-use Rattle.solv_writing.specs.ScriptTexts.{first_round, repositories_from, round_lines, text_of_script, universe_lines}
+use Rattle.solv_writing.specs.Inner.ScriptParts.{first_round, repositories_from, round_lines, text_in_parts, universe_lines}
 use Rattle.solv_writing.specs.Inner.LineNames.{check_line, later_lines}
 use Rattle.solv_writing.proofs.ByTexts.{checks_are, disabled_are, later_are, namespaces_are, round_is, system_is}
 use Rattle.solv_io.proofs.WrittenLines.{ended_lines-append}
@@ -45,10 +45,10 @@ pub script_put : (script : Script) (l0 l1 l2 l3 l4 : List ℕ) → l0 ≡ []
     → l2 ≡ l1 ++ ended_lines (map (λ (check : EvrCheck). joined (codes "evrcmp" ∷ check.left ∷ comparison_text check.op ∷ check.right ∷ [])) script.checks)
     → l3 ≡ l2 ++ ended_lines (round_text (rounds.first_round script))
     → l4 ≡ l3 ++ ended_lines (later_text script.later)
-    → l4 ≡ text_of_script (written_script script)
+    → l4 ≡ text_in_parts (written_script script)
 script_put script l0 l1 l2 l3 l4 none e1 e2 e3 e4 =
     let w = written_script script in
     four_put (universe_lines w.task) (map check_line w.checks) (round_lines (first_round w)) (later_lines w.later) l0 l1 l2 l3 l4 e1 (e2 ∙ ap (λ lines. l1 ++ ended_lines lines) (checks_are script.checks))
     (e3 ∙ ap (λ lines. l2 ++ ended_lines lines) (round_is script.task.pool (rounds.first_round script)))
     (e4 ∙ ap (λ lines. l3 ++ ended_lines lines) (later_are script.task.pool script.later))
-    ∙ ap (λ l. l ++ text_of_script w) none
+    ∙ ap (λ l. l ++ text_in_parts w) none

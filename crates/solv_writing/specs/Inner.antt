@@ -7,3 +7,5 @@ pub mod Spans
 pub mod ByIds
 pub mod RoundTexts
 pub mod LineNames
+pub mod TagParts
+pub mod ScriptParts

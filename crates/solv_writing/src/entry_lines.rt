@@ -3,7 +3,7 @@ ghost use Rattle.std.specs.Prelude.{◌≡◌, ◌++◌, ◌∷◌, ◌<◌, [],
 ghost use Rattle.std.specs.List.{list_all};
 ghost use Rattle.solv_base.specs.Pool.{text_at, text_tree};
 ghost use Rattle.solv_deps.specs.Canonical.{text};
-ghost use Rattle.solv_writing.specs.TagLines.{tag_line};
+ghost use Rattle.solv_writing.specs.Inner.TagParts.{tag_line};
 
 use solv_base::{DepId, NameId, Pool};
 use solv_deps::dep_text;

@@ -1,6 +1,6 @@
 //! The flags of a solver as a line.
 ghost use Rattle.std.specs.Prelude.{◌≡◌, ◌++◌, ◌∷◌, codes, IfOk, OnOk};
-ghost use Rattle.solv_writing.specs.ScriptTexts.{flag_word, flag_words};
+ghost use Rattle.solv_writing.specs.Inner.ScriptParts.{flag_word, flag_words};
 ghost use Rattle.solv_io.specs.JoinedWords.{joined};
 
 use crate::line_words::add_word;

@@ -4,7 +4,7 @@ ghost use Rattle.std.specs.List.{list_all};
 ghost use Rattle.solv_base.specs.Pool.{text_at};
 ghost use Rattle.solv_pool.specs.Written.{written_package};
 ghost use Rattle.solv_writing.specs.Inner.PackageLines.{HasNames, HasRelations, strong_lines, weak_lines};
-ghost use Rattle.solv_writing.specs.TagLines.{tag_line, package_lines, entry_line};
+ghost use Rattle.solv_writing.specs.Inner.TagParts.{tag_line, package_lines, entry_line};
 ghost use Rattle.solv_writing.specs.Inner.LineNames.{package_entry};
 
 use crate::entry_lines::{heading, push_deps, push_names, push_needs, push_text};

@@ -2,8 +2,8 @@
 ghost use Rattle.std.specs.Prelude.{◌≡◌, ◌++◌, ◌∷◌, ◌<◌, [], map, length, IfOk, OnOk, Some, slice_get, ◌==◌};
 ghost use Rattle.solv_pool.specs.Belonging.{IsOver};
 ghost use Rattle.solv_pool.specs.Written.{written_package};
-ghost use Rattle.solv_writing.specs.TagLines.{tag_lines};
-ghost use Rattle.solv_writing.specs.ScriptTexts.{packages_of};
+ghost use Rattle.solv_writing.specs.Inner.TagParts.{tag_lines};
+ghost use Rattle.solv_writing.specs.Inner.ScriptParts.{packages_of};
 ghost use Rattle.solv_writing.specs.Inner.PackageLines.{HasNames, HasRelations};
 
 use crate::package_lines::push_package;

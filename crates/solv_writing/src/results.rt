@@ -2,7 +2,8 @@
 ghost use Rattle.std.specs.Prelude.{◌≡◌, ◌++◌, codes, IfOk, OnOk, if◌then◌else◌};
 ghost use Rattle.solv_io.specs.Lines.{ended_lines};
 ghost use Rattle.solv_writing.specs.Inner.KindWords.{behind_comma};
-ghost use Rattle.solv_writing.specs.ScriptTexts.{inlined, kind_names, result_lines, with_commas};
+ghost use Rattle.solv_writing.specs.ScriptTexts.{inlined};
+ghost use Rattle.solv_writing.specs.Inner.ScriptParts.{kind_names, result_lines, with_commas};
 
 use crate::line_words::put_block;
 use solv_list::{Bytes, Items};

@@ -3,7 +3,7 @@ ghost use Rattle.std.specs.Prelude.{◌≡◌, ◌++◌, ◌∷◌, [], codes, m
 ghost use Rattle.solv_io.specs.JoinedWords.{joined};
 ghost use Rattle.solv_io.specs.Lines.{ended_lines};
 ghost use Rattle.solv_writing.specs.Inner.RoundTexts.{round_text, later_text};
-ghost use Rattle.solv_writing.specs.ScriptTexts.{flag_words};
+ghost use Rattle.solv_writing.specs.Inner.ScriptParts.{flag_words};
 
 use crate::flag_lines::flags_line;
 use crate::line_words::put_line;

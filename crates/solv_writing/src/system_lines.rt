@@ -5,7 +5,7 @@ ghost use Rattle.solv_io.specs.Lines.{ended_lines};
 ghost use Rattle.solv_pool.specs.Belonging.{IsOver};
 ghost use Rattle.solv_pool.specs.PackageText.{repo_text};
 ghost use Rattle.solv_writing.specs.Inner.ByIds.{installed_texts, system_text};
-ghost use Rattle.solv_writing.specs.ScriptTexts.{arch_text};
+ghost use Rattle.solv_script.specs.Rows.{arch_text};
 
 use crate::line_words::add_word;
 use solv_base::Pool;

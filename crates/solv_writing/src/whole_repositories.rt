@@ -6,8 +6,9 @@ ghost use Rattle.solv_pool.specs.Written.{written_package, written_repo};
 ghost use Rattle.solv_pool.specs.declared.packages.Repo.{Repo};
 ghost use Rattle.solv_writing.specs.Inner.PackageLines.{HasNames, HasRelations};
 ghost use Rattle.solv_writing.specs.Inner.Spans.{IsSpan};
-ghost use Rattle.solv_writing.specs.ScriptTexts.{inlined, packages_of, repositories_from, repository_lines};
-ghost use Rattle.solv_writing.specs.TagLines.{package_lines, tag_lines};
+ghost use Rattle.solv_writing.specs.ScriptTexts.{inlined};
+ghost use Rattle.solv_writing.specs.Inner.ScriptParts.{packages_of, repositories_from, repository_lines};
+ghost use Rattle.solv_writing.specs.Inner.TagParts.{package_lines, tag_lines};
 
 use crate::line_words::{put_block, put_line};
 use crate::package_lines::push_package;

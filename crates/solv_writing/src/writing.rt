@@ -8,7 +8,8 @@ ghost use Rattle.solv_pool.specs.Written.{written_task};
 ghost use Rattle.solv_script.specs.Reads.{written_script};
 ghost use Rattle.solv_script.specs.Rounds.{tasks};
 ghost use Rattle.solv_script.specs.Grammar.{most_file};
-ghost use Rattle.solv_writing.specs.ScriptTexts.{text_of_script, universe_lines};
+ghost use Rattle.solv_writing.specs.Inner.ScriptParts.{universe_lines};
+ghost use Rattle.solv_writing.specs.ScriptTexts.{text_of_script};
 ghost use Rattle.solv_writing.specs.WrittenBack.{IsReadBack, CameFromText};
 
 use crate::check_lines::put_checks;

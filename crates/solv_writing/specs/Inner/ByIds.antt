@@ -5,7 +5,7 @@ use Rattle.solv_io.specs.JoinedWords.{joined}
 use Rattle.solv_pool.specs.Contents.{Contents}
 use Rattle.solv_pool.specs.PackageText.{package_text, repo_text}
 use Rattle.solv_pool.specs.declared.universes.Arch.{Arch}
-use Rattle.solv_writing.specs.ScriptTexts.{arch_text}
+use Rattle.solv_script.specs.Rows.{arch_text}
 
 module _ (pool : Held) (contents : Contents) where
   -- the name of the installed repository

@@ -5,11 +5,12 @@ use Rattle.solv_pool.specs.Written.{WrittenTask, WrittenJob, WrittenPackage, Wri
 use Rattle.solv_script.specs.Reads.{WrittenCheck, WrittenRound}
 use Rattle.solv_script.specs.States.{text_of, text_of_number}
 use Rattle.solv_io.specs.JoinedWords.{joined}
-use Rattle.solv_writing.specs.ScriptTexts.{round_lines}
+use Rattle.solv_writing.specs.Inner.ScriptParts.{round_lines}
 use Rattle.std.specs.List.{before_last, after_last}
 use Rattle.solv_base.specs.Evr.{is_dash}
 use Rattle.solv_tags.specs.declared.tag.Tag.TheVariants.{Pkg, Req, Prq}
-use Rattle.solv_writing.specs.TagLines.{Entry, dep_entry, evr_words}
+use Rattle.solv_writing.specs.TagLines.{evr_words}
+use Rattle.solv_writing.specs.Inner.TagParts.{Entry, dep_entry}
 
 -- the line of a comparison
 abbrev pub check_line : WrittenCheck → List ℕ

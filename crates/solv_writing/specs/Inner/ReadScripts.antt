@@ -23,7 +23,7 @@ use Rattle.solv_script.specs.States.{package_number, repo_name, repo_place, text
 use Rattle.solv_script.specs.declared.scripts.Kinds.{Kinds}
 use Rattle.solv_deps.specs.Parts.{HoldsTree}
 use Rattle.solv_writing.specs.Inner.ReadPackages.{are_apart, IsKept, IsReadPackage, HoldsText, HoldsPackage}
-use Rattle.solv_writing.specs.ScriptTexts.{first_round, kind_names, packages_of, with_commas}
+use Rattle.solv_writing.specs.Inner.ScriptParts.{first_round, kind_names, packages_of, with_commas}
 
 -- what is selected, by what is asked for
 abbrev pub Chooses : WrittenTask → Asked → WrittenChoice → Type 0

@@ -2,7 +2,7 @@
 use Rattle.std.specs.Prelude.{ℕ, List, ◌∷◌, ◌++◌, map, flat_map, codes}
 use Rattle.solv_io.specs.JoinedWords.{joined}
 use Rattle.solv_script.specs.declared.scripts.Round.{Round}
-use Rattle.solv_writing.specs.ScriptTexts.{flag_words, result_lines}
+use Rattle.solv_writing.specs.Inner.ScriptParts.{flag_words, result_lines}
 
 abbrev pub round_text : Round → List (List ℕ)
 round_text r = joined (codes "solverflags" ∷ flag_words r.flags) ∷ (map (λ job. codes "job " ++ job.text) r.jobs ++ result_lines r.kinds r.wanted)

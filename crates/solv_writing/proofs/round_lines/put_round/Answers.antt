@@ -1,7 +1,7 @@
 use Rattle.std.proofs.Common.{◌∷◌, ◌++◌, map}
 use Rattle.std.specs.Prelude.{codes}
 use Rattle.solv_io.specs.JoinedWords.{joined}
-use Rattle.solv_writing.specs.ScriptTexts.{flag_words, result_lines}
+use Rattle.solv_writing.specs.Inner.ScriptParts.{flag_words, result_lines}
 use Rattle.solv_writing.proofs.PutLines.{round_put}
 use Rattle.solv_writing.proofs.round_lines.put_round.Goals as goal
 

@@ -1,7 +1,7 @@
 use Rattle.std.proofs.Common.{◌++◌, ap, ◌∙◌, sym, append-nil}
 use Rattle.solv_io.specs.Lines.{ended_lines}
 use Rattle.solv_writing.specs.ScriptTexts.{inlined}
-use Rattle.solv_writing.specs.TagLines.{tag_lines}
+use Rattle.solv_writing.specs.Inner.TagParts.{tag_lines}
 use Rattle.solv_writing.proofs.RepositoryLines.{block_turn}
 use Rattle.solv_writing.proofs.RepositorySpans.{span_begins, span_ends}
 use Rattle.solv_writing.proofs.whole_repositories.put_packages.Goals as goal

@@ -1,8 +1,9 @@
 use Rattle.std.proofs.Common.{◌≡◌, ◌++◌, map, drop}
 use Rattle.solv_io.specs.Lines.{ended_lines}
 use Rattle.solv_pool.specs.Written.{written_package}
-use Rattle.solv_writing.specs.ScriptTexts.{inlined, packages_of}
-use Rattle.solv_writing.specs.TagLines.{tag_lines}
+use Rattle.solv_writing.specs.ScriptTexts.{inlined}
+use Rattle.solv_writing.specs.Inner.ScriptParts.{packages_of}
+use Rattle.solv_writing.specs.Inner.TagParts.{tag_lines}
 use Rattle.solv_writing.proofs.whole_repositories.put_packages.Given as goal
 
 abbrev pub invariant-loop-number : goal.invariant-loop-number

@@ -10,6 +10,7 @@ use Rattle.solv_script.specs.Grammar.{most_file}
 use Rattle.solv_script.specs.Reads.{written_script}
 use Rattle.solv_writing.specs.WrittenBack.{IsReadBack}
 use Rattle.solv_writing.specs.Inner.RoundTexts.{later_text, round_text}
+use Rattle.solv_writing.proofs.TextInParts.{text_is}
 use Rattle.solv_writing.proofs.WholeTexts.{script_put}
 use Rattle.solv_writing.proofs.writing.write_script.Goals as goal
 
@@ -21,6 +22,7 @@ returns-clause-text c =
     (c.in_ok-put_checks.ensures ∙ ap (λ (checks : List EvrCheck). c.put_universe.new.into.items ++ ended_lines (map (λ (check : EvrCheck). joined (codes "evrcmp" ∷ check.left ∷ comparison_text check.op ∷ check.right ∷ [])) checks)) c.held.ensures)
     (c.in_ok-put_round.ensures ∙ ap (λ (jobs : List Job). c.put_checks.new.into.items ++ ended_lines (round_text (record { flags = script.task.flags; jobs = jobs; kinds = script.kinds; wanted = script.wanted }))) c.held-2.ensures)
     (c.in_ok-put_later.ensures ∙ ap (λ (rounds : List Round). c.put_round.new.into.items ++ ended_lines (later_text rounds)) c.held-3.ensures)
+    ∙ sym (text_is (written_script script))
 
 pub returns-clause-sense : goal.returns-clause-sense
 returns-clause-sense c came short =
