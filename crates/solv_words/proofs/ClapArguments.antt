@@ -11,7 +11,7 @@ use Rattle.clap.specs.Walk.{Row, Rule, Text, at_row, has_row, more_values, used,
 use Rattle.clap.specs.Simple.{filled, with_index}
 use Rattle.clap.specs.declared.error.kind.ErrorKind.TheVariants as kind
 use Rattle.clap.specs.declared.parser.matches.ValueSource.TheVariants.{CommandLine}
-use Rattle.solv_words.specs.CommandLine.{Argument, Kind, argument, budget, file, is_in_range, is_same, lines, proofs, seed, written}
+use Rattle.solv_words.specs.Inner.ByKinds.{Argument, Kind, argument, budget, file, is_in_range, is_same, lines, proofs, seed, written}
 use Rattle.solv_words.specs.Inner.Clap.{id_of, reading_of_kind, row_of, rows_by, rules, told_of, values_of}
 use Rattle.solv_words.proofs.ClapNumbers.{number_is}
 

@@ -16,7 +16,8 @@ use Rattle.clap.specs.Simple as simple
 use Rattle.clap.specs.declared.builder.value_parser.Reading.TheVariants.{AsWritten}
 use Rattle.clap.specs.declared.parser.matches.ValueSource.TheVariants.{DefaultValue}
 use Rattle.clap.proofs.FaultLemmas.{leaf_fault}
-use Rattle.solv_words.specs.CommandLine.{Argument, Kind, argument, arguments_from, budget, command_by, command_from, command_of, file, is_each_once, is_given, is_in_range, is_same, lines, number_by, number_of, output_of, proofs, seed, source_of, value_of, written}
+use Rattle.solv_words.specs.CommandLine.{number_of, output_of, source_of}
+use Rattle.solv_words.specs.Inner.ByKinds.{Argument, Kind, argument, arguments_from, budget, command_by, command_from, command_by_kinds, file, is_each_once, is_given, is_in_range, is_same, lines, number_by, proofs, seed, value_of, written}
 use Rattle.solv_words.specs.Inner.Accepted.{command_for, command_if_accepted, is_accepted}
 use Rattle.solv_words.specs.Inner.Clap.{form, id_of, rows_by, rows_with_flags, rules}
 use Rattle.std.proofs.lemmas.Bool.{leb-true}
@@ -523,7 +524,7 @@ pub record Taken (words : List Text) : Type 0 where
   pub args : List Argument
   pub rows : matches_of form words ≡ rows_with_flags args
   pub accepted : is_accepted args ≡ true
-  pub command : command_of words ≡ command_by args
+  pub command : command_by_kinds words ≡ command_by args
 
 pub taken : (words : List Text) → AllText (drop 1 words) → fault_of form words ≡ [] → Taken words
 taken words text calm = by (accepted [] (arguments_from None (drop 1 words))) refl (form_is words text)
@@ -534,10 +535,10 @@ taken words text calm = by (accepted [] (arguments_from None (drop 1 words))) re
         let is = accepted_is (arguments_from None (drop 1 words)) args e in
         record { args = args; rows = h.1; accepted = is.1; command = is.0 }
 
-pub refused : (words : List Text) → AllText (drop 1 words) → is_calm (fault_of form words) ≡ false → command_of words ≡ None
+pub refused : (words : List Text) → AllText (drop 1 words) → is_calm (fault_of form words) ≡ false → command_by_kinds words ≡ None
 refused words text fault = by (accepted [] (arguments_from None (drop 1 words))) refl (form_is words text)
   where
-    by : (o : Option (List Argument)) → accepted [] (arguments_from None (drop 1 words)) ≡ o → FormIs words o → command_of words ≡ None
+    by : (o : Option (List Argument)) → accepted [] (arguments_from None (drop 1 words)) ≡ o → FormIs words o → command_by_kinds words ≡ None
     by None e h = refused_is (arguments_from None (drop 1 words)) e
     by (Some args) e h = absurd (true≢false (sym (ap is_calm h.0) ∙ fault))
 

@@ -10,7 +10,8 @@ use Rattle.clap.specs.Walk.{Row, Text, Waiting, Walk, idle, option, positional_h
 use Rattle.clap.specs.Simple.{Shape}
 use Rattle.clap.specs.Simple as simple
 use Rattle.clap.proofs.OnLiterals.{clap_on_literals}
-use Rattle.solv_words.specs.CommandLine.{Argument, Kind, argument, arguments_from, budget, file, is_same, is_value, lines, proofs, seed, written}
+use Rattle.solv_words.specs.CommandLine.{is_value}
+use Rattle.solv_words.specs.Inner.ByKinds.{Argument, Kind, argument, arguments_from, budget, file, is_same, lines, proofs, seed, written}
 use Rattle.solv_words.specs.Inner.Accepted.{with_argument}
 use Rattle.solv_words.specs.Inner.Clap.{form, id_of, rows_by, rules}
 use Rattle.solv_words.proofs.ClapArguments.{fits, is_calm, raw_of, rule_by, use_is, used_is}

@@ -16,7 +16,8 @@ use Rattle.clap.specs.declared.builder.value_parser.Reading.TheVariants.{AsWritt
 use Rattle.clap.specs.declared.parser.matches.ValueSource.{ValueSource}
 use Rattle.clap.specs.declared.parser.matches.ValueSource.TheVariants.{CommandLine}
 use Rattle.clap.proofs.OnLiterals.{clap_on_literals}
-use Rattle.solv_words.specs.CommandLine.{Argument, Kind, argument, budget, file, is_value, lines, proofs, seed, unknown, whole, word_of, written}
+use Rattle.solv_words.specs.CommandLine.{is_value}
+use Rattle.solv_words.specs.Inner.ByKinds.{Argument, Kind, argument, budget, file, lines, proofs, seed, unknown, whole, word_of, written}
 use Rattle.solv_words.specs.Inner.Clap.{id_of, rows_by, rules}
 use Rattle.solv_words.proofs.ClapArguments.{is_calm, raw_of, rule_by}
 use Rattle.solv_list.proofs.Booleans.{true_or_false}

@@ -3,3 +3,4 @@ pub mod ClapForm
 pub mod ClapNumbers
 pub mod ClapWalk
 pub mod ClapWords
+pub mod NamedArguments

@@ -10,31 +10,18 @@ use Rattle.solv_words.specs.declared.command_line.Output.TheVariants.{Lines, Pro
 use Rattle.solv_words.specs.declared.command_line.Source.{Source}
 use Rattle.solv_words.specs.declared.command_line.Source.TheVariants.{File, Seed}
 
--- what an argument gives: `-r` asks for the result lines, `--proof` for proofs and `--write` for the script; `--budget N` and `--grow SEED` have a number; FILE names a script
-pub data Kind : Type 0 where
-  lines budget proofs written seed file : Kind
-
-abbrev pub is_same : Kind → Kind → Bool
-is_same lines lines = true
-is_same budget budget = true
-is_same proofs proofs = true
-is_same written written = true
-is_same seed seed = true
-is_same file file = true
-is_same a b = false
-
--- an argument with its value, which is empty for `-r`, `--proof` and `--write`
+-- an argument: the name of its option, which is empty for FILE, and its value, which is empty for `-r`, `--proof` and `--write`
 pub record Argument : Type 0 where
-  pub kind : Kind
+  pub name : List ℕ
   pub value : List ℕ
 
-abbrev pub argument : Kind → List ℕ → Argument
-argument kind value = record { kind = kind; value = value }
+abbrev pub argument : List ℕ → List ℕ → Argument
+argument name value = record { name = name; value = value }
 
 -- what a word is, where no option waits for its value: an argument; an option whose value is the next word; `--`, behind which each word is a FILE; or unknown
 pub data Word : Type 0 where
   whole : Argument → Word
-  option : Kind → Word
+  option : List ℕ → Word
   end_of_options unknown : Word
 
 -- a word that may be a value or a FILE: it does not begin with `-`, or is `-`
@@ -44,24 +31,21 @@ is_value word = not (bytes_eq (take 1 word) (codes "-")) || bytes_eq word (codes
 abbrev pub word_of : List ℕ → Word
 word_of word =
     if bytes_eq word (codes "--") then end_of_options
-    else (if bytes_eq word (codes "-r") then whole (argument lines [])
-    else (if bytes_eq word (codes "--proof") then whole (argument proofs [])
-    else (if bytes_eq word (codes "--write") then whole (argument written [])
-    else (if bytes_eq word (codes "--budget") then option budget
-    else (if bytes_eq word (codes "--grow") then option seed
-    else (if bytes_eq (take 9 word) (codes "--budget=") then whole (argument budget (drop 9 word))
-    else (if bytes_eq (take 7 word) (codes "--grow=") then whole (argument seed (drop 7 word))
-    else (if is_value word then whole (argument file word) else unknown))))))))
+    else (if list_any (bytes_eq word) (codes "-r" ∷ codes "--proof" ∷ codes "--write" ∷ []) then whole (argument word [])
+    else (if list_any (bytes_eq word) (codes "--budget" ∷ codes "--grow" ∷ []) then option word
+    else (if bytes_eq (take 9 word) (codes "--budget=") then whole (argument (codes "--budget") (drop 9 word))
+    else (if bytes_eq (take 7 word) (codes "--grow=") then whole (argument (codes "--grow") (drop 7 word))
+    else (if is_value word then whole (argument [] word) else unknown)))))
 
 -- the arguments that words are, the first of which may be the value that an option waits for; none where some word is unknown or a value is missing
-abbrev pub arguments_from : Option Kind → List (List ℕ) → Option (List Argument)
+abbrev pub arguments_from : Option (List ℕ) → List (List ℕ) → Option (List Argument)
 arguments_from None [] = Some []
-arguments_from (Some kind) [] = None
-arguments_from (Some kind) (word ∷ words) = if is_value word then option_map (λ behind. argument kind word ∷ behind) (arguments_from None words) else None
+arguments_from (Some name) [] = None
+arguments_from (Some name) (word ∷ words) = if is_value word then option_map (λ behind. argument name word ∷ behind) (arguments_from None words) else None
 arguments_from None (word ∷ words) = elim (word_of word) [
   | whole a ↦ option_map (λ behind. a ∷ behind) (arguments_from None words)
-  | option kind ↦ arguments_from (Some kind) words
-  | end_of_options ↦ Some (map (argument file) words)
+  | option name ↦ arguments_from (Some name) words
+  | end_of_options ↦ Some (map (argument []) words)
   | unknown ↦ None
 ]
 
@@ -78,16 +62,17 @@ is_number most text = are_digits (without_leading_sign text) && (nat_le (number_
 
 -- the value of `--budget` and that of `--grow` are numbers in their ranges
 abbrev pub is_in_range : Argument → Bool
-is_in_range a = elim a.kind [ budget ↦ is_number 1000000 a.value | seed ↦ is_number 4294967295 a.value | other ↦ true ]
+is_in_range a =
+    if bytes_eq a.name (codes "--budget") then is_number 1000000 a.value else (if bytes_eq a.name (codes "--grow") then is_number 4294967295 a.value else true)
 
 -- no two arguments give the same
 abbrev pub is_each_once : List Argument → Bool
 is_each_once [] = true
-is_each_once (a ∷ behind) = not (list_any (λ b. is_same a.kind b.kind) behind) && is_each_once behind
+is_each_once (a ∷ behind) = not (list_any (λ b. bytes_eq a.name b.name) behind) && is_each_once behind
 
--- the value that an argument gives
-abbrev pub value_of : Kind → List Argument → Option (List ℕ)
-value_of kind arguments = option_map (λ a. a.value) (find (λ a. is_same kind a.kind) arguments)
+-- the value that the argument of this name gives
+abbrev pub value_of : List ℕ → List Argument → Option (List ℕ)
+value_of name arguments = option_map (λ a. a.value) (find (λ a. bytes_eq name a.name) arguments)
 
 -- what is printed: result lines, or proofs where `--proof` is given, or the script where `--write` is; not both
 abbrev pub output_of : Bool → Bool → Option Output
@@ -102,18 +87,11 @@ source_of output (Some name) None = Some (File name)
 source_of Lines None (Some number) = Some (Seed number)
 source_of output named grown = None
 
-abbrev pub is_given : Kind → List Argument → Bool
-is_given kind arguments = is_some (value_of kind arguments)
-
--- the number that an argument gives
-abbrev pub number_by : Kind → List Argument → Option ℕ
-number_by kind arguments = option_map number_of (value_of kind arguments)
-
--- the command of arguments that ask for this output, from this source
+-- the command of arguments that ask for this output, from this source: `-r` asks for result lines
 abbrev pub command_from : List Argument → Output → Source → Command
 command_from arguments output source = record {
-  shows = is_given lines arguments;
-  budget = unwrap_or (number_by budget arguments) 100000;
+  shows = is_some (value_of (codes "-r") arguments);
+  budget = unwrap_or (option_map number_of (value_of (codes "--budget") arguments)) 100000;
   output = output;
   source = source;
 }
@@ -121,8 +99,8 @@ command_from arguments output source = record {
 -- the command of arguments, where they ask for one output and name one source
 abbrev pub command_by : List Argument → Option Command
 command_by arguments =
-    option_and_then (λ output. option_map (command_from arguments output) (source_of output (value_of file arguments) (number_by seed arguments)))
-    (output_of (is_given proofs arguments) (is_given written arguments))
+    option_and_then (λ output. option_map (command_from arguments output) (source_of output (value_of [] arguments) (option_map number_of (value_of (codes "--grow") arguments))))
+    (output_of (is_some (value_of (codes "--proof") arguments)) (is_some (value_of (codes "--write") arguments)))
 
 -- What the words say, the first of which is the program's name. Each argument is given at most once, in any order, with a number in its range; and either FILE
 -- or a seed. Of `--proof`, `--write` and a seed only one stands. Without `--budget` the budget is 100000.

@@ -1,3 +1,4 @@
 -- Words of inner contracts.
 pub mod Accepted
 pub mod Clap
+pub mod ByKinds

@@ -3,7 +3,8 @@ ghost use Rattle.std.specs.Prelude.{◌≡◌, ◌≤◌, ℕ, true, List, Optio
 ghost use Rattle.std.specs.List.{list_all};
 ghost use Rattle.std.specs.Option.{option_copied};
 ghost use Rattle.clap.specs.Words.{app_of};
-ghost use Rattle.solv_words.specs.CommandLine.{Argument, budget, command_by, command_of, file, is_given, is_in_range, lines, number_by, output_of, proofs, seed, source_of, value_of, written};
+ghost use Rattle.solv_words.specs.CommandLine.{command_of, output_of, source_of};
+ghost use Rattle.solv_words.specs.Inner.ByKinds.{Argument, budget, command_by, file, is_given, is_in_range, lines, number_by, proofs, seed, value_of, written};
 ghost use Rattle.solv_words.specs.Inner.Accepted.{is_accepted};
 ghost use Rattle.solv_words.specs.Inner.Clap.{HasRows, form};
 

@@ -1,7 +1,8 @@
 -- Names for parts of what words say.
 use Rattle.std.specs.Prelude.{◌&&◌, ◌∷◌, Bool, List, Option, None, option_map, if◌then◌else◌}
 use Rattle.std.specs.List.{list_all}
-use Rattle.solv_words.specs.CommandLine.{Argument, file, seed, command_by, command_from, is_each_once, is_in_range, number_by, source_of, value_of}
+use Rattle.solv_words.specs.CommandLine.{source_of}
+use Rattle.solv_words.specs.Inner.ByKinds.{Argument, file, seed, command_by, command_from, is_each_once, is_in_range, number_by, value_of}
 use Rattle.solv_words.specs.declared.command_line.Command.{Command}
 use Rattle.solv_words.specs.declared.command_line.Output.{Output}
 

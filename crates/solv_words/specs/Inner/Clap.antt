@@ -10,7 +10,7 @@ use Rattle.clap.specs.declared.builder.value_parser.ValueParser.TheVariants.{Sig
 use Rattle.clap.specs.declared.parser.matches.ArgMatches.{ArgMatches}
 use Rattle.clap.specs.declared.parser.matches.ValueSource.TheVariants.{CommandLine}
 use Rattle.clap.specs.Simple as simple
-use Rattle.solv_words.specs.CommandLine.{Argument, Kind, lines, budget, proofs, written, seed, file}
+use Rattle.solv_words.specs.Inner.ByKinds.{Argument, Kind, lines, budget, proofs, written, seed, file}
 
 abbrev pub id_of : Kind → Text
 id_of lines = codes "lines"

@@ -2,7 +2,7 @@ use Rattle.std.proofs.Common.{◌∙◌, ap, refl, codes}
 use Rattle.clap.specs.Matches.{found_of}
 use Rattle.clap.specs.Walk.{first_of}
 use Rattle.clap.proofs.WalkLemmas.{first_value-rows}
-use Rattle.solv_words.specs.CommandLine.{file}
+use Rattle.solv_words.specs.Inner.ByKinds.{file}
 use Rattle.solv_words.proofs.ClapForm.{first_is}
 use Rattle.solv_words.proofs.command_line.file_in.Goals as goal
 

@@ -8,7 +8,7 @@ use Rattle.clap.specs.declared.builder.action.ArgAction.TheVariants.{SetTrue}
 use Rattle.clap.specs.declared.builder.arg.Arg.{Arg}
 use Rattle.clap.specs.declared.builder.value_parser.ValueParser.{ValueParser}
 use Rattle.clap.specs.declared.builder.value_parser.ValueParser.TheVariants as vp
-use Rattle.solv_words.specs.CommandLine.{budget, lines, proofs, seed, written}
+use Rattle.solv_words.specs.Inner.ByKinds.{budget, lines, proofs, seed, written}
 use Rattle.solv_words.specs.Inner.Clap.{told_of, without_help}
 use Rattle.solv_words.proofs.command_line.form.Goals as goal
 

@@ -3,7 +3,7 @@ use Rattle.std.specs.Prelude.{if◌then◌else◌}
 use Rattle.clap.specs.Matches.{found_of, one_text}
 use Rattle.clap.specs.Walk.{one_of}
 use Rattle.clap.proofs.WalkLemmas.{one_text-rows}
-use Rattle.solv_words.specs.CommandLine.{is_given, proofs}
+use Rattle.solv_words.specs.Inner.ByKinds.{is_given, proofs}
 use Rattle.solv_words.proofs.ClapForm.{proofs_flag_is}
 use Rattle.solv_words.proofs.command_line.proves_in.Goals as goal
 

@@ -5,7 +5,8 @@ use Rattle.clap.specs.Matches.{found_of, one_text}
 use Rattle.clap.specs.Walk.{one_of}
 use Rattle.clap.proofs.WalkLemmas.{one_text-rows}
 use Rattle.std.specs.Str.Parse.{ExplainsUnsignedError, HasUnsignedDigitsIfOk, ParsesUnsigned}
-use Rattle.solv_words.specs.CommandLine.{seed, number_of, value_of}
+use Rattle.solv_words.specs.CommandLine.{number_of}
+use Rattle.solv_words.specs.Inner.ByKinds.{seed, value_of}
 use Rattle.solv_words.proofs.ClapForm.{in_range, one_is}
 use Rattle.solv_words.proofs.ClapNumbers.{number_read}
 use Rattle.solv_words.proofs.command_line.seed_in.Goals as goal
