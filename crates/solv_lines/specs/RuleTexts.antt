@@ -1,5 +1,5 @@
 -- What is said of a rule.
-use Rattle.std.specs.Prelude.{ℕ, Bool, List, ◌++◌, ◌==◌, length, Option, Some, None, codes, option_and_then, slice_get, if◌then◌else◌}
+use Rattle.std.specs.Prelude.{ℕ, Bool, List, [], ◌++◌, Option, Some, None, codes, flat_map, option_and_then, slice_get, if◌then◌else◌}
 use Rattle.std.specs.List.{list_any}
 use Rattle.std.specs.Option.{option_map_or}
 use Rattle.solv_base.specs.Dependency.{Dep}
@@ -22,9 +22,9 @@ module _ (catalog : Catalog) where
   abbrev pub asked : ℕ → List ℕ
   asked d = text (text_tree catalog.pool d)
 
-  -- a word and the texts of two packages, one space between
-  abbrev pub pair_text : List ℕ → ℕ → ℕ → List ℕ
-  pair_text word p q = word ++ (codes " " ++ (named p ++ (codes " " ++ named q)))
+  -- a word and the texts of packages, each behind a space
+  abbrev pub packs_text : List ℕ → List ℕ → List ℕ
+  packs_text word packs = word ++ flat_map (λ p. codes " " ++ named p) packs
 
   -- some package, or the system, meets a part of the dependency
   abbrev pub has_provider : Dep ℕ → Bool
@@ -47,14 +47,7 @@ abbrev pub conflicting_requests : List ℕ
 conflicting_requests = codes "conflicting requests"
 
 module _ (task : Task) where
-  -- an install job that selects something; or one that selects nothing, by its dependency, if it has one
-  abbrev pub install_text : ℕ → List ℕ → List ℕ
-  install_text j xs =
-      if length xs == 0
-      then option_map_or (λ d. codes "nothing provides requested " ++ asked (catalog_of task) d) (option_and_then (λ job. dependency_of job.choice) (slice_get task.jobs j)) conflicting_requests
-      else conflicting_requests
-
-  -- the text of a rule
+  -- the text of a rule; that of an install job which selects nothing is by the job's dependency, if it has one
   abbrev pub text_of_rule : HardRule → List ℕ
   text_of_rule (not_installable p) = codes "package " ++ (named (catalog_of task) p ++ codes " is not installable")
   text_of_rule (req p d) = requirement_text (catalog_of task) p d
@@ -66,7 +59,7 @@ module _ (task : Task) where
   text_of_rule (update p xs) = codes "problem with installed package " ++ named (catalog_of task) p
   text_of_rule (dup p xs) = codes "problem with installed package " ++ named (catalog_of task) p
   text_of_rule (feature p xs) = codes "problem with installed package " ++ named (catalog_of task) p
-  text_of_rule (install j xs) = install_text j xs
+  text_of_rule (install j []) = option_map_or (λ d. codes "nothing provides requested " ++ asked (catalog_of task) d) (option_and_then (λ job. dependency_of job.choice) (slice_get task.jobs j)) conflicting_requests
   text_of_rule (best_job j xs) = codes "cannot install the best candidate for the job"
   text_of_rule (best_update j p xs) = codes "cannot install the best update candidate for package " ++ named (catalog_of task) p
   text_of_rule _ = conflicting_requests

@@ -7,11 +7,9 @@ ghost use Rattle.solv_pool.specs.TaskBelonging.{IsClosed};
 ghost use Rattle.solv_pool.specs.Words.{is_among, when};
 ghost use Rattle.solv_prov.specs.Index.{IsIndexOf};
 ghost use Rattle.solv_clean.specs.Unneeded.{users as users_of, unneeded as unneeded_of};
-ghost use Rattle.solv_lines.specs.Inner.LineNames.{with_lines};
-ghost use Rattle.solv_lines.specs.ResultLines.{pack_line, need_lines};
-ghost use Rattle.solv_lines.specs.Inner.LineNames.{user_word, unneeded_word};
+ghost use Rattle.solv_lines.specs.Inner.LineNames.{with_lines, pack_line, need_lines, user_word, unneeded_word};
 
-use crate::writing::write_package;
+use crate::writing::write_single;
 use solv_clean::{unneeded, users};
 use solv_list::Bytes;
 use solv_pool::{PackNo, Task};
@@ -26,7 +24,7 @@ fn pack_line(alloc: Global, task: &Task, word: &[u8], pack: PackNo) -> Result<By
     ensures { IfOk result (λ line. line ≡ pack_line (catalog_of task.now) word.now pack) }
 {
     let mut line = Vec::new(alloc);
-    write_package(task, word, pack, &mut line)?;
+    write_single(task, word, pack, &mut line)?;
     Ok(Bytes::wrap(line))
 }
 
@@ -63,7 +61,7 @@ fn put_users(
 {
     if kinds.userinstalled {
         let packs = users(alloc, task, prov, set)?;
-        return put_packs(alloc, task, b"userinstalled ", &packs, lines);
+        return put_packs(alloc, task, b"userinstalled", &packs, lines);
     }
     Ok(())
 }
@@ -85,7 +83,7 @@ fn put_unneeded(
 {
     if kinds.unneeded {
         let packs = unneeded(alloc, task, prov, set)?;
-        return put_packs(alloc, task, b"unneeded ", &packs, lines);
+        return put_packs(alloc, task, b"unneeded", &packs, lines);
     }
     Ok(())
 }

@@ -5,8 +5,8 @@ ghost use Rattle.solv_pool.specs.Catalog.{catalog_of};
 ghost use Rattle.solv_pool.specs.RuleMeaning.{rule_with};
 ghost use Rattle.solv_lines.specs.Inner.Features.{HasFeatures, HasSets};
 ghost use Rattle.solv_lines.specs.RuleTexts.{named};
-ghost use Rattle.solv_lines.specs.SolutionTexts.{job_text, going_text, staying_text, element, solution_texts};
-ghost use Rattle.solv_lines.specs.Inner.LineNames.{update_text, dup_text};
+ghost use Rattle.solv_lines.specs.SolutionTexts.{job_text, going_text, element, solution_texts};
+ghost use Rattle.solv_lines.specs.Inner.LineNames.{update_text, dup_text, staying_text};
 
 use crate::features::{packs_of, replacement, sets_of};
 use crate::writing::{write_package, write_pair};

@@ -3,9 +3,9 @@ ghost use Rattle.std.specs.Prelude.{◌≡◌, ◌++◌, ◌<◌, ◌==◌, leng
 ghost use Rattle.std.specs.List.{list_all};
 ghost use Rattle.solv_pool.specs.Belonging.{IsOver};
 ghost use Rattle.solv_pool.specs.Catalog.{catalog_of, dependency};
-ghost use Rattle.solv_pool.specs.RuleMeaning.{not_installable, same, infarch, set_at, rule_with};
+ghost use Rattle.solv_pool.specs.RuleMeaning.{install, not_installable, same, infarch, set_at, rule_with};
 ghost use Rattle.solv_prov.specs.Index.{IsIndexOf};
-ghost use Rattle.solv_lines.specs.RuleTexts.{named, asked, has_provider, requirement_text, install_text, text_of_rule};
+ghost use Rattle.solv_lines.specs.RuleTexts.{named, asked, has_provider, requirement_text, text_of_rule};
 ghost use Rattle.solv_lines.specs.Inner.LineNames.{dependency_of_job};
 ghost use Rattle.solv_lines.specs.Inner.RuleTexts.{rule_text_at};
 
@@ -165,7 +165,7 @@ fn write_install(
     set: SetNo,
     into: &mut Vec<u8>,
 ) -> Result<(), AllocError>
-    ensures { OnOk result (into.new.items ≡ into.old.items ++ install_text task.now job (set_at sets.now set)) }
+    ensures { OnOk result (into.new.items ≡ into.old.items ++ text_of_rule task.now (install job (set_at sets.now set))) }
 {
     if !is_empty_set(sets, set) {
         return into.extend_from_slice(b"conflicting requests");

@@ -1,7 +1,6 @@
 use Rattle.std.proofs.Common.{◌≡◌, map, drop}
 use Rattle.solv_pool.specs.Catalog.{catalog_of}
-use Rattle.solv_lines.specs.Inner.LineNames.{with_lines}
-use Rattle.solv_lines.specs.ResultLines.{pack_line}
+use Rattle.solv_lines.specs.Inner.LineNames.{with_lines, pack_line}
 use Rattle.solv_lines.proofs.needing.put_packs.Given as goal
 
 abbrev pub invariant-loop-pack : goal.invariant-loop-pack

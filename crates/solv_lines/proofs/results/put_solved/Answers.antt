@@ -1,9 +1,8 @@
 use Rattle.std.proofs.Common.{ℕ, List, map, ap, ◌∙◌}
 use Rattle.solv_pool.specs.Catalog.{catalog_of}
 use Rattle.solv_pool.specs.Words.{when}
-use Rattle.solv_lines.specs.Inner.LineNames.{with_lines}
-use Rattle.solv_lines.specs.ResultLines.{change_line, need_lines, order_lines}
-use Rattle.solv_lines.specs.Inner.LineNames.{reason_lines}
+use Rattle.solv_lines.specs.Inner.LineNames.{with_lines, need_lines, reason_lines}
+use Rattle.solv_lines.specs.ResultLines.{change_line, order_lines}
 use Rattle.solv_lines.proofs.InTurn.{four_in_turn}
 use Rattle.solv_lines.proofs.results.put_solved.Goals as goal
 
