@@ -7,8 +7,10 @@ use Rattle.std.specs.Str.{bytes_eq}
 use Rattle.solv_io.specs.Lines.{lines_of, ended_lines}
 use Rattle.solv_derive.specs.declared.logs.Step.{Step}
 use Rattle.solv_proof.specs.Numbers.{place, count}
-use Rattle.solv_proof.specs.Words.{words_between, joined, is_some_word}
-use Rattle.solv_proof.specs.Texts.{step_words, rules_words, problem_words, proof_lines, proof_text, header, rising, is_some_list, comes_after, may_follow, all_follow, are_listed}
+use Rattle.solv_proof.specs.Words.{words_between, is_some_word}
+use Rattle.solv_io.specs.JoinedWords.{joined}
+use Rattle.solv_proof.specs.Texts.{step_words, proof_lines, proof_text, header, rising, is_some_list, comes_after, may_follow, all_follow, are_listed}
+use Rattle.solv_proof.specs.Inner.Texts.{rules_words, problem_words}
 use Rattle.solv_proof.specs.Reading.{State, taken, named, listed, stepped, ended, all_of, step_of, read_on, read_lines, start, between_proofs, at_line, is_fed}
 use Rattle.solv_proof.specs.Laws.{place_fits, step_fits, proof_fits, ReadIsWritten}
 use Rattle.solv_proof.specs.declared.kinds.Proof.{Proof}

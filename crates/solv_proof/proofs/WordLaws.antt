@@ -6,13 +6,14 @@ use Rattle.std.proofs.lemmas.Bool.Decides.{nat_tests}
 use Rattle.std.proofs.lemmas.List.Folds.{list_all-append}
 use Rattle.solv_io.specs.Lines.{lines_of, begun_with, ended_lines}
 use Rattle.solv_io.specs.Words.{lengthened}
-use Rattle.solv_proof.specs.Words.{words_between, spaced, joined}
+use Rattle.solv_proof.specs.Words.{words_between}
+use Rattle.solv_proof.specs.Inner.Words.{spaced}
+use Rattle.solv_io.specs.JoinedWords.{joined, is_inner, is_line}
 use Rattle.solv_proof.specs.Texts.{is_some_list}
 use Rattle.solv_proof.specs.Reading.{is_fed}
 use Rattle.solv_proof.proofs.Bools.{both, joint}
 use Rattle.solv_list.proofs.Numbers.{same_number}
 use Rattle.solv_proof.proofs.Cuts.{words_some}
-use Rattle.solv_io.specs.JoinedWords.{is_inner, is_line}
 
 -- neither a space nor a line feed
 abbrev pub is_inside : ℕ → Bool

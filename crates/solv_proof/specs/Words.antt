@@ -1,20 +1,11 @@
 -- The words of a line of proof text: one space stands between two of them.
-use Rattle.std.specs.Prelude.{ℕ, Bool, true, false, List, [], ◌∷◌, ◌++◌, Option, Some, None, flat_map}
+use Rattle.std.specs.Prelude.{ℕ, Bool, true, false, List, [], ◌∷◌, Option, Some, None}
 use Rattle.std.specs.List.{list_all}
 use Rattle.solv_io.specs.Words.{between}
 
 -- what single spaces (32) separate: one more than there are spaces, empty words too
 abbrev pub words_between : List ℕ → List (List ℕ)
 words_between line = between 32 line
-
--- words, each with a space in front
-abbrev pub spaced : List (List ℕ) → List ℕ
-spaced words = flat_map (λ word. 32 ∷ word) words
-
--- the line of some words
-abbrev pub joined : List (List ℕ) → List ℕ
-joined [] = []
-joined (word ∷ others) = word ++ spaced others
 
 -- the word has a byte
 abbrev pub is_some_word : List ℕ → Bool

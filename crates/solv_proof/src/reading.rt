@@ -1,10 +1,8 @@
 //! Proof text, read.
 ghost use Rattle.std.specs.Prelude.{◌≡◌, ◌∷◌, [], Ok as is_ok, Err as is_err, Some, IfOk, IfErr, IfSome, IfNone, map, length};
 ghost use Rattle.solv_io.specs.Lines.{lines_of};
-ghost use Rattle.solv_proof.specs.Reading.{ending, read_on, is_fed, proof_read};
-ghost use Rattle.solv_proof.specs.Inner.Readers.{IsTextOf, IsNoText};
-ghost use Rattle.solv_proof.specs.Inner.Readers.{state_of, IsBadLine};
-ghost use Rattle.solv_proof.specs.Reading.{start};
+ghost use Rattle.solv_proof.specs.Reading.{ending, read_on, is_fed, proof_read, start};
+ghost use Rattle.solv_proof.specs.Inner.Readers.{IsTextOf, IsNoText, state_of, IsBadLine};
 
 use crate::faults::{ProofCause, ProofFault};
 use crate::kinds::{NextLine, Proof};
