@@ -1,17 +1,19 @@
 -- What is due in each case of a run.
-use Rattle.std.specs.Prelude.{ℕ, ◌≡◌, ◌⊎◌, true, List, [], ◌∷◌, ◌++◌, Option, Some, None, Ok, Err, IfSome, slice_get}
+use Rattle.std.specs.Prelude.{ℕ, ◌≡◌, ◌⊎◌, true, List, [], ◌∷◌, ◌++◌, Option, Some, None, Ok, Err, IfSome, IsOkAnd, slice_get}
 use Rattle.solv_io.specs.Counters.{Rose}
+use Rattle.solv_io.specs.declared.status.Status.TheVariants as status
 use Rattle.solv_pool.specs.declared.tasks.Task.{Task}
 use Rattle.solv_proof.specs.Texts.{proof_text, are_listed}
 use Rattle.solv_proof.specs.declared.kinds.Proof.{Proof}
 use Rattle.solv_answers.specs.Answers.{first_limit}
 use Rattle.solv_rules.specs.declared.fault.BookFault.{BookFault}
-use Rattle.solv_said.specs.Dues.{usage_due, read_fault_due, limit_due}
-use Rattle.solv_said.specs.Fetches.{IsNamed, HasScript, WasFetched, HasAskedFront, IsUnreadDue}
-use Rattle.solv_said.specs.Runs.{SinkRun, WroteNothing, IsSaid, IsSaidInPart}
+use Rattle.solv_said.specs.Dues.{line_due, read_fault_due, limit_due}
+use Rattle.solv_said.specs.Fetches.{IsNamed, WasFetched, HasAskedFront, IsUnreadDue}
+use Rattle.solv_said.specs.Runs.{SinkRun, WroteAll, WrotePart, IsSaid}
 use Rattle.solv_said.specs.declared.dues.Due.{Due}
 use Rattle.solv_script.specs.FileRuns.{FilesRun, AskedBesides, AreFetched}
-use Rattle.solv_script.specs.Grammar.{script_due}
+use Rattle.solv_script.specs.Grammar.{script_due, script_read}
+use Rattle.solv_script.specs.ScriptsOf.{IsScriptOf}
 use Rattle.solv_script.specs.Rounds.{tasks}
 use Rattle.solv_script.specs.declared.scripts.Script.{Script}
 use Rattle.solv_verdicts.specs.Verdicts.{verdict_of, NoSetMeetsRound}
@@ -50,7 +52,7 @@ module _ (pair : Pair) (files : FilesRun) where
     pub asked : AskedBesides files (pair.script ∷ (names ++ pair.proof ∷ []))
     pub are : AreFetched files names fetched
     pub all_due : names ≡ script_due pair.script fetched bytes
-    pub script_is : HasScript pair.script bytes fetched script
+    pub script_is : IsOkAnd (script_read pair.script fetched bytes) (λ s. IsScriptOf s script)
     pub fits : first_limit (tasks script) ≡ None
 
   -- and it has this text, and no fault was counted
@@ -63,7 +65,7 @@ module _ (form : Option Pair) (files : FilesRun) where
   -- What is due, with the proofs that were read: the words name no pair of files; or the script is not read; or the clauses of a round pass a limit; or the file
   -- of proofs cannot be read; or it has a bad line; or what is said of its proofs.
   pub data IsDueRun : Due → List Proof → Type 0 where
-    no_pair : form ≡ None → AskedBesides files [] → files.faults_after ≡ files.faults_before → IsDueRun (usage_due usage_line) []
+    no_pair : form ≡ None → AskedBesides files [] → files.faults_after ≡ files.faults_before → IsDueRun (line_due status.Usage usage_line) []
     unread : (pair : Pair) (due : Due) → form ≡ Some pair → IsUnreadDue (Some pair.script) files program due → IsDueRun due []
     passes : (pair : Pair) (script : Script) (fault : BookFault) → form ≡ Some pair → WasFetched (Some pair.script) files script
         → first_limit (tasks script) ≡ Some fault → IsDueRun (limit_due program script.task fault) []
@@ -85,5 +87,5 @@ module _ (form : Option Pair) (files : FilesRun) where
 
   -- what may be written before such a run ends: nothing, or a prefix of each text that is due, whatever proofs were read
   pub data HasWrittenPart (out err : SinkRun) : Type 0 where
-    wrote_nothing : WroteNothing out → WroteNothing err → HasWrittenPart out err
-    wrote_part : (due : Due) (proofs : List Proof) → IsDueRun due proofs → IsSaidInPart due out err → HasWrittenPart out err
+    wrote_nothing : WroteAll out [] → WroteAll err [] → HasWrittenPart out err
+    wrote_part : (due : Due) (proofs : List Proof) → IsDueRun due proofs → WrotePart out due.out → WrotePart err due.err → HasWrittenPart out err

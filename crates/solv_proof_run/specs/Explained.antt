@@ -20,7 +20,7 @@ use Rattle.solv_verdicts.specs.Verdicts.{NoSetMeetsRound}
 use Rattle.solv_proof_run.specs.Cases.{HasAskedScript, HasProof, AreRefuted}
 use Rattle.solv_proof_run.specs.Lines.{lines_due, all_yes}
 use Rattle.solv_proof_run.specs.Naming.{Pair, program, script_in}
-use Rattle.solv_proof_run.specs.ProofFiles.{BadLineOf, file_read, bad_line}
+use Rattle.solv_proof_run.specs.ProofFiles.{BadLineOf, file_read, bad_line_due}
 use Rattle.solv_proof_run.specs.declared.reports.ProofReport.{ProofReport}
 
 module _ (form : Option Pair) (files : FilesRun) (report : ProofReport) (out err : SinkRun) where
@@ -63,7 +63,7 @@ module _ (form : Option Pair) (files : FilesRun) (report : ProofReport) (out err
     pub words : form ≡ Some pair
     pub has : HasProof pair files script text
     pub first_bad : file_read text ≡ Err bad
-    pub line : WroteAll err (bad_line pair.proof bad)
+    pub line : WroteAll err (bad_line_due pair.proof bad).err
 
   -- what the text of the file of proofs decides
   pub record IsDecidedByText (given : List Task) (text : List ℕ) : Type 0 where

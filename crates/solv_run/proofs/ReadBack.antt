@@ -7,11 +7,11 @@ use Rattle.solv_script.specs.Reads.{written_script}
 use Rattle.solv_script.specs.ScriptsOf.{IsScriptOf}
 use Rattle.solv_script.specs.States.{State}
 use Rattle.solv_script.specs.declared.scripts.Script.{Script}
-use Rattle.solv_said.specs.Fetches.{HasScript, WasFetched}
+use Rattle.solv_said.specs.Fetches.{WasFetched}
 use Rattle.solv_writing.specs.ScriptTexts.{text_of_script}
 use Rattle.solv_writing.specs.WrittenBack.{IsReadBack, ScriptsAreReadBack}
 
-text_again_by : ScriptsAreReadBack → (script : Script) (file bytes : List ℕ) (fetched : List (List ℕ)) → HasScript file bytes fetched script → length (text_of_script (written_script script)) ≤ most_file
+text_again_by : ScriptsAreReadBack → (script : Script) (file bytes : List ℕ) (fetched : List (List ℕ)) → IsOkAnd (script_read file fetched bytes) (λ s. IsScriptOf s script) → length (text_of_script (written_script script)) ≤ most_file
     → IsReadBack (written_script script) (text_of_script (written_script script))
 text_again_by back script file bytes fetched has short = by (script_read file fetched bytes) refl has
   where

@@ -20,7 +20,8 @@ use Rattle.solv_script.specs.declared.scripts.Script.{Script}
 use Rattle.solv_words.specs.declared.command_line.Command.{Command}
 use Rattle.solv_run.specs.Inner.Rounds.{AreAll, GoesOn, HasBegun, HasNext, HasPrinted, HasTaken, IsOneMore, later_lines, prints_lines, next_lines}
 use Rattle.solv_run.specs.Rounds.{AreAnswers, IsGoodAnswer, all_answered, one_spent, then_next, some_spent}
-use Rattle.solv_run.specs.Texts.{are_as_wanted, is_as_wanted, round_lines, rounds_lines}
+use Rattle.solv_run.specs.Inner.Texts.{is_as_wanted}
+use Rattle.solv_run.specs.Texts.{are_as_wanted, round_lines, rounds_lines}
 use Rattle.solv_run.specs.declared.reports.Reached.{Reached}
 use Rattle.solv_run.specs.declared.rounds.Begun.{Begun}
 use Rattle.solv_run.proofs.Together.{few, within}

@@ -1,23 +1,22 @@
 -- What is due in each case of a run.
-use Rattle.std.specs.Prelude.{ℕ, ◌≡◌, List, [], Option, Some, None, option_and_then}
+use Rattle.std.specs.Prelude.{ℕ, ◌≡◌, List, [], ◌∷◌, Option, Some, None}
 use Rattle.solv_rules.specs.declared.fault.BookFault.{BookFault}
 use Rattle.solv_script.specs.FileRuns.{FilesRun, AskedBesides}
 use Rattle.solv_script.specs.GrownTasks.{IsGrown}
-use Rattle.solv_script.specs.Rounds.{tasks}
 use Rattle.solv_script.specs.declared.scripts.Script.{Script}
 use Rattle.solv_pool.specs.declared.tasks.Task.{Task}
 use Rattle.solv_answers.specs.Answers.{first_limit}
 use Rattle.solv_answers.specs.declared.answers.Answer.{Answer}
 use Rattle.solv_words.specs.declared.command_line.Command.{Command}
 use Rattle.solv_words.specs.declared.command_line.Output.TheVariants as output
-use Rattle.solv_words.specs.declared.command_line.Source.{Source}
 use Rattle.solv_words.specs.declared.command_line.Source.TheVariants.{File, Seed}
-use Rattle.solv_said.specs.Dues.{limit_due, usage_due}
+use Rattle.solv_io.specs.declared.status.Status.TheVariants as status
+use Rattle.solv_said.specs.Dues.{limit_due, line_due}
 use Rattle.solv_said.specs.Fetches.{IsUnreadDue, WasFetched}
-use Rattle.solv_said.specs.Runs.{SinkRun, WroteNothing, IsSaid, IsSaidInPart}
+use Rattle.solv_said.specs.Runs.{SinkRun, WroteAll, WrotePart, IsSaid}
 use Rattle.solv_said.specs.declared.dues.Due.{Due}
-use Rattle.solv_run.specs.Dues.{Input, due_for, of_script, of_seed, program, task_of, tasks_of, usage_line}
-use Rattle.solv_run.specs.Proofs.{HasGoodProofs}
+use Rattle.solv_run.specs.Dues.{Input, due_for, of_script, of_seed, program, tasks_of, usage_line}
+use Rattle.solv_run.specs.Proofs.{HasProofs}
 use Rattle.solv_run.specs.Rounds.{AreAnswers}
 use Rattle.solv_run.specs.declared.reports.Reached.{Reached}
 use Rattle.solv_run.specs.declared.reports.Report.{Report}
@@ -27,24 +26,21 @@ abbrev pub nothing_reached : Reached
 nothing_reached = record { answers = []; ledgers = [] }
 
 module _ (command : Command) (input : Input) where
-  -- the proofs of the problems of a script are good where they are asked for
+  -- the problems of a script have proofs where these are asked for
   abbrev pub AreProved : List Answer → Type 0
-  AreProved answers = (script : Script) → input ≡ of_script script → command.output ≡ output.Proofs → HasGoodProofs (tasks script) answers
+  AreProved answers = (script : Script) → input ≡ of_script script → command.output ≡ output.Proofs → HasProofs answers
 
-  -- What is due for an input, and what is reported of it: nothing, where the clauses of a task pass a limit, the first of which is told; and else an answer to each
-  -- task, within the budget of the words, with what is due for these answers.
+  -- What is due for an input, and what is reported of it: nothing, where the clauses of a task pass a limit, the first of which is told, by the packages that all
+  -- tasks share; and else an answer to each task, within the budget of the words, with what is due for these answers.
   pub data IsDueFor : Due → Reached → Type 0 where
-    passes_limit : (fault : BookFault) → first_limit (tasks_of command input) ≡ Some fault → IsDueFor (limit_due program (task_of input) fault) nothing_reached
+    passes_limit : (task : Task) (later : List Task) (fault : BookFault) → tasks_of command input ≡ task ∷ later → first_limit (tasks_of command input) ≡ Some fault → IsDueFor (limit_due program task fault) nothing_reached
     has_answers : (reached : Reached) → first_limit (tasks_of command input) ≡ None → AreAnswers command.budget (tasks_of command input) reached.answers reached.ledgers
         → AreProved reached.answers → IsDueFor (due_for command input reached.answers) reached
 
 -- the file that the words name
-abbrev pub file_of : Source → Option (List ℕ)
-file_of (File name) = Some name
-file_of (Seed seed) = None
-
 abbrev pub file_in : Option Command → Option (List ℕ)
-file_in form = option_and_then (λ command. file_of command.source) form
+file_in None = None
+file_in (Some command) = elim command.source [ File name ↦ Some name | Seed seed ↦ None ]
 
 -- what is due by the words
 module _ (form : Option Command) (files : FilesRun) where
@@ -57,7 +53,7 @@ module _ (form : Option Command) (files : FilesRun) where
   -- What is due, and which answers are reported: the words are not of the form, and no file is asked for; or the script cannot be
   -- read, or a file that it names, or its first bad line is refused; or the words have an input.
   pub data IsDueRun : Due → Reached → Type 0 where
-    no_command : form ≡ None → AskedBesides files [] → files.faults_after ≡ files.faults_before → IsDueRun (usage_due usage_line) nothing_reached
+    no_command : form ≡ None → AskedBesides files [] → files.faults_after ≡ files.faults_before → IsDueRun (line_due status.Usage usage_line) nothing_reached
     unread : (due : Due) → IsUnreadDue (file_in form) files program due → IsDueRun due nothing_reached
     had_input : (command : Command) (input : Input) (due : Due) (reached : Reached) → IsInput command input → IsDueFor command input due reached → IsDueRun due reached
 
@@ -69,5 +65,5 @@ module _ (form : Option Command) (files : FilesRun) where
 
   -- what may be written before a run ends for lack of memory: nothing, or a prefix of each text that is due, whatever answers were reached
   pub data HasWrittenPart (out err : SinkRun) : Type 0 where
-    wrote_nothing : WroteNothing out → WroteNothing err → HasWrittenPart out err
-    wrote_part : (due : Due) (reached : Reached) → IsDueRun due reached → IsSaidInPart due out err → HasWrittenPart out err
+    wrote_nothing : WroteAll out [] → WroteAll err [] → HasWrittenPart out err
+    wrote_part : (due : Due) (reached : Reached) → IsDueRun due reached → WrotePart out due.out → WrotePart err due.err → HasWrittenPart out err

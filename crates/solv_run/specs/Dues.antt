@@ -51,11 +51,6 @@ pub data Input : Type 0 where
   of_script : Script → Input
   of_seed : ℕ → Task → Input
 
--- the task whose packages a limit names
-abbrev pub task_of : Input → Task
-task_of (of_script script) = script.task
-task_of (of_seed seed task) = task
-
 module _ (command : Command) where
   -- the tasks that are answered: one for each round, and none where the script itself is asked for
   abbrev pub tasks_of : Input → List Task

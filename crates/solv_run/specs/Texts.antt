@@ -23,25 +23,17 @@ use Rattle.solv_io.specs.Lines.{ended_lines}
 use Rattle.solv_run.specs.Checks.{false_lines}
 
 module _ (task : Task) (rules : List HardRule) where
-  -- the text of the rule that has this number
-  abbrev pub rule_text : ℕ → List ℕ
-  rule_text number = option_map_or (text_of_rule task) (slice_get rules number) []
-
-  -- the lines of a problem: of the rules that it lists, and of its solutions, which are numbered from 1, one for each thing that a solution does
+  -- the lines of a problem: of the rules that it lists, by their numbers, and of its solutions, which are numbered from 1, one for each thing that a solution does
   abbrev pub problem_lines : ℕ → Problem → List (List ℕ)
   problem_lines number problem =
-      map (λ rule. codes "problem " ++ (decimal number ++ (codes " info " ++ rule_text rule))) problem.rules
+      map (λ rule. codes "problem " ++ (decimal number ++ (codes " info " ++ option_map_or (text_of_rule task) (slice_get rules rule) []))) problem.rules
       ++ flat_map (λ x. map (solution_line number x.0) (solution_texts task rules x.1.dropped x.1.set)) (enumerate_from 1 problem.solutions)
 
-  -- the lines of problems, which are numbered from 1, where they are asked for
-  abbrev pub problems_lines : Kinds → List Problem → List (List ℕ)
-  problems_lines kinds problems = when kinds.problems (flat_map (λ x. problem_lines x.0 x.1) (enumerate_from 1 problems))
-
 -- the result lines of an answer, of the kinds that are asked for: those of its changes, their order, the reasons of what comes, and who needs its packages; or those of its problems,
--- which name rules by their numbers among those that are made
+-- which are numbered from 1, and name rules by their numbers among those that are made
 abbrev pub answer_lines : Task → Kinds → Answer → List (List ℕ)
 answer_lines task kinds (Transaction trail set made ordered) = solved_lines (catalog_of task) task.jobs kinds made ordered trail.events set
-answer_lines task kinds (Problems left problems) = problems_lines task (made_rules task left) kinds problems
+answer_lines task kinds (Problems left problems) = when kinds.problems (flat_map (λ x. problem_lines task (made_rules task left) x.0 x.1) (enumerate_from 1 problems))
 answer_lines task kinds Spent = []
 
 -- the result lines of an answer to a round, sorted by bytes, each once
@@ -56,13 +48,9 @@ differing_lines wanted given = map (λ line. codes "-" ++ line) (missing_lines w
 abbrev pub differences : Turn → Answer → List (List ℕ)
 differences turn answer = if is_spent answer then [] else elim turn.wanted [ None ↦ [] | Some wanted ↦ differing_lines (line_set wanted) (told_lines turn answer) ]
 
--- they do not differ
-abbrev pub is_as_wanted : Turn → Answer → Bool
-is_as_wanted turn answer = length (differences turn answer) == 0
-
--- so it is in each round that has an answer
+-- they do not differ in any round that has an answer
 abbrev pub are_as_wanted : List Turn → List Answer → Bool
-are_as_wanted turns answers = list_all (λ x. is_as_wanted x.0 x.1) (zip turns answers)
+are_as_wanted turns answers = list_all (λ x. length (differences x.0 x.1) == 0) (zip turns answers)
 
 -- the lines of a round: its result lines, where they are asked for or the round says of none what it expects; and how they differ from those that it expects
 abbrev pub round_lines : Bool → Turn → Answer → List (List ℕ)

@@ -9,7 +9,8 @@ ghost use Rattle.solv_rules.specs.Books.{read_rules};
 ghost use Rattle.solv_answers.specs.Answers.{is_transaction, left_of, made_rules};
 ghost use Rattle.solv_script.specs.Inner.Turns.{first_turn};
 ghost use Rattle.solv_run.specs.Inner.Outcomes.{has_listed};
-ghost use Rattle.solv_run.specs.Texts.{problems_lines, answer_lines, told_lines, differing_lines, differences, is_as_wanted, round_lines};
+ghost use Rattle.solv_run.specs.Inner.Texts.{problems_lines, is_as_wanted};
+ghost use Rattle.solv_run.specs.Texts.{answer_lines, told_lines, differing_lines, differences, round_lines};
 ghost use Rattle.solv_lines.specs.LineSets.{line_set};
 
 use solv_answers::Answer;

@@ -15,7 +15,8 @@ ghost use Rattle.solv_script.specs.Rounds.{tasks, turn_of, turns, with_jobs_of};
 ghost use Rattle.solv_script.specs.Inner.Turns.{first_turn};
 ghost use Rattle.solv_run.specs.Inner.Outcomes.{has_listed};
 ghost use Rattle.solv_run.specs.Inner.Rounds.{AreAll, GoesOn, HasBegun, HasNext, HasPrinted, HasTaken, IsOneMore};
-ghost use Rattle.solv_run.specs.Texts.{is_as_wanted, round_lines};
+ghost use Rattle.solv_run.specs.Inner.Texts.{is_as_wanted};
+ghost use Rattle.solv_run.specs.Texts.{round_lines};
 
 use crate::outputs::prints_lines;
 use crate::printing::round_said;

@@ -6,6 +6,7 @@ use Rattle.std.proofs.lemmas.Bool.{ltb-true, ltb-false, lt-ltb}
 use Rattle.std.proofs.lemmas.Grind.{common_steps}
 use Rattle.std.proofs.lemmas.List.{append-nil, take_all, length-take-le}
 use Rattle.solv_io.specs.Counters.{Rose}
+use Rattle.solv_io.specs.Writes.{then_bytes}
 use Rattle.solv_script.specs.FileRuns.{FilesRun, AskedBesides, AreFetched, IsFront, bytes_in}
 use Rattle.solv_script.specs.Inner.FileRuns.{Piece, HasFetched, IsRead, HasEnded, script_piece}
 use Rattle.solv_script.specs.Grammar.{Bad, most_file, script_due, script_read}
@@ -17,8 +18,9 @@ use Rattle.solv_script.specs.declared.scripts.ScriptFault.TheVariants as fault
 use Rattle.solv_script.proofs.Fetches.{fetches_same}
 use Rattle.solv_said.specs.Dues.{read_fault_due}
 use Rattle.solv_said.specs.Explained.{HoldScript}
-use Rattle.solv_said.specs.Fetches.{IsNamed, HasAskedAll, HasAskedFront, HasScript, IsUnreadDue, WasFetched, asked_script, asked_more, not_read, refused, stopped}
+use Rattle.solv_said.specs.Fetches.{IsNamed, HasAskedAll, HasAskedFront, IsUnreadDue, WasFetched, asked_script, asked_more, not_read, refused, stopped}
 use Rattle.solv_said.specs.Inner.Faults.{HasNoScript, IsFaultDue, IsReadFaultOf}
+use Rattle.solv_said.specs.Runs.{SinkRun, WroteAll}
 use Rattle.solv_said.specs.declared.dues.Due.{Due}
 
 -- what is read of a file: all of it, or so much that it is seen to be too long
@@ -128,7 +130,7 @@ module _ (named : Option (List ℕ)) (whole phase : FilesRun) (file got : List �
   front_asked : HasAskedFrontOf (script_piece file got) phase → HasAskedFront named whole
   front_asked h = asked_more file here.bytes h.names h.fetched here.is (asked_whole h.names h.asked) (are_whole (take (length h.fetched) h.names) h.fetched h.are) h.few (front_whole h.names h.fetched h.due)
 
-  script_whole : (script : Script) (fetched : List (List ℕ)) → IsOkAnd (script_read file fetched got) (λ s. IsScriptOf s script) → HasScript file here.bytes fetched script
+  script_whole : (script : Script) (fetched : List (List ℕ)) → IsOkAnd (script_read file fetched got) (λ s. IsScriptOf s script) → IsOkAnd (script_read file fetched here.bytes) (λ s. IsScriptOf s script)
   script_whole script fetched h = let P : Result State Bad → Type 0 = λ given. IsOkAnd given (λ s. IsScriptOf s script) in subst P (here.same_read fetched) h
 
 -- what was asked for by a script that was read, or whose reading ended
@@ -238,6 +240,14 @@ nothing (Some b) = ap Some (sym (append-nil b))
 -- nothing was asked for
 pub none_asked : (files : FilesRun) → files.asked_after ≡ files.asked_before → AskedBesides files []
 none_asked files h = h ∙ nothing files.asked_before
+
+-- nor written
+pub none_written : (sink : SinkRun) → sink.after ≡ sink.before → sink.faults_after ≡ sink.faults_before → WroteAll sink []
+none_written sink written calm = record { text_written = written ∙ as_before sink.before; no_fault = calm }
+  where
+    as_before : (o : Option (List ℕ)) → o ≡ then_bytes o []
+    as_before None = refl
+    as_before (Some bytes) = ap Some (sym (append-nil bytes))
 
 pub if_wanting : {T E : Type 0} (P : Type 0) (r : Result T E) → P → IfErr r (λ e. P)
 if_wanting P (Ok x) h = tt

@@ -15,28 +15,18 @@ use Rattle.solv_said.specs.declared.dues.Due.{Due}
 abbrev pub line_due : Status → List ℕ → Due
 line_due status line = record { status = status; out = []; err = line }
 
--- words that are not of the form that this line shows
-abbrev pub usage_due : List ℕ → Due
-usage_due usage = line_due status.Usage usage
-
 module _ (program : List ℕ) where
   -- a file that cannot be read
-  abbrev pub read_fault_line : List ℕ → List ℕ
-  read_fault_line file = program ++ (codes ": cannot read " ++ (file ++ codes "\n"))
-
   abbrev pub read_fault_due : List ℕ → Due
-  read_fault_due file = line_due status.ReadFault (read_fault_line file)
+  read_fault_due file = line_due status.ReadFault (program ++ (codes ": cannot read " ++ (file ++ codes "\n")))
 
   -- what is wrong at a line of a file: the file, the line's number and the name of the cause
   abbrev pub line_at : List ℕ → ℕ → List ℕ → List ℕ
   line_at file line cause = program ++ (codes ": " ++ (file ++ (codes ":" ++ (decimal line ++ (codes ": " ++ (cause ++ codes "\n"))))))
 
   -- a bad line of a script, or of a file that it names
-  abbrev pub bad_line : Bad → List ℕ
-  bad_line b = line_at b.file b.line (cause_name b.cause)
-
   abbrev pub bad_line_due : Bad → Due
-  bad_line_due b = line_due status.Refused (bad_line b)
+  bad_line_due b = line_due status.Refused (line_at b.file b.line (cause_name b.cause))
 
   -- a limit that the clauses of a task pass
   abbrev pub limit_line : Task → BookFault → List ℕ

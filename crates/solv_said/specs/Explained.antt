@@ -3,7 +3,7 @@ use Rattle.std.specs.Prelude.{ℕ, ◌≡◌, List, [], ◌∷◌, ◌++◌, map
 use Rattle.solv_io.specs.Counters.{Rose}
 use Rattle.solv_script.specs.FileRuns.{FilesRun, AskedBesides, bytes_in}
 use Rattle.solv_script.specs.Grammar.{Bad, script_due, script_read}
-use Rattle.solv_said.specs.Dues.{read_fault_line, bad_line}
+use Rattle.solv_said.specs.Dues.{read_fault_due, bad_line_due}
 use Rattle.solv_said.specs.Fetches.{IsNamed, HasAskedAll}
 use Rattle.solv_said.specs.Runs.{SinkRun, WroteAll, HasWriteFault}
 
@@ -26,7 +26,7 @@ pub record IsBad (program : List ℕ) (named : Option (List ℕ)) (files : Files
   pub is_named : IsNamed named files file bytes
   pub asked : HasAskedAll named files file bytes fetched
   pub first_bad : script_read file fetched bytes ≡ Err bad
-  pub line : WroteAll err (bad_line program bad)
+  pub line : WroteAll err (bad_line_due program bad).err
 
 -- a file that could not be read: it is the one asked for last, the count of the files rose, and the one line on `err` names it
 pub record IsReadFault (program : List ℕ) (files : FilesRun) (err : SinkRun) : Type 0 where
@@ -34,4 +34,4 @@ pub record IsReadFault (program : List ℕ) (files : FilesRun) (err : SinkRun) :
   pub name : List ℕ
   pub asked : AskedBesides files (before ++ name ∷ [])
   pub rose : Rose files.faults_before files.faults_after
-  pub line : WroteAll err (read_fault_line program name)
+  pub line : WroteAll err (read_fault_due program name).err

@@ -8,10 +8,6 @@ use Rattle.solv_script.specs.declared.scripts.Script.{Script}
 use Rattle.solv_said.specs.Dues.{read_fault_due, bad_line_due}
 use Rattle.solv_said.specs.declared.dues.Due.{Due}
 
--- the script is the one that all lines give, where files with these bytes are fetched
-abbrev pub HasScript : List ℕ → List ℕ → List (List ℕ) → Script → Type 0
-HasScript file bytes fetched script = IsOkAnd (script_read file fetched bytes) (λ s. IsScriptOf s script)
-
 module _ (named : Option (List ℕ)) (files : FilesRun) where
   -- this file is named, which holds these bytes where the files tell what they hold
   pub record IsNamed (file bytes : List ℕ) : Type 0 where
@@ -43,14 +39,14 @@ module _ (named : Option (List ℕ)) (files : FilesRun) where
     asked_more : (file bytes : List ℕ) (names fetched : List (List ℕ)) → IsNamed file bytes → AskedBesides files (file ∷ names) → AreFetched files (take (length fetched) names) fetched
         → length names ≤ length fetched + 1 → IsFront names (script_due file fetched bytes) → HasAskedFront
 
-  -- the file that is named holds this script, and all files that the script names were fetched
+  -- the file that is named holds this script, which all its lines give, and all files that they name were fetched
   pub record WasFetched (script : Script) : Type 0 where
     pub file : List ℕ
     pub bytes : List ℕ
     pub fetched : List (List ℕ)
     pub is_named : IsNamed file bytes
     pub asked : HasAskedAll file bytes fetched
-    pub read : HasScript file bytes fetched script
+    pub read : IsOkAnd (script_read file fetched bytes) (λ s. IsScriptOf s script)
 
   -- what is due where no script is read: its file cannot be, or one that it names, or its first bad line is refused
   pub data IsUnreadDue (program : List ℕ) : Due → Type 0 where

@@ -32,11 +32,6 @@ pub record WrotePart (sink : SinkRun) (text : List ℕ) : Type 0 where
   pub part_written : WritesPrefix sink.before sink.after text
   pub no_fault : sink.faults_after ≡ sink.faults_before
 
--- nothing was written, and no fault counted
-pub record WroteNothing (sink : SinkRun) : Type 0 where
-  pub as_before : sink.after ≡ sink.before
-  pub no_fault : sink.faults_after ≡ sink.faults_before
-
 -- some fault of either sink counted
 abbrev pub HasWriteFault : SinkRun → SinkRun → Type 0
 HasWriteFault out err = Rose out.faults_before out.faults_after ⊎ Rose err.faults_before err.faults_after
@@ -46,8 +41,3 @@ pub data IsSaid (due : Due) (given : Status) (out err : SinkRun) : Type 0 where
   whole : given ≡ due.status → WroteAll out due.out → WroteAll err due.err → IsSaid due given out err
   cut_off : given ≡ status.WriteFault → HasWriteFault out err
       → WritesPrefix out.before out.after due.out → WritesPrefix err.before err.after due.err → IsSaid due given out err
-
--- what is due is said in part: a prefix of each text is written, and no fault counted
-pub record IsSaidInPart (due : Due) (out err : SinkRun) : Type 0 where
-  pub on_out : WrotePart out due.out
-  pub on_err : WrotePart err due.err

@@ -1,7 +1,8 @@
 //! What is due at the end of a run.
 ghost use Rattle.std.specs.Prelude.{◌≡◌, IfOk};
 ghost use Rattle.solv_pool.specs.Belonging.{IsOver};
-ghost use Rattle.solv_said.specs.Dues.{limit_due, line_due, read_fault_due, usage_due};
+ghost use Rattle.solv_said.specs.Dues.{limit_due, line_due, read_fault_due};
+ghost use Rattle.solv_said.specs.Inner.Dues.{usage_due};
 ghost use Rattle.solv_said.specs.Inner.Faults.{IsFaultDue};
 
 use crate::texts::{bad_line_text, limit_text, read_fault_text};

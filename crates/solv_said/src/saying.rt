@@ -1,6 +1,7 @@
 //! What is due is said on the sinks.
 ghost use Rattle.std.specs.Prelude.{◌≡◌, ◌⊎◌, ℕ, true, List, Option, IfOk, OnErr};
-ghost use Rattle.solv_said.specs.Runs.{IsSaidInPart, IsSaid, SinkRun, sink_run};
+ghost use Rattle.solv_said.specs.Inner.Parts.{IsSaidInPart};
+ghost use Rattle.solv_said.specs.Runs.{IsSaid, SinkRun, sink_run};
 
 use crate::dues::Due;
 use solv_io::{Sink, SinkFault, Status, put};

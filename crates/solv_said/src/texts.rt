@@ -3,7 +3,8 @@ ghost use Rattle.std.specs.Prelude.{◌≡◌, ◌++◌, codes, IfOk, OnOk, stri
 ghost use Rattle.std.specs.Fmt.{decimal};
 ghost use Rattle.solv_pool.specs.Belonging.{IsOver};
 ghost use Rattle.solv_pool.specs.PackageText.{package_text};
-ghost use Rattle.solv_said.specs.Dues.{line_at, limit_line, read_fault_line};
+ghost use Rattle.solv_said.specs.Dues.{line_at, limit_line};
+ghost use Rattle.solv_said.specs.Inner.Dues.{read_fault_line};
 
 use solv_pool::{PackNo, Task};
 use solv_rules::BookFault;

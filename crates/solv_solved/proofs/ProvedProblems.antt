@@ -18,7 +18,8 @@ use Rattle.solv_proof.specs.declared.kinds.Proof.{Proof}
 use Rattle.solv_questions.specs.Questions.{Request, rules_of}
 use Rattle.solv_remedy.specs.Remedies.{IsGoodList}
 use Rattle.solv_remedy.specs.declared.problems.Problem.{Problem}
-use Rattle.solv_verdicts.specs.Laws.{AreGoodFor, AreOfRounds, ProblemsAreProved, ProblemsMayBeWritten, proof_of, proofs_of, proofs_of_rounds}
+use Rattle.solv_verdicts.specs.Laws.{AreGoodFor, AreOfRounds, ProblemsAreProved, ProblemsMayBeWritten, proof_of, proofs_of_rounds}
+use Rattle.solv_verdicts.specs.Inner.Rounds.{proofs_of}
 use Rattle.solv_verdicts.specs.Verdicts.{of_round, verdict_of, verdict_on}
 use Rattle.solv_verdicts.specs.declared.verdicts.Verdict.TheVariants.{NoRound, NoRules, NoStep, Yes}
 use Rattle.solv_solved.specs.Inner.Proving.{are_proved, is_proved, is_yes}

@@ -7,7 +7,7 @@ use Rattle.solv_rules.specs.declared.fault.BookFault.{BookFault}
 use Rattle.solv_script.specs.FileRuns.{FilesRun}
 use Rattle.solv_script.specs.declared.scripts.Script.{Script}
 use Rattle.solv_io.specs.declared.status.Status.TheVariants.{ReadFault}
-use Rattle.solv_said.specs.Dues.{limit_due, read_fault_line}
+use Rattle.solv_said.specs.Dues.{limit_due, read_fault_due}
 use Rattle.solv_said.specs.Fetches.{IsUnreadDue, WasFetched}
 use Rattle.solv_said.specs.declared.dues.Due.{Due}
 use Rattle.solv_answers.specs.Answers.{IsAnswered, IsTransactionUnlessChoicesClash, is_whole}
@@ -48,7 +48,7 @@ lent_files files names faults = record { contents = Some (lent_bytes files); ask
 pub record IsMissingFile (files : List LentFile) (line : List ℕ) : Type 0 where
   pub name : List ℕ
   pub missing : is_missing files name ≡ true
-  pub told : line ≡ read_fault_line program name
+  pub told : line ≡ (read_fault_due program name).err
 
 -- where a file cannot be read, so it is
 abbrev pub NamesTheMissing : List LentFile → Held → Type 0

@@ -26,17 +26,13 @@ YesRefutes = (count : ℕ) (catalog : Catalog) (rules : List HardRule) (p : Proo
 abbrev pub proof_of : ℕ → ℕ → Problem → Proof
 proof_of round number problem = record { round = round; number = number; rules = problem.rules; log = problem.log }
 
--- the proofs of the problems of a round, which are numbered from 1
-abbrev pub proofs_of : ℕ → List Problem → List Proof
-proofs_of round problems = map (λ x. proof_of round x.0 x.1) (enumerate_from 1 problems)
-
 -- the core has the clauses of a request's rules
 abbrev pub HasClauses : Request → CoreOf → Type 0
 HasClauses r core = core.clauses ≡ flat_map (rule_clauses r.catalog) (rules_of r)
 
--- the proofs of the problems of rounds, which are numbered from 1; a round without problems has none
+-- the proofs of the problems of rounds: rounds are numbered from 1, and so are the problems of each
 abbrev pub proofs_of_rounds : List (List Problem) → List Proof
-proofs_of_rounds rounds = flat_map (λ x. proofs_of x.0 x.1) (enumerate_from 1 rounds)
+proofs_of_rounds rounds = flat_map (λ x. map (λ y. proof_of x.0 y.0 y.1) (enumerate_from 1 x.1)) (enumerate_from 1 rounds)
 
 -- problems that are a good list of them for some request and core
 pub record AreGoodFor (r : Request) (problems : List Problem) : Type 0 where

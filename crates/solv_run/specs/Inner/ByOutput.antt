@@ -24,7 +24,7 @@ use Rattle.solv_said.specs.declared.dues.Due.{Due}
 use Rattle.solv_run.specs.Cases.{nothing_reached}
 use Rattle.solv_run.specs.Checks.{is_true}
 use Rattle.solv_run.specs.Dues.{grown_line, program, spent_line, status_of}
-use Rattle.solv_run.specs.Proofs.{HasGoodProofs, printed_proofs}
+use Rattle.solv_run.specs.Proofs.{HasProofs, printed_proofs}
 use Rattle.solv_run.specs.Rounds.{AreAnswers, IsGoodAnswer, some_spent}
 use Rattle.solv_run.specs.Texts.{are_as_wanted, printed}
 use Rattle.solv_run.specs.declared.reports.Reached.{Reached}
@@ -82,7 +82,7 @@ pub data IsDueForScript (command : Command) (script : Script) : Due → Reached 
   answered : (reached : Reached) → command.output ≡ output.Lines → first_limit (tasks script) ≡ None → AreAnswers command.budget (tasks script) reached.answers reached.ledgers
       → IsDueForScript command script (answers_due command script reached.answers) reached
   proved : (reached : Reached) → command.output ≡ output.Proofs → first_limit (tasks script) ≡ None → AreAnswers command.budget (tasks script) reached.answers reached.ledgers
-      → HasGoodProofs (tasks script) reached.answers → IsDueForScript command script (proofs_due command.budget reached.answers) reached
+      → HasProofs reached.answers → IsDueForScript command script (proofs_due command.budget reached.answers) reached
   written : command.output ≡ output.Script → IsDueForScript command script (written_due script) nothing_reached
 
 -- what is due for the task of a seed: the same of one round, and of its answer one line

@@ -12,7 +12,8 @@ use Rattle.solv_words.specs.declared.command_line.Command.{Command}
 use Rattle.solv_words.specs.declared.command_line.Output.{Output}
 use Rattle.solv_words.specs.declared.command_line.Output.TheVariants as output
 use Rattle.solv_run.specs.Rounds.{AreAnswers, IsGoodAnswer, some_spent}
-use Rattle.solv_run.specs.Texts.{are_as_wanted, is_as_wanted, round_lines, rounds_lines}
+use Rattle.solv_run.specs.Inner.Texts.{is_as_wanted}
+use Rattle.solv_run.specs.Texts.{are_as_wanted, round_lines, rounds_lines}
 use Rattle.solv_run.specs.declared.rounds.Begun.{Begun}
 
 -- are lines asked for?

@@ -5,7 +5,7 @@ use Rattle.solv_pool.specs.declared.tasks.Task.{Task}
 use Rattle.solv_proof.specs.Texts.{are_listed}
 use Rattle.solv_proof.specs.declared.kinds.Proof.{Proof}
 use Rattle.solv_remedy.specs.declared.problems.Problem.{Problem}
-use Rattle.solv_verdicts.specs.Laws.{proofs_of}
+use Rattle.solv_verdicts.specs.Inner.Rounds.{proofs_of}
 use Rattle.solv_verdicts.specs.Verdicts.{verdict_of}
 use Rattle.solv_verdicts.specs.declared.verdicts.Verdict.{Verdict}
 use Rattle.solv_verdicts.specs.declared.verdicts.Verdict.TheVariants.{Yes}

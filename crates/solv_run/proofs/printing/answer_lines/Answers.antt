@@ -5,7 +5,8 @@ use Rattle.solv_rules.specs.Books.{read_rules}
 use Rattle.solv_lines.specs.LineSets.{line_set}
 use Rattle.solv_lines.specs.ResultLines.{solved_lines}
 use Rattle.solv_answers.specs.Answers.{is_transaction, left_of, made_rules}
-use Rattle.solv_run.specs.Texts.{answer_lines, problems_lines}
+use Rattle.solv_run.specs.Inner.Texts.{problems_lines}
+use Rattle.solv_run.specs.Texts.{answer_lines}
 use Rattle.solv_run.proofs.printing.answer_lines.Goals as goal
 
 pub returns-in-Transaction : goal.returns-in-Transaction

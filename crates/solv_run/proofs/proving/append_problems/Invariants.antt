@@ -1,6 +1,7 @@
 use Rattle.std.proofs.Common.{◌≡◌, ◌++◌, ◌+◌, drop, map}
 use Rattle.std.specs.List.{enumerate_from}
-use Rattle.solv_verdicts.specs.Laws.{proof_of, proofs_of}
+use Rattle.solv_verdicts.specs.Laws.{proof_of}
+use Rattle.solv_verdicts.specs.Inner.Rounds.{proofs_of}
 use Rattle.solv_run.proofs.proving.append_problems.Given as goal
 
 abbrev pub invariant-loop-place : goal.invariant-loop-place
