@@ -1,5 +1,5 @@
 -- What a script gives is what its rows give in turn.
-use Rattle.std.proofs.Common.{◌≡◌, ℕ, Bool, true, false, List, [], ◌∷◌, ◌++◌, length, Option, Some, None, Result, Ok, Err, refl, ap, ◌∙◌}
+use Rattle.std.proofs.Common.{◌≡◌, ℕ, Bool, true, false, List, [], ◌∷◌, ◌++◌, length, Some, None, Result, Ok, Err, refl, ap, ◌∙◌}
 use Rattle.std.proofs.Math.Path.{fun_ext}
 use Rattle.std.specs.Prelude.{if◌then◌else◌}
 use Rattle.std.specs.Option.{option_map_or}
@@ -9,10 +9,10 @@ use Rattle.solv_commands.specs.Commands.{Command, and_then, repo, system, solver
 use Rattle.solv_commands.specs.declared.causes.Cause.{Cause}
 use Rattle.solv_commands.specs.declared.causes.Cause.TheVariants.{AfterNextjob, Compressed, BadFileName}
 use Rattle.solv_script.specs.FileNames.{fetched_name, is_compressed}
-use Rattle.solv_script.specs.Grammar.{Bad, Reading, counted, done, asks, inline, lines_for, then_read, unless_bad, name_due, file_read, words_read, lines_read, given_by, due_by, script_read, script_due}
+use Rattle.solv_script.specs.Grammar.{Bad, Reading, counted, done, asks, inline, lines_for, then_read, unless_bad, file_read, words_read, lines_read, given_by, due_by, script_read, script_due}
 use Rattle.solv_script.specs.Grammar as grammar
 use Rattle.solv_script.specs.Inner.LineRows as rows
-use Rattle.solv_script.specs.Inner.LineRows.{Row, Purpose, of_packages, of_result, with_lines, answered, fetched_behind, asked_by, then_row, due_behind, at_line, fetched_given, file_row, lines_row, command_row, said_row, words_row, row, begun, lines_given, lines_due}
+use Rattle.solv_script.specs.Inner.LineRows.{Row, Purpose, of_packages, of_result, with_lines, answered, fetched_behind, asked_by, then_row, due_behind, at_line, fetched_given, lines_row, command_row, said_row, words_row, row, begun, lines_given, lines_due}
 use Rattle.solv_script.specs.Rows.{is_too_late, plain_row}
 use Rattle.solv_script.specs.ScriptLines.{ScriptLine, script_lines, own_words}
 use Rattle.solv_script.specs.States.{State, no_line}

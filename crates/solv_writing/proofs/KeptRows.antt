@@ -27,7 +27,7 @@ use Rattle.solv_commands.specs.declared.causes.Cause.TheVariants.{UnknownFlag, D
 use Rattle.solv_script.specs.Reads.{default_kinds}
 use Rattle.solv_script.specs.Results.{no_kinds, kind_switches, kinds_named}
 use Rattle.solv_script.specs.Rows.{arch_named, system_row, package_numbers, with_namespace, namespace_row, Chosen, chosen, job_row}
-use Rattle.solv_script.specs.Inner.LineParts.{disable_row, disabled, evrcmp_row, flags_row, installed_row, one_package, result_row, some_packages}
+use Rattle.solv_script.specs.Inner.LineParts.{disable_row, disabled, evrcmp_row, flags_row, installed_row, one_package, result_row}
 use Rattle.solv_commands.specs.Commands.{and_then}
 use Rattle.solv_script.specs.Inner.LineParts.{or_cause}
 use Rattle.solv_script.specs.States.{State, rounds_given, repo_place, repo_name, text_of, text_of_number, package_number}

@@ -26,7 +26,7 @@ use Rattle.solv_writing.specs.ScriptTexts.{inlined, kind_word, repository_lines,
 use Rattle.solv_writing.specs.TagLines.{evr_words, package_lines, tagged}
 use Rattle.solv_writing.specs.Inner.ScriptParts.{content_words, installed_words, kind_if, kind_names, text_in_parts, with_commas}
 use Rattle.solv_writing.specs.Inner.ScriptParts as parts
-use Rattle.solv_writing.specs.Inner.TagParts.{Entry, dep_entry, entries_of, entry_line, letters_of, text_entry}
+use Rattle.solv_writing.specs.Inner.TagParts.{Entry, dep_entry, entry_line, letters_of, text_entry}
 use Rattle.solv_writing.specs.Inner.TagParts as tags
 
 -- ---- packages
