@@ -9,6 +9,7 @@ use Rattle.solv_said.specs.Dues.{read_fault_due}
 use Rattle.solv_said.specs.Runs.{SinkRun}
 use Rattle.solv_run.specs.Cases.{IsRun}
 use Rattle.solv_run.specs.Dues.{program}
+use Rattle.solv_run.specs.Explained.{IsExplained}
 use Rattle.solv_run.specs.declared.reports.Report.{Report}
 use Rattle.solv_embed.specs.declared.runs.Outcome.{Outcome}
 
@@ -26,13 +27,14 @@ pub record IsMissingFile (files : List LentFile) (line : List ℕ) : Type 0 wher
   pub missing : is_missing files name ≡ true
   pub told : line ≡ (read_fault_due program name).err
 
--- A run of a command over lent files: what is due is the two texts, and no text is cut off. Where a file cannot be read, it is one that is not lent, and its
--- name is told.
+-- A run of a command over lent files: what is due is the two texts, the status is explained, and no text is cut off. Where a file cannot be read, it is
+-- one that is not lent, and its name is told.
 pub record IsLentRun (files : List LentFile) (command : Command) (outcome : Outcome) : Type 0 where
   pub names : List (List ℕ)
   pub faults : ℕ
   pub report : Report
   pub status : outcome.status ≡ report.status
   pub run : IsRun (Some command) (lent_run files names faults) report (text_run outcome.out) (text_run outcome.err)
+  pub explained : IsExplained (Some command) (lent_run files names faults) report (text_run outcome.out) (text_run outcome.err)
   pub read_fault : outcome.status ≡ ReadFault → IsMissingFile files outcome.err
   pub whole : outcome.status ≢ WriteFault

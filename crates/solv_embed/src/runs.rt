@@ -5,7 +5,6 @@ ghost use Rattle.solv_embed.specs.Runs.{IsLentRun};
 use solv_io::{PlainSink, Status};
 use solv_lent::{Lending, LentFile, LentFiles};
 use solv_list::Bytes;
-use solv_run::laws::runs_are_explained;
 use solv_run::run_command;
 use solv_words::Command;
 use std::alloc::{AllocError, Global};
@@ -32,7 +31,7 @@ fn empty_sink(alloc: Global) -> PlainSink
 }
 
 /// Runs a command over the files that are lent in this run.
-#[tactic(auto, using(crate::proofs::LentRuns::unread_is_missing, crate::proofs::LentRuns::never_cut_off))]
+#[tactic(auto, using(crate::proofs::LentRuns::missing_file))]
 fn run_over<K: Lending>(
     alloc: Global,
     files: &[LentFile],
@@ -42,7 +41,6 @@ fn run_over<K: Lending>(
     requires budget { command.now.budget ≤ 1000000 }
     ensures { IfOk result (IsLentRun K.held command.now) }
 {
-    runs_are_explained();
     let mut lent = LentFiles::<K>::new(alloc, files);
     let mut out = empty_sink(alloc);
     let mut err = empty_sink(alloc);

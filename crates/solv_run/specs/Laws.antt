@@ -13,21 +13,12 @@ use Rattle.solv_proof.specs.Reading.{proof_read}
 use Rattle.solv_proof.specs.Texts.{are_listed}
 use Rattle.solv_proof.specs.declared.kinds.Proof.{Proof}
 use Rattle.solv_said.specs.Fetches.{WasFetched}
-use Rattle.solv_said.specs.Runs.{SinkRun}
 use Rattle.solv_verdicts.specs.Verdicts.{verdict_of}
 use Rattle.solv_verdicts.specs.declared.verdicts.Verdict.TheVariants.{Yes}
-use Rattle.solv_words.specs.declared.command_line.Command.{Command}
 use Rattle.solv_writing.specs.ScriptTexts.{text_of_script}
 use Rattle.solv_writing.specs.WrittenBack.{IsReadBack}
-use Rattle.solv_run.specs.Cases.{IsRun}
-use Rattle.solv_run.specs.Explained.{IsExplained}
 use Rattle.solv_run.specs.Proofs.{HasProofs, printed_proofs, proofs_in}
 use Rattle.solv_run.specs.Rounds.{AreAnswers}
-use Rattle.solv_run.specs.declared.reports.Report.{Report}
-
--- each status of a run is explained by what was asked for, answered, said and counted in it
-abbrev pub RunsAreExplained : Type 0
-RunsAreExplained = (form : Option Command) (files : FilesRun) (report : Report) (out err : SinkRun) → IsRun form files report out err → IsExplained form files report out err
 
 -- one task has one answer, so that a run over a seed reports one; no task has none, as where a script is asked for itself
 abbrev pub EachTaskHasItsAnswer : Type 0

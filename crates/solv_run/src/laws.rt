@@ -1,14 +1,9 @@
 //! What follows of what a run says: each law is the contract of a function that does nothing, or calls laws of the layers below.
-ghost use Rattle.solv_run.specs.Laws.{EachTaskHasItsAnswer, PrintedProofsAreGood, PrintedProofsAreRead, PrintedScriptsAreRead, RunsAreExplained};
+ghost use Rattle.solv_run.specs.Laws.{EachTaskHasItsAnswer, PrintedProofsAreGood, PrintedProofsAreRead, PrintedScriptsAreRead};
 
 use solv_proof::laws::written_is_read;
 use solv_verdicts::laws::{problems_are_proved, problems_may_be_written};
 use solv_writing::each_script_is_read_back;
-
-/// Of each status it is known why it comes, and by what was fetched, said and counted which one must come.
-pub fn runs_are_explained()
-    ensures { RunsAreExplained }
-{}
 
 /// One task has one answer, also where its budget is spent, and no task has none.
 pub fn each_task_has_its_answer()

@@ -3,6 +3,7 @@ use Rattle.std.proofs.lemmas.Result.{on_err_weaker}
 use Rattle.solv_said.proofs.Fetched.{if_wanting, none_written}
 use Rattle.solv_said.proofs.Sayings.{none_takes}
 use Rattle.solv_run.specs.Cases.{wrote_nothing, wrote_part}
+use Rattle.solv_run.proofs.Explaining.{explained}
 use Rattle.solv_run.proofs.Said.{asked_by_due, run_of}
 use Rattle.solv_run.proofs.top.run_command.Goals as goal
 use Rattle.solv_list.proofs.Answers.{ok_map}
@@ -12,6 +13,10 @@ returns-clause-run g c = ok_map _ _ c.reported.result (λ report h. run_of _ _ r
 
 pub returns-clause-wanting : goal.returns-clause-wanting
 returns-clause-wanting g c = if_wanting _ c.reported.result (asked_by_due _ _ c.in_ok-conclusion.conclusion.due c.in_ok-conclusion.conclusion.reached c.in_ok-conclusion.ensures.due)
+
+pub returns-clause-explained : goal.returns-clause-explained
+returns-clause-explained g c =
+    ok_map _ _ c.reported.result (λ report h. explained _ _ report _ _ (run_of _ _ report _ _ c.in_ok-conclusion.conclusion c.in_ok-conclusion.ensures.due h)) c.reported.ensures.reported
 
 pub returns-clause-written : goal.returns-clause-written
 returns-clause-written g c =
