@@ -1,4 +1,8 @@
-use Rattle.std.proofs.Common.{sym, ◌∙◌}
+use Rattle.std.proofs.Common.{◌≡◌, Bool, true, not, List, [], ◌∷◌, refl, sym, ap, ◌∙◌}
+use Rattle.std.specs.List.{list_any}
+use Rattle.std.proofs.lemmas.Bool.{false≢true}
+use Rattle.solv_rules.specs.Books.{read_rules}
+use Rattle.solv_answers.specs.Answers.{left_of, made_rules}
 use Rattle.solv_script.specs.Inner.Turns.{first_turn}
 use Rattle.solv_said.proofs.Forming.{asks_formed}
 use Rattle.solv_run.specs.Rounds.{IsGoodAnswer}
@@ -11,6 +15,15 @@ answer_in_turn-requires-clause-formed c = asks_formed c.args.script.now.task c.r
 
 pub print-requires-clause-listed : goal.print-requires-clause-listed
 print-requires-clause-listed c = let good = c.in_ok-answered.ensures.good in listed_answer c.args.script.now.task good.left c.in_ok-answered.answered.answer good.is
+
+none_left : (left : List Bool) → not (list_any (λ _. true) left) ≡ true → left ≡ []
+none_left [] whole = refl
+none_left (out ∷ left) whole = absurd (false≢true whole)
+
+pub print-requires-clause-rules : goal.print-requires-clause-rules
+print-requires-clause-rules c = λ told.
+    let whole : left_of c.in_ok-answered.answered.answer ≡ [] = none_left (left_of c.in_ok-answered.answered.answer) c.in_ok-answered.ensures.whole in
+    ap read_rules c.rules-rules.ensures ∙ c.in_ok-answered.ensures.prepared.rules ∙ ap (made_rules c.args.script.now.task) (sym whole)
 
 pub returns-then-not-prints_lines-clause-one_more : goal.returns-then-not-prints_lines-clause-one_more
 returns-then-not-prints_lines-clause-one_more c =
