@@ -7,14 +7,15 @@ use Rattle.solv_base.specs.declared.relation.DepNode.{DepNode}
 use Rattle.solv_pool.specs.Words.{when, is_among}
 use Rattle.solv_pool.specs.Catalog.{Catalog, packages, members, package_at, dependency, is_installed, same_name}
 use Rattle.solv_pool.specs.Holding.{package_meets}
-use Rattle.solv_pool.specs.Best.{priority_of, evr_of}
-use Rattle.solv_pool.specs.Installable.{arch_rank, is_installable}
+use Rattle.solv_pool.specs.Best.{evr_of}
+use Rattle.solv_pool.specs.Installable.{is_installable}
 use Rattle.solv_pool.specs.Providing.{obsoletes}
 use Rattle.solv_pool.specs.JobMarks.{marked, is_to_move}
 use Rattle.solv_pool.specs.RuleMeaning.{HardRule, install, best_job, best_update}
 use Rattle.solv_pool.specs.HardRules.{counted_requirements, counted_rich_conflicts}
 use Rattle.solv_pool.specs.Inner.HardRules.{numbered_jobs}
-use Rattle.solv_policy.specs.Policy.{stays, favour_at, by_policy}
+use Rattle.solv_policy.specs.Policy.{by_policy}
+use Rattle.solv_policy.specs.Inner.Differences.{key_alone}
 use Rattle.solv_policy.specs.declared.policy.Asked.TheVariants.{Other}
 use Rattle.solv_trail.specs.declared.questions.Question.{Question}
 use Rattle.solv_trail.specs.declared.questions.Question.TheVariants as question
@@ -138,11 +139,7 @@ module _ (r : Request) where
   -- what decides of p among candidates
   abbrev pub standing_of : ℕ → Standing
   standing_of p = record {
-    stays = stays r.catalog r.marks p;
-    favour = favour_at r.marks p;
-    priority = priority_of r.catalog p;
-    rank = arch_rank r.catalog p;
-    installed = is_installed r.catalog p;
+    key = key_alone r.catalog r.marks p;
     name = option_map_or (λ a. a.name) (package_at r.catalog p) 0;
     evr = evr_of r.catalog p;
     beaten_by = filter (λ q. not (same_name r.catalog p q) && obsoletes r.catalog q p) (packages r.catalog);
