@@ -1,5 +1,5 @@
 //! A core, and its runs.
-ghost use Rattle.std.specs.Prelude.{◌≡◌, ◌^◌, ◌≤◌, ◌+◌, ◌*◌, ◌==◌, ◌++◌, ◌∷◌, [], true, List, length, take, nat_lt, IfOk, OnOk, OnErr};
+ghost use Rattle.std.specs.Prelude.{◌≡◌, ◌^◌, ◌≤◌, ◌+◌, ◌*◌, ◌++◌, ◌∷◌, [], true, List, length, nat_lt, IfOk, OnOk, OnErr};
 ghost use Rattle.std.specs.List.{list_all};
 ghost use Rattle.solv_derive.specs.Range.{are_over};
 ghost use Rattle.solv_pool.specs.Clauses.{all_true};
@@ -7,14 +7,13 @@ ghost use Rattle.solv_trail.specs.Asked.{enabled_clauses};
 ghost use Rattle.solv_core.specs.Inner.Meeting.{set_by};
 ghost use Rattle.solv_trail.specs.Propagated.{in_use};
 ghost use Rattle.solv_watch.specs.Inner.Watching.{AreChained, AreHeads, AreNarrow};
-ghost use Rattle.solv_core.specs.Inner.Cores.{none_in_use, numbers_in_use};
+ghost use Rattle.solv_core.specs.Inner.Cores.{core_of, none_in_use};
 ghost use Rattle.solv_core.specs.Inner.Holding.{IsBegun, IsHeldBy, entry_of};
-ghost use Rattle.solv_core.specs.Inner.Ledgers.{GrowsLedger, LeftByRefusal, in_use_after, run_of};
-ghost use Rattle.solv_core.specs.Ledgers.{IsGoodLedger};
+ghost use Rattle.solv_core.specs.Inner.Ledgers.{run_of};
 ghost use Rattle.solv_core.specs.Inner.Contradictions.{IsWhatRefutes};
-ghost use Rattle.solv_core.specs.Inner.Looking.{AreRefutedBeside, verdict_of};
+ghost use Rattle.solv_core.specs.Inner.Looking.{AreRefutedBeside, verdict_in};
 ghost use Rattle.solv_core.specs.Inner.Settling.{HasLearnt};
-ghost use Rattle.solv_core.specs.Inner.Running.{is_spent_verdict, is_log_over, IsRefutation, IsFound};
+ghost use Rattle.solv_core.specs.Inner.Running.{HasRunOnce, IsAnswered};
 ghost use Rattle.solv_core.specs.declared.ledger.Entry.{Entry};
 ghost use Rattle.solv_core.specs.declared.ledger.Ledger.{Ledger as LedgerOf};
 
@@ -95,11 +94,11 @@ fn begin(
     requires each { length used.now.owners.now ≡ length used.now.book.now.rules }
     requires owners { list_all (λ o. nat_lt o (length used.now.enabled.now)) used.now.owners.now ≡ true }
     requires few { length ledger.old.entries ≤ 1000001 }
-    requires held { IsHeldBy (record { made = record { clauses = used.now.book.now.rules; owners = used.now.owners.now; packages = parts.old.known.count }; in_use = record { kept = parts.old.numbers.kept.items; first = parts.old.numbers.first; clauses = parts.old.learnt.rules } }) ledger.old }
+    requires held { IsHeldBy (core_of used.now parts.old) ledger.old }
     ensures budget { ledger.new.budget ≡ ledger.old.budget }
     ensures entries { ledger.new.entries ≡ ledger.old.entries }
-    ensures begun { OnOk result (IsBegun used.now.book.now.rules used.now.owners.now parts.old.known.count used.now.enabled.now ledger.old.entries (run_of (record { made = record { clauses = used.now.book.now.rules; owners = used.now.owners.now; packages = parts.old.known.count }; in_use = record { kept = parts.old.numbers.kept.items; first = parts.old.numbers.first; clauses = parts.old.learnt.rules } }) used.now.enabled.now ledger.old.entries).kept parts.new.numbers.kept.items parts.new.numbers.first parts.new.learnt.rules) }
-    ensures added { OnOk result (ledger.new.runs ≡ ledger.old.runs ++ run_of (record { made = record { clauses = used.now.book.now.rules; owners = used.now.owners.now; packages = parts.old.known.count }; in_use = record { kept = parts.old.numbers.kept.items; first = parts.old.numbers.first; clauses = parts.old.learnt.rules } }) used.now.enabled.now ledger.old.entries ∷ []) }
+    ensures begun { OnOk result (IsBegun used.now.book.now.rules used.now.owners.now parts.old.known.count used.now.enabled.now ledger.old.entries (run_of (core_of used.now parts.old) used.now.enabled.now ledger.old.entries).kept parts.new.numbers.kept.items parts.new.numbers.first parts.new.learnt.rules) }
+    ensures added { OnOk result (ledger.new.runs ≡ ledger.old.runs ++ run_of (core_of used.now parts.old) used.now.enabled.now ledger.old.entries ∷ []) }
     ensures refused { OnErr result (ledger.new ≡ ledger.old) }
     ensures refused_numbers { OnErr result (parts.new.numbers ≡ parts.old.numbers) }
     ensures refused_learnt { OnErr result (parts.new.learnt ≡ parts.old.learnt) }
@@ -162,10 +161,7 @@ fn run_over<G: Guide + Recaller>(
     ensures few { length ledger.new.entries ≤ ledger.new.budget + 1 }
     ensures learnt { (new : List Entry) × HasLearnt used.now.book.now.rules parts.old.learnt.rules (in_use used.now.owners.now used.now.enabled.now) (λ facts. G.asks guide.now facts used.now.enabled.now) (entry_of parts.old.numbers.kept.items parts.old.numbers.first) parts.old.known.count noted.now.run ledger.old.entries ledger.new.entries parts.new.learnt.rules new }
     ensures numbers { parts.new.numbers ≡ parts.old.numbers }
-    ensures spent { IfOk result (λ v. is_spent_verdict (verdict_of v) ≡ (length ledger.new.entries == ledger.new.budget + 1)) }
-    ensures refutation { IfOk result (λ v. IsRefutation used.now.book.now.rules used.now.owners.now used.now.enabled.now (verdict_of v)) }
-    ensures log_over { IfOk result (λ v. is_log_over parts.old.known.count (verdict_of v) ≡ true) }
-    ensures found { IfOk result (λ v. IsFound parts.old.known.count used.now.book.now.rules used.now.owners.now used.now.enabled.now (λ facts. G.asks guide.now facts used.now.enabled.now) (verdict_of v)) }
+    ensures answered { IsAnswered (core_of used.now parts.old).made (λ facts. G.asks guide.now facts used.now.enabled.now) used.now.enabled.now ledger.new (verdict_in result) }
     ensures looked { IfOk result (AreRefutedBeside used.now.book.now.rules used.now.owners.now parts.old.known.count used.now.enabled.now noted.now.clauses.now) }
     ensures chained { AreChained parts.old.known.count used.now.book.now.rules parts.new.watches.book.heads.items parts.new.watches.book.links.items parts.new.watches.book.watched.items }
     ensures narrow { AreNarrow used.now.book.now.rules parts.new.watches.narrow.items }
@@ -252,17 +248,7 @@ impl<'a> Core<'a> {
         requires budget { ledger.old.budget ≤ 1000000 }
         requires few { length ledger.old.entries ≤ ledger.old.budget + 1 }
         requires held { IsHeldBy self.old ledger.old }
-        ensures core { self.new.made ≡ self.old.made }
-        ensures held { IsHeldBy self.new ledger.new }
-        ensures ledger { GrowsLedger ledger.old ledger.new }
-        ensures run { OnOk result (ledger.new.runs ≡ ledger.old.runs ++ run_of self.old enabled.now ledger.old.entries ∷ []) }
-        ensures in_use { OnOk result (numbers_in_use self.new.in_use ≡ in_use_after (run_of self.old enabled.now ledger.old.entries) ledger.old.entries ledger.new.entries) }
-        ensures refused { OnErr result (LeftByRefusal enabled.now ledger.old ledger.new self.old self.new) }
-        ensures good { IsGoodLedger self.old.made.clauses self.old.made.owners self.old.made.packages (G.asks guide.now) ledger.old → IsGoodLedger self.old.made.clauses self.old.made.owners self.old.made.packages (G.asks guide.now) ledger.new }
-        ensures spent { IfOk result (λ v. is_spent_verdict v ≡ (length ledger.new.entries == ledger.new.budget + 1)) }
-        ensures refutation { IfOk result (IsRefutation self.old.made.clauses self.old.made.owners enabled.now) }
-        ensures log_over { IfOk result (λ v. is_log_over self.old.made.packages v ≡ true) }
-        ensures found { IfOk result (IsFound self.old.made.packages self.old.made.clauses self.old.made.owners enabled.now (λ facts. G.asks guide.now facts enabled.now)) }
+        ensures run { HasRunOnce (G.asks guide.now) enabled.now self.old self.new ledger.old ledger.new result }
     {
         self.run_recalling(enabled, &Forgetful { guide }, ledger)
     }
@@ -280,17 +266,7 @@ impl<'a> Core<'a> {
         requires budget { ledger.old.budget ≤ 1000000 }
         requires few { length ledger.old.entries ≤ ledger.old.budget + 1 }
         requires held { IsHeldBy self.old ledger.old }
-        ensures core { self.new.made ≡ self.old.made }
-        ensures held { IsHeldBy self.new ledger.new }
-        ensures ledger { GrowsLedger ledger.old ledger.new }
-        ensures run { OnOk result (ledger.new.runs ≡ ledger.old.runs ++ run_of self.old enabled.now ledger.old.entries ∷ []) }
-        ensures in_use { OnOk result (numbers_in_use self.new.in_use ≡ in_use_after (run_of self.old enabled.now ledger.old.entries) ledger.old.entries ledger.new.entries) }
-        ensures refused { OnErr result (LeftByRefusal enabled.now ledger.old ledger.new self.old self.new) }
-        ensures good { IsGoodLedger self.old.made.clauses self.old.made.owners self.old.made.packages (G.asks guide.now) ledger.old → IsGoodLedger self.old.made.clauses self.old.made.owners self.old.made.packages (G.asks guide.now) ledger.new }
-        ensures spent { IfOk result (λ v. is_spent_verdict v ≡ (length ledger.new.entries == ledger.new.budget + 1)) }
-        ensures refutation { IfOk result (IsRefutation self.old.made.clauses self.old.made.owners enabled.now) }
-        ensures log_over { IfOk result (λ v. is_log_over self.old.made.packages v ≡ true) }
-        ensures found { IfOk result (IsFound self.old.made.packages self.old.made.clauses self.old.made.owners enabled.now (λ facts. G.asks guide.now facts enabled.now)) }
+        ensures run { HasRunOnce (G.asks guide.now) enabled.now self.old self.new ledger.old ledger.new result }
     {
         let looked = self.run_looking(enabled, guide, ledger, &[])?;
         Ok(looked.into_verdict())
@@ -311,17 +287,7 @@ impl<'a> Core<'a> {
         requires budget { ledger.old.budget ≤ 1000000 }
         requires few { length ledger.old.entries ≤ ledger.old.budget + 1 }
         requires held { IsHeldBy self.old ledger.old }
-        ensures core { self.new.made ≡ self.old.made }
-        ensures held { IsHeldBy self.new ledger.new }
-        ensures ledger { GrowsLedger ledger.old ledger.new }
-        ensures run { OnOk result (ledger.new.runs ≡ ledger.old.runs ++ run_of self.old enabled.now ledger.old.entries ∷ []) }
-        ensures in_use { OnOk result (numbers_in_use self.new.in_use ≡ in_use_after (run_of self.old enabled.now ledger.old.entries) ledger.old.entries ledger.new.entries) }
-        ensures refused { OnErr result (LeftByRefusal enabled.now ledger.old ledger.new self.old self.new) }
-        ensures good { IsGoodLedger self.old.made.clauses self.old.made.owners self.old.made.packages (G.asks guide.now) ledger.old → IsGoodLedger self.old.made.clauses self.old.made.owners self.old.made.packages (G.asks guide.now) ledger.new }
-        ensures spent { IfOk result (λ v. is_spent_verdict (verdict_of v) ≡ (length ledger.new.entries == ledger.new.budget + 1)) }
-        ensures refutation { IfOk result (λ v. IsRefutation self.old.made.clauses self.old.made.owners enabled.now (verdict_of v)) }
-        ensures log_over { IfOk result (λ v. is_log_over self.old.made.packages (verdict_of v) ≡ true) }
-        ensures found { IfOk result (λ v. IsFound self.old.made.packages self.old.made.clauses self.old.made.owners enabled.now (λ facts. G.asks guide.now facts enabled.now) (verdict_of v)) }
+        ensures run { HasRunOnce (G.asks guide.now) enabled.now self.old self.new ledger.old ledger.new (verdict_in result) }
         ensures looked { IfOk result (AreRefutedBeside self.old.made.clauses self.old.made.owners self.old.made.packages enabled.now clauses.now) }
     {
         let alloc = self.alloc;

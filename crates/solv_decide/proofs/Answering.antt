@@ -21,8 +21,8 @@ use Rattle.solv_trail.specs.declared.questions.Ask.{Ask}
 use Rattle.solv_core.specs.Cores.{CoreOf}
 use Rattle.solv_core.specs.GoodTrails.{IsGoodTrail, facts_of}
 use Rattle.solv_core.specs.Ledgers.{IsGoodLedger}
-use Rattle.solv_core.specs.Inner.Looking.{verdict_of}
-use Rattle.solv_core.specs.Inner.Running.{IsFound, IsRefutation, is_log_over}
+use Rattle.solv_core.specs.Inner.Looking.{verdict_in, verdict_of}
+use Rattle.solv_core.specs.Inner.Running.{IsAnswered, IsFound, IsRefutation, is_log_over}
 use Rattle.solv_core.specs.declared.ledger.Ledger.{Ledger}
 use Rattle.solv_core.specs.declared.verdicts.Trail.{Trail}
 use Rattle.solv_core.specs.declared.verdicts.Looked.{Looked}
@@ -122,7 +122,6 @@ module _ (r : Request) (asker : Asker) (core : CoreOf) (asked : IsAskedFor r ask
     decided refute each (verdict.Unsat log) found refutation over = refuted refute log each refutation.0 refutation.1 over
     decided refute each verdict.Spent found refutation over = tt
 
-    pub decided_if : GoodLogsRefute → (o : Result Looked AllocError) → IfOk o (λ v. IsFound core.packages core.clauses core.owners enabled (λ known. plan_asks asker.plan known enabled) (verdict_of v)) → IfOk o (λ v. IsRefutation core.clauses core.owners enabled (verdict_of v))
-        → IfOk o (λ v. is_log_over core.packages (verdict_of v) ≡ true) → IfOk o (λ v. IsDecided r enabled core (verdict_of v))
-    decided_if refute (Ok v) found refutation over = decided refute (ap length asked.owners ∙ lengths_are r.catalog 0 (rules_of r) ∙ sym (ap length asked.clauses)) (verdict_of v) found refutation over
-    decided_if refute (Err e) found refutation over = tt
+    pub decided_if : GoodLogsRefute → (o : Result Looked AllocError) (ledger : Ledger) → IsAnswered core (λ known. plan_asks asker.plan known enabled) enabled ledger (verdict_in o) → IfOk o (λ v. IsDecided r enabled core (verdict_of v))
+    decided_if refute (Ok v) ledger a = decided refute (ap length asked.owners ∙ lengths_are r.catalog 0 (rules_of r) ∙ sym (ap length asked.clauses)) (verdict_of v) a.found a.refutation a.log_over
+    decided_if refute (Err e) ledger a = tt

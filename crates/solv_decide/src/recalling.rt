@@ -1,13 +1,10 @@
 //! The questions of a task as a guide that remembers what is settled.
-ghost use Rattle.std.specs.Prelude.{◌≡◌, ◌≤◌, ◌+◌, ◌==◌, ◌++◌, ◌∷◌, [], true, length, take, drop, nat_lt, IfOk, IfSome, OnOk, OnErr};
+ghost use Rattle.std.specs.Prelude.{◌≡◌, ◌≤◌, ◌+◌, [], true, length, nat_lt, IfOk, IfSome};
 ghost use Rattle.std.specs.List.{list_all};
-ghost use Rattle.solv_core.specs.Inner.Cores.{numbers_in_use};
 ghost use Rattle.solv_core.specs.Inner.Holding.{IsHeldBy};
-ghost use Rattle.solv_core.specs.Inner.Ledgers.{GrowsLedger, LeftByRefusal, in_use_after, run_of};
 ghost use Rattle.solv_pool.specs.Propagation.{is_fact};
-ghost use Rattle.solv_core.specs.Ledgers.{IsGoodLedger};
-ghost use Rattle.solv_core.specs.Inner.Looking.{AreRefutedBeside, verdict_of};
-ghost use Rattle.solv_core.specs.Inner.Running.{IsFound, IsRefutation, is_log_over, is_spent_verdict};
+ghost use Rattle.solv_core.specs.Inner.Looking.{AreRefutedBeside, verdict_in};
+ghost use Rattle.solv_core.specs.Inner.Running.{HasRunOnce};
 ghost use Rattle.solv_plan.specs.Inner.Plans.{plan_asks};
 ghost use Rattle.solv_plan.specs.Inner.Settling.{AreFit, is_right_for};
 ghost use Rattle.solv_plan.specs.declared.plans.Plan.{Plan};
@@ -119,17 +116,7 @@ pub(crate) fn run_looking<K: Planned>(
     requires budget { ledger.old.budget ≤ 1000000 }
     requires few { length ledger.old.entries ≤ ledger.old.budget + 1 }
     requires held { IsHeldBy core.old ledger.old }
-    ensures core { core.new.made ≡ core.old.made }
-    ensures held { IsHeldBy core.new ledger.new }
-    ensures ledger { GrowsLedger ledger.old ledger.new }
-    ensures run { OnOk result (ledger.new.runs ≡ ledger.old.runs ++ run_of core.old enabled.now ledger.old.entries ∷ []) }
-    ensures in_use { OnOk result (numbers_in_use core.new.in_use ≡ in_use_after (run_of core.old enabled.now ledger.old.entries) ledger.old.entries ledger.new.entries) }
-    ensures refused { OnErr result (LeftByRefusal enabled.now ledger.old ledger.new core.old core.new) }
-    ensures good { IsGoodLedger core.old.made.clauses core.old.made.owners core.old.made.packages (plan_asks phases.now.plan) ledger.old → IsGoodLedger core.old.made.clauses core.old.made.owners core.old.made.packages (plan_asks phases.now.plan) ledger.new }
-    ensures spent { IfOk result (λ v. is_spent_verdict (verdict_of v) ≡ (length ledger.new.entries == ledger.new.budget + 1)) }
-    ensures refutation { IfOk result (λ v. IsRefutation core.old.made.clauses core.old.made.owners enabled.now (verdict_of v)) }
-    ensures log_over { IfOk result (λ v. is_log_over core.old.made.packages (verdict_of v) ≡ true) }
-    ensures found { IfOk result (λ v. IsFound core.old.made.packages core.old.made.clauses core.old.made.owners enabled.now (λ facts. plan_asks phases.now.plan facts enabled.now) (verdict_of v)) }
+    ensures run { HasRunOnce (plan_asks phases.now.plan) enabled.now core.old core.new ledger.old ledger.new (verdict_in result) }
     ensures looked { IfOk result (AreRefutedBeside core.old.made.clauses core.old.made.owners core.old.made.packages enabled.now clauses.now) }
 {
     let remembered = Remembered::<K> {

@@ -1,14 +1,13 @@
 //! Sets that meet the enabled rules of a task, by its questions.
-ghost use Rattle.std.specs.Prelude.{◌≡◌, ◌≤◌, ◌+◌, ◌==◌, ◌++◌, ◌∷◌, [], true, length, take, drop, nat_lt, IfOk, OnOk, OnErr};
+ghost use Rattle.std.specs.Prelude.{◌≡◌, ◌≤◌, ◌+◌, true, length, nat_lt, IfOk};
 ghost use Rattle.std.specs.List.{list_all};
-ghost use Rattle.solv_core.specs.Inner.Cores.{numbers_in_use};
 ghost use Rattle.solv_core.specs.Inner.Holding.{IsHeldBy};
-ghost use Rattle.solv_core.specs.Inner.Ledgers.{GrowsLedger, LeftByRefusal, in_use_after, run_of};
 ghost use Rattle.solv_core.specs.Ledgers.{IsGoodLedger};
-ghost use Rattle.solv_core.specs.Inner.Looking.{AreRefutedBeside, verdict_of};
-ghost use Rattle.solv_core.specs.Inner.Running.{is_log_over, is_spent_verdict};
+ghost use Rattle.solv_core.specs.Inner.Looking.{AreRefutedBeside, verdict_in, verdict_of};
+ghost use Rattle.solv_core.specs.Inner.Running.{HasRunOnce};
 ghost use Rattle.solv_questions.specs.Questions.{Request, asks};
 ghost use Rattle.solv_core.specs.Inner.Meeting.{set_by};
+ghost use Rattle.solv_plan.specs.Inner.Plans.{plan_asks};
 ghost use Rattle.solv_decide.specs.Deciding.{meets_all};
 ghost use Rattle.solv_decide.specs.Inner.Deciding.{Asker, IsAskedFor, IsDecided};
 
@@ -38,15 +37,8 @@ pub fn solve(
     requires budget { ledger.old.budget ≤ 1000000 }
     requires few { length ledger.old.entries ≤ ledger.old.budget + 1 }
     requires held { IsHeldBy core.old ledger.old }
-    ensures core { core.new.made ≡ core.old.made }
-    ensures held { IsHeldBy core.new ledger.new }
-    ensures ledger { GrowsLedger ledger.old ledger.new }
-    ensures run { OnOk result (ledger.new.runs ≡ ledger.old.runs ++ run_of core.old enabled.now ledger.old.entries ∷ []) }
-    ensures in_use { OnOk result (numbers_in_use core.new.in_use ≡ in_use_after (run_of core.old enabled.now ledger.old.entries) ledger.old.entries ledger.new.entries) }
-    ensures refused { OnErr result (LeftByRefusal enabled.now ledger.old ledger.new core.old core.new) }
+    ensures run { HasRunOnce (plan_asks phases.now.plan) enabled.now core.old core.new ledger.old ledger.new result }
     ensures good { (r : Request) → IsAskedFor r phases.now core.old.made → IsGoodLedger core.old.made.clauses core.old.made.owners core.old.made.packages (asks r) ledger.old → IsGoodLedger core.old.made.clauses core.old.made.owners core.old.made.packages (asks r) ledger.new }
-    ensures spent { IfOk result (λ v. is_spent_verdict v ≡ (length ledger.new.entries == ledger.new.budget + 1)) }
-    ensures log_over { IfOk result (λ v. is_log_over core.old.made.packages v ≡ true) }
     ensures decided { (r : Request) → IsAskedFor r phases.now core.old.made → IfOk result (IsDecided r enabled.now core.old.made) }
 {
     let looked = solve_looking(phases, core, enabled, ledger, &[])?;
@@ -77,15 +69,8 @@ pub fn solve_looking(
     requires budget { ledger.old.budget ≤ 1000000 }
     requires few { length ledger.old.entries ≤ ledger.old.budget + 1 }
     requires held { IsHeldBy core.old ledger.old }
-    ensures core { core.new.made ≡ core.old.made }
-    ensures held { IsHeldBy core.new ledger.new }
-    ensures ledger { GrowsLedger ledger.old ledger.new }
-    ensures run { OnOk result (ledger.new.runs ≡ ledger.old.runs ++ run_of core.old enabled.now ledger.old.entries ∷ []) }
-    ensures in_use { OnOk result (numbers_in_use core.new.in_use ≡ in_use_after (run_of core.old enabled.now ledger.old.entries) ledger.old.entries ledger.new.entries) }
-    ensures refused { OnErr result (LeftByRefusal enabled.now ledger.old ledger.new core.old core.new) }
+    ensures run { HasRunOnce (plan_asks phases.now.plan) enabled.now core.old core.new ledger.old ledger.new (verdict_in result) }
     ensures good { (r : Request) → IsAskedFor r phases.now core.old.made → IsGoodLedger core.old.made.clauses core.old.made.owners core.old.made.packages (asks r) ledger.old → IsGoodLedger core.old.made.clauses core.old.made.owners core.old.made.packages (asks r) ledger.new }
-    ensures spent { IfOk result (λ v. is_spent_verdict (verdict_of v) ≡ (length ledger.new.entries == ledger.new.budget + 1)) }
-    ensures log_over { IfOk result (λ v. is_log_over core.old.made.packages (verdict_of v) ≡ true) }
     ensures decided { (r : Request) → IsAskedFor r phases.now core.old.made → IfOk result (λ v. IsDecided r enabled.now core.old.made (verdict_of v)) }
     ensures looked { IfOk result (AreRefutedBeside core.old.made.clauses core.old.made.owners core.old.made.packages enabled.now clauses.now) }
 {

@@ -1,5 +1,6 @@
 -- What a run finds that looks at its end.
-use Rattle.std.specs.Prelude.{◌<◌, ◌^◌, ◌++◌, ℕ, ℤ, Bool, List}
+use Rattle.std.specs.Prelude.{◌<◌, ◌^◌, ◌++◌, ℕ, ℤ, Bool, List, Result, Ok, Err}
+use Rattle.std.specs.declared.alloc.AllocError.{AllocError}
 use Rattle.solv_derive.specs.declared.logs.Step.{Step}
 use Rattle.solv_trail.specs.Inner.Held.{Held}
 use Rattle.solv_trail.specs.Inner.Propagated.{IsReasoned}
@@ -17,6 +18,11 @@ abbrev pub verdict_of : Looked → Verdict
 verdict_of (looked.Sat t found) = verdict.Sat t
 verdict_of (looked.Unsat log) = verdict.Unsat log
 verdict_of looked.Spent = verdict.Spent
+
+-- the verdict of an answer
+abbrev pub verdict_in : Result Looked AllocError → Result Verdict AllocError
+verdict_in (Ok l) = Ok (verdict_of l)
+verdict_in (Err e) = Err e
 
 -- what stands beside a set is refuted by the enabled rules
 abbrev pub AreRefutedBeside : List (List ℤ) → List ℕ → ℕ → List Bool → List ℕ → Looked → Type 0

@@ -72,10 +72,10 @@ returns-clause-asked c =
     c.in_ok-phases.ensures (ap (λ k. k.made) c.in_ok-core.ensures.core) c.requires.book.clauses c.requires.book.owners c.requires.rules c.requires.formed c.holds_each_once.ensures.operands_before
     (ap (are_over (length catalog.universe.packages)) c.requires.book.clauses ∙ clauses_over catalog c.clauses_name_packages.ensures rules c.requires.bookable) in
     let A : CoreOf → Type 0 = λ k. IsAskedFor r c.in_ok-phases.phases k in
-    subst A (sym c.solve.ensures.core) asked
+    subst A (sym c.solve.ensures.run.core) asked
 
 pub returns-clause-core : goal.returns-clause-core
-returns-clause-core c = c.solve.ensures.core ∙ ap (λ k. k.made) c.in_ok-core.ensures.core
+returns-clause-core c = c.solve.ensures.run.core ∙ ap (λ k. k.made) c.in_ok-core.ensures.core
 
 pub solve-requires-clause-held : goal.solve-requires-clause-held
 solve-requires-clause-held c = c.in_ok-core.ensures.held c.new-ledger.result
@@ -83,7 +83,7 @@ solve-requires-clause-held c = c.in_ok-core.ensures.held c.new-ledger.result
 -- a core that has learnt nothing keeps nothing
 pub returns-clause-run : goal.returns-clause-run
 returns-clause-run c =
-    c.in_ok-verdict.ensures.run
+    c.in_ok-verdict.ensures.run.run
     ∙ ap (λ v. v ++ run_of c.in_ok-core.core c.deref.result.now c.new-ledger.result.entries ∷ []) c.new-ledger.ensures.runs
     ∙ ap (λ k. run_of k c.deref.result.now c.new-ledger.result.entries ∷ []) c.in_ok-core.ensures.core
     ∙ ap (λ l. (record { enabled = l; kept = [] }) ∷ []) (c.deref.ensures.value ∙ c.in_ok-enabled.ensures ∙ ap (λ n. replicate n true) (c.len.ensures ∙ ap (λ r. length r.list) c.rules.ensures))

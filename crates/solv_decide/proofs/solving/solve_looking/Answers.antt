@@ -7,8 +7,8 @@ run_looking-requires-clause-lawful c = is_lawful c.requires.asked.0 c.args.phase
 pub returns-clause-good : goal.returns-clause-good
 returns-clause-good c = λ r asked good.
     ledger_by r c.args.phases.now c.args.core.now.made asked c.plans_ask_the_questions.ensures c.run_looking.new.ledger
-    (c.run_looking.ensures.good (ledger_from r c.args.phases.now c.args.core.now.made asked c.plans_ask_the_questions.ensures c.args.ledger.now good))
+    (c.run_looking.ensures.run.good (ledger_from r c.args.phases.now c.args.core.now.made asked c.plans_ask_the_questions.ensures c.args.ledger.now good))
 
 pub returns-clause-decided : goal.returns-clause-decided
 returns-clause-decided c = λ r asked.
-    decided_if r c.args.phases.now c.args.core.now.made asked c.plans_ask_the_questions.ensures c.clauses_say_the_rule.ensures c.args.enabled.now c.good_logs_refute.ensures c.run_looking.result c.run_looking.ensures.found c.run_looking.ensures.refutation c.run_looking.ensures.log_over
+    decided_if r c.args.phases.now c.args.core.now.made asked c.plans_ask_the_questions.ensures c.clauses_say_the_rule.ensures c.args.enabled.now c.good_logs_refute.ensures c.run_looking.result c.run_looking.new.ledger c.run_looking.ensures.run.answered

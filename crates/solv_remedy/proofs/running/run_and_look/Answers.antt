@@ -1,7 +1,5 @@
 use Rattle.std.proofs.Common.{arith, length}
-use Rattle.solv_core.specs.Inner.Ledgers.{run_of}
-use Rattle.solv_core.specs.declared.ledger.Run.{Run}
-use Rattle.solv_remedy.proofs.Ledgers.{noted, runs_one}
+use Rattle.solv_remedy.proofs.Ledgers.{runs_one}
 use Rattle.solv_remedy.proofs.Tried.{owners_within}
 use Rattle.solv_remedy.proofs.running.run_and_look.Goals as goal
 
@@ -20,14 +18,9 @@ solve_looking-requires c =
 
 pub returns-clause-has_run : goal.returns-clause-has_run
 returns-clause-has_run c =
-    let s = c.args.setting.now in
-    let run : Run = run_of c.args.core.now c.args.enabled.now c.args.ledger.now.entries in
-    let old = c.args.ledger.now in
-    let new = c.solve_looking.new.ledger in
     let e = c.solve_looking.ensures in
     record {
-      core = e.core;
-      held = e.held;
-      runs = runs_one s.phases.now c.args.core.now.made s.fixed.now run old new c.requires.fixed e.ledger.budget e.ledger.few e.ledger.earlier_runs e.ledger.earlier_entries e.good
-          (noted c.args.enabled.now old new c.args.core.now c.solve_looking.new.core c.solve_looking.result e.run e.refused);
+      core = e.run.core;
+      held = e.run.held;
+      runs = runs_one _ _ _ e.run c.requires.fixed e.good;
     }
