@@ -41,7 +41,7 @@ use Rattle.solv_questions.proofs.Fair.{legal_is_feature, successor_is_feature}
 use Rattle.solv_questions.proofs.Members.{sorted_has}
 use Rattle.solv_questions.proofs.Origins.{IsFrom, IsRequired, is_from}
 use Rattle.solv_questions.proofs.Placed.{record_there}
-use Rattle.solv_plan.proofs.Leaning.{among_has}
+use Rattle.solv_pool.proofs.Members.{among_has}
 use Rattle.solv_remedy.proofs.Listed.{well_placed}
 use Rattle.solv_leaving.specs.Leaving.{LeavesOut, is_plainly_met, asks_plainly, leaving}
 use Rattle.solv_leaving.proofs.Made.{selects_all}

@@ -15,7 +15,7 @@ use Rattle.solv_pool.specs.declared.tasks.Task.{Task}
 use Rattle.solv_prov.specs.Index.{Index, IsIndexOf}
 use Rattle.solv_jobs.specs.Marking.{HasMarks}
 use Rattle.solv_rules.specs.Books.{IsBook, first_fault, is_bookable, most_words, read_rules}
-use Rattle.solv_rules.specs.Making.{asks_in_form}
+use Rattle.solv_pool.specs.TaskForms.{asks_in_form}
 use Rattle.solv_rules.specs.Inner.Books.{HardRulesAreBookable}
 use Rattle.solv_leaving.specs.Leaving.{leaving}
 use Rattle.solv_leaving.specs.Inner.Fitting.{AllFit, words_left_out}

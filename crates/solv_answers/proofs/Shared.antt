@@ -30,7 +30,8 @@ use Rattle.solv_rules.specs.declared.drafts.Draft.{Draft}
 use Rattle.solv_rules.proofs.Fronts.{both_parts}
 use Rattle.solv_answers.specs.Answers.{IsPrepared}
 use Rattle.solv_answers.specs.Inner.Decisions.{HasDecided, core_made}
-use Rattle.solv_answers.specs.Inner.Fronts.{HasFront, IsLeftFor, MayGoOn, Reads, front_rules}
+use Rattle.solv_answers.specs.Inner.Fronts.{HasFront, MayGoOn, Reads, front_rules}
+use Rattle.solv_decide.specs.Inner.Lefts.{IsLeftFor}
 use Rattle.solv_answers.specs.declared.preparing.Prepared.{Prepared}
 use Rattle.solv_answers.specs.declared.preparing.Front.{Front}
 

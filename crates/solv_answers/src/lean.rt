@@ -7,7 +7,7 @@ ghost use Rattle.solv_pool.specs.TaskBelonging.{IsClosed};
 ghost use Rattle.solv_prov.specs.Index.{IsIndexOf};
 ghost use Rattle.solv_jobs.specs.Marking.{HasMarks};
 ghost use Rattle.solv_rules.specs.Books.{first_fault, read_rules};
-ghost use Rattle.solv_rules.specs.Making.{asks_in_form};
+ghost use Rattle.solv_pool.specs.TaskForms.{asks_in_form};
 ghost use Rattle.solv_answers.specs.Answers.{IsAnswered, IsTransactionUnlessChoicesClash, is_spent, is_transaction, left_of, made_rules};
 ghost use Rattle.solv_answers.specs.Inner.Lean.{HasDecidedLean, HasLeft, IsLean};
 

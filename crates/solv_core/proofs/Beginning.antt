@@ -6,7 +6,7 @@ use Rattle.std.proofs.lemmas.List.{length-map}
 use Rattle.solv_derive.specs.Inner.Leaves.{rules_of}
 use Rattle.solv_derive.specs.declared.logs.Step.{Step}
 use Rattle.solv_pack.specs.Inner.Packing.{kept}
-use Rattle.solv_trimming.specs.Inner.Trimming.{in_use_from, rank_from, renumbered, used_alone, is_on, hints_at}
+use Rattle.solv_derive.specs.Inner.Trimming.{in_use_from, rank_from, renumbered, used_alone, is_on, hints_at}
 use Rattle.solv_core.specs.Ledgers.{is_book_in_use, rests_on_enabled}
 use Rattle.solv_core.specs.Inner.Ledgers.{entry_leaves, leaves_of_hints}
 use Rattle.solv_core.specs.Inner.Holding.{entry_of, AreEntries, AreDerived, IsBegun, numbers_on}

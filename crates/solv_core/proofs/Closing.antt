@@ -8,9 +8,9 @@ use Rattle.solv_derive.specs.Leaves.{named_rules}
 use Rattle.solv_derive.specs.Inner.Leaves.{rules_of}
 use Rattle.solv_derive.specs.declared.logs.Step.{Step}
 use Rattle.solv_pack.specs.Inner.Packing.{kept}
-use Rattle.solv_trimming.specs.Inner.Trimming.{in_use_from, rank_from, renumbered, renumbered_step, used_alone, is_on, hints_at}
-use Rattle.solv_trimming.proofs.Ranks.{rank_few, rank_on, rank_off}
-use Rattle.solv_trimming.proofs.Staying.{steps_good, over_still}
+use Rattle.solv_derive.specs.Inner.Trimming.{in_use_from, rank_from, renumbered, renumbered_step, used_alone, is_on, hints_at}
+use Rattle.solv_derive.proofs.Ranks.{rank_few, rank_on, rank_off}
+use Rattle.solv_derive.proofs.Staying.{steps_good, over_still}
 use Rattle.solv_core.specs.Inner.Holding.{entry_of, IsStepAt, AreEntries, AreDerived, numbers_on}
 use Rattle.solv_core.specs.declared.ledger.Entry.{Entry}
 use Rattle.solv_core.proofs.Holding.{some_step, renumbered_alike, renumbered_twice, hint_before, rules_same}

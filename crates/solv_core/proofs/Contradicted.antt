@@ -9,7 +9,7 @@ use Rattle.solv_derive.specs.declared.logs.Hint.{Hint}
 use Rattle.solv_derive.specs.declared.logs.Log.{Log}
 use Rattle.solv_derive.specs.declared.logs.Step.{Step}
 use Rattle.solv_derive.proofs.AllLeaves.{at_member, by_members}
-use Rattle.solv_trimming.specs.Inner.Trimming.{IsTrimmedFrom}
+use Rattle.solv_derive.specs.Inner.Trimming.{IsTrimmedFrom}
 use Rattle.solv_trail.specs.Inner.Held.{Held}
 use Rattle.solv_trail.specs.Inner.Propagated.{Reason, choice, by_rule, IsReasoned, Propagated, clash, rest}
 use Rattle.solv_trail.specs.Propagated.{in_use}

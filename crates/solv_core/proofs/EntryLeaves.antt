@@ -8,7 +8,7 @@ use Rattle.solv_derive.specs.Inner.Leaves.{rules_of}
 use Rattle.solv_derive.specs.declared.logs.Hint.{Hint}
 use Rattle.solv_derive.specs.declared.logs.Hint.TheVariants as hint
 use Rattle.solv_trail.specs.Propagated.{in_use}
-use Rattle.solv_trimming.specs.Inner.Trimming.{is_on, hints_at}
+use Rattle.solv_derive.specs.Inner.Trimming.{is_on, hints_at}
 use Rattle.solv_core.specs.Ledgers.{is_book_in_use, leaves_after, rests_on_enabled}
 use Rattle.solv_core.specs.Inner.Ledgers.{leaves_of_hints, entry_leaves}
 use Rattle.solv_core.specs.Inner.Holding.{hint_stays}

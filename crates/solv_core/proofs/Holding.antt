@@ -7,12 +7,13 @@ use Rattle.std.proofs.lemmas.List.{map-append}
 use Rattle.std.proofs.lemmas.List.Folds.{list_all-append}
 use Rattle.solv_derive.specs.Inner.Leaves.{rules_of}
 use Rattle.solv_derive.specs.Logs.{is_good_step, are_good_steps}
-use Rattle.solv_derive.specs.Range.{is_over, steps_over}
+use Rattle.solv_derive.specs.Range.{steps_over}
+use Rattle.solv_pool.specs.Range.{is_over}
 use Rattle.solv_derive.specs.declared.logs.Hint.{Hint}
 use Rattle.solv_derive.specs.declared.logs.Hint.TheVariants as hint
 use Rattle.solv_derive.specs.declared.logs.Step.{Step}
 use Rattle.solv_learn.specs.Inner.Refuting.{is_in_use}
-use Rattle.solv_trimming.specs.Inner.Trimming.{renumbered, renumbered_step, hints_at}
+use Rattle.solv_derive.specs.Inner.Trimming.{renumbered, renumbered_step, hints_at}
 use Rattle.solv_core.specs.Inner.Holding.{numbered_entry, is_step_below, IsStepAt, AreEntries, AreDerived, IsHeldBy}
 use Rattle.solv_core.specs.Cores.{CoreOf}
 use Rattle.solv_core.specs.Inner.Cores.{none_in_use}

@@ -2,7 +2,7 @@
 ghost use Rattle.std.specs.Prelude.{◌≡◌, ◌<◌, ◌+◌, ◌^◌, ℕ, ℤ, true, List, length, nat_lt, IfOk};
 ghost use Rattle.std.specs.List.{list_all};
 ghost use Rattle.solv_derive.specs.declared.logs.Step.{Step};
-ghost use Rattle.solv_trimming.specs.Inner.Trimming.{is_on};
+ghost use Rattle.solv_derive.specs.Inner.Trimming.{is_on};
 ghost use Rattle.solv_core.specs.Ledgers.{rests_on_enabled};
 ghost use Rattle.solv_core.specs.Inner.Holding.{AreEntries, entry_of, hint_stays, numbers_on};
 

@@ -9,7 +9,7 @@ use Rattle.std.proofs.lemmas.List.Folds.{list_any-append}
 use Rattle.solv_pool.specs.Words.{is_among}
 use Rattle.solv_pool.specs.Propagation.{is_fact}
 use Rattle.solv_pool.specs.TaskBelonging.{is_pack}
-use Rattle.solv_derive.specs.Range.{names_package, is_over}
+use Rattle.solv_pool.specs.Range.{names_package, is_over}
 use Rattle.solv_trail.specs.Asked.{set_of}
 use Rattle.solv_core.specs.GoodTrails.{facts_of, literal_of}
 use Rattle.solv_core.specs.declared.verdicts.Event.{Event}

@@ -11,7 +11,7 @@ use Rattle.solv_pool.specs.Laws.{ClausesNamePackages, names_packages}
 use Rattle.solv_pool.specs.Laws.{names_package as names_one}
 use Rattle.solv_pool.specs.RuleMeaning.{HardRule, rule_with, shape_of}
 use Rattle.solv_pool.specs.declared.hard_rules.Rules.{Rules}
-use Rattle.solv_derive.specs.Range.{names_package, is_over, are_over}
+use Rattle.solv_pool.specs.Range.{names_package, is_over, are_over}
 use Rattle.solv_core.specs.Cores.{CoreOf}
 use Rattle.solv_rules.specs.Books.{most_words, rich_fault, overrun, first_fault, is_bookable, has_form}
 use Rattle.solv_rules.specs.Inner.Books.{or_else, rule_fault}
@@ -23,40 +23,14 @@ use Rattle.solv_questions.specs.Inner.Law.{AsksInForm}
 use Rattle.solv_questions.specs.Questions.{Request, rules_of}
 use Rattle.solv_plan.specs.Inner.PlanOf.{plan_of}
 use Rattle.solv_decide.specs.Inner.Deciding.{Asker, IsAskedFor}
+use Rattle.solv_rules.proofs.InRange.{clauses_over}
 use Rattle.solv_decide.proofs.Enabling.{lengths_are, owners_below}
 use Rattle.solv_pool.proofs.Members.{Has, any_has}
 use Rattle.solv_questions.proofs.Asking.{in_range}
 use Rattle.solv_list.proofs.Lists.{all_weaker, list_all_join}
 use Rattle.std.proofs.lemmas.List.{length-map}
 
--- a number among a range is one of it
-among_range : (n p : ℕ) → is_among (range_with_len 1 n) p ≡ true → (1 ≤ p) × (p < 1 + n)
-among_range n p h =
-    let a = any_has (λ y. y == p) (range_with_len 1 n) h in
-    let P : ℕ → Type 0 = λ x. Has (range_with_len 1 n) x in
-    in_range 1 n p (subst P (eqb-true a.0 p a.1.1) a.1.0)
-
 module _ (catalog : Catalog) where
-  literal_over : (l : ℤ) → names_one catalog l ≡ true → names_package (length catalog.universe.packages) l ≡ true
-  literal_over (pos p) h =
-      let r = among_range (length catalog.universe.packages) p h in
-      and_from (nat_lt 0 p) (nat_le p (length catalog.universe.packages)) (lt-ltb 0 p (omega (arith, r.0))) (le-leb p (length catalog.universe.packages) (omega (arith, r.1)))
-  literal_over (negsuc k) h =
-      let r = among_range (length catalog.universe.packages) (suc k) h in
-      and_from (nat_lt 0 (suc k)) (nat_le (suc k) (length catalog.universe.packages)) (lt-ltb 0 (suc k) (omega (arith, r.0))) (le-leb (suc k) (length catalog.universe.packages) (omega (arith, r.1)))
-
-  clause_over : (c : List ℤ) → list_all (names_one catalog) c ≡ true → is_over (length catalog.universe.packages) c ≡ true
-  clause_over c h = all_weaker (names_one catalog) (names_package (length catalog.universe.packages)) literal_over c h
-
-  -- the clauses of rules of which a book can be made name packages
-  pub clauses_over : ClausesNamePackages → (rules : List HardRule) → list_all (is_bookable catalog) rules ≡ true → are_over (length catalog.universe.packages) (flat_map (rule_clauses catalog) rules) ≡ true
-  clauses_over law [] h = refl
-  clauses_over law (r ∷ rules) h =
-      let both = and_parts (is_bookable catalog r) (list_all (is_bookable catalog) rules) h in
-      list_all_join (is_over (length catalog.universe.packages)) (rule_clauses catalog r) (flat_map (rule_clauses catalog) rules)
-      (all_weaker (list_all (names_one catalog)) (is_over (length catalog.universe.packages)) clause_over (rule_clauses catalog r) (law catalog r (and_parts (names_packages catalog r) (has_form catalog (shape_of r)) both.0).0))
-      (clauses_over law rules both.1)
-
   -- where there is no fault, each word is within the limit
   none_first : (a b : Option BookFault) → or_else a b ≡ None → (a ≡ None) × (b ≡ None)
   none_first None b h = (refl, h)

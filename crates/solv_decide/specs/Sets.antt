@@ -2,7 +2,7 @@
 use Rattle.std.specs.Prelude.{◌≡◌, ℕ, true, List, ◌∷◌, filter}
 use Rattle.std.specs.List.{range_with_len}
 use Rattle.solv_pool.specs.Propagation.{is_fact}
-use Rattle.solv_derive.specs.Range.{is_over}
+use Rattle.solv_pool.specs.Range.{is_over}
 use Rattle.solv_trail.specs.Asked.{set_of}
 use Rattle.solv_core.specs.GoodTrails.{facts_of}
 use Rattle.solv_core.specs.declared.verdicts.Event.{Event}

@@ -12,7 +12,7 @@ ghost use Rattle.solv_core.specs.Inner.Holding.{IsHeldBy};
 ghost use Rattle.solv_core.specs.Ledgers.{IsGoodLedger};
 ghost use Rattle.solv_core.specs.Inner.Running.{is_spent_verdict};
 ghost use Rattle.solv_core.specs.declared.ledger.Ledger.{Ledger as LedgerOf};
-ghost use Rattle.solv_rules.specs.Making.{asks_in_form};
+ghost use Rattle.solv_pool.specs.TaskForms.{asks_in_form};
 ghost use Rattle.solv_questions.specs.Questions.{Request, asks, request_of, rules_of};
 ghost use Rattle.solv_plan.specs.Inner.Behind.{rest_by, rest_in};
 ghost use Rattle.solv_decide.specs.Inner.Deciding.{IsAskedFor, IsDecided};

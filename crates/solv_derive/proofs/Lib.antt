@@ -5,3 +5,6 @@ pub mod Named
 pub mod AllLeaves
 pub mod Sound
 pub mod Steps
+pub mod Ranks
+pub mod Resting
+pub mod Staying

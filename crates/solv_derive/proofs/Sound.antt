@@ -11,7 +11,8 @@ use Rattle.solv_derive.specs.Laws.{GoodLogsRefute}
 use Rattle.solv_derive.specs.Leaves.{named_rules, rule_true, leaves_true}
 use Rattle.solv_derive.specs.Inner.Leaves.{rules_of}
 use Rattle.solv_derive.specs.Logs.{ends_in_conflict, hint_clause, is_good_step, are_good_steps, ends_empty, is_empty, is_good_log}
-use Rattle.solv_derive.specs.Range.{is_over, are_over, steps_over, names_package}
+use Rattle.solv_derive.specs.Range.{steps_over}
+use Rattle.solv_pool.specs.Range.{is_over, are_over, names_package}
 use Rattle.solv_derive.specs.declared.logs.Hint.{Hint}
 use Rattle.solv_derive.specs.declared.logs.Hint.TheVariants as hint
 use Rattle.solv_derive.specs.declared.logs.Step.{Step}

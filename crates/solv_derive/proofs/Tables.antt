@@ -9,8 +9,9 @@ use Rattle.std.proofs.lemmas.List.Folds.{list_any-append}
 use Rattle.solv_pack.specs.Inner.Literals.{place_of}
 use Rattle.solv_pool.specs.Propagation.{is_fact, is_refuted, is_open, only}
 use Rattle.solv_derive.specs.Forced.{is_falsified, forced}
-use Rattle.solv_derive.specs.Inner.Marks.{Shows, is_marked, forced_by}
-use Rattle.solv_derive.specs.Range.{is_over, names_package}
+use Rattle.solv_derive.specs.Inner.Marks.{Shows, is_marked}
+use Rattle.solv_pool.specs.Inner.Propagation.{forced_by}
+use Rattle.solv_pool.specs.Range.{is_over, names_package}
 use Rattle.solv_derive.proofs.Facts.{same_self, all_member, filter_same, any_same, all_same}
 use Rattle.solv_list.proofs.Numbers.{same_integer}
 

@@ -2,3 +2,4 @@
 pub mod Forced
 pub mod Leaves
 pub mod Marks
+pub mod Trimming

@@ -3,7 +3,8 @@ use Rattle.std.specs.Prelude.{ℕ, ℤ, ◌≡◌, Bool, true, false, List}
 use Rattle.std.specs.List.Sorted.{IsStrictlyIncreasing}
 use Rattle.solv_derive.specs.Logs.{is_good_log, checked}
 use Rattle.solv_derive.specs.Leaves.{leaves, leaves_true, named_rules, is_one_of}
-use Rattle.solv_derive.specs.Range.{are_over, steps_over}
+use Rattle.solv_derive.specs.Range.{steps_over}
+use Rattle.solv_pool.specs.Range.{are_over}
 use Rattle.solv_derive.specs.declared.logs.Step.{Step}
 use Rattle.solv_derive.specs.declared.logs.Checked.TheVariants.{Yes}
 

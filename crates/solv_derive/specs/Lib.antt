@@ -4,3 +4,4 @@ pub mod Leaves
 pub mod Range
 pub mod Laws
 pub mod Inner
+pub mod Trimming

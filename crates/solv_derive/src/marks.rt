@@ -2,8 +2,9 @@
 ghost use Rattle.std.specs.Prelude.{◌≡◌, ℕ, ◌+◌, ◌*◌, ◌<◌, true, [], ◌∷◌, neg_ℤ, map, length, slice_index, List};
 ghost use Rattle.std.specs.List.{list_all};
 ghost use Rattle.solv_pack.specs.Inner.Literals.{place_of};
-ghost use Rattle.solv_derive.specs.Inner.Marks.{Shows, is_marked, forced_by};
-ghost use Rattle.solv_derive.specs.Range.{is_over, names_package};
+ghost use Rattle.solv_derive.specs.Inner.Marks.{Shows, is_marked};
+ghost use Rattle.solv_pool.specs.Inner.Propagation.{forced_by};
+ghost use Rattle.solv_pool.specs.Range.{is_over, names_package};
 
 use solv_pack::Lit;
 

@@ -22,13 +22,12 @@ use Rattle.solv_pool.specs.HardRules.{is_kept, feature_candidates}
 use Rattle.solv_pool.specs.declared.tasks.Flags.{Flags}
 use Rattle.solv_pool.specs.declared.job_marks.Marks.{Marks}
 use Rattle.solv_pool.proofs.Best.{top_of}
-use Rattle.solv_pool.proofs.Members.{Has, has_split, has_filtered, of_mapped, of_filtered, any_has}
+use Rattle.solv_pool.proofs.Members.{Has, has_split, has_filtered, of_mapped, of_filtered, any_has, among_has}
 use Rattle.solv_trans.specs.Changes.{change_by, partner, obsoleter, line_of, lines_of_leaving, changes}
 use Rattle.solv_trans.specs.Inner.Changes.{change_to, leaves, successors, is_installed_anew}
 use Rattle.solv_trans.specs.Moving.{comes}
 use Rattle.solv_trans.specs.declared.kinds.Change.TheVariants.{Install, Erase, Alter, Reinstall, Obsolete}
 use Rattle.solv_questions.proofs.Leading.{contains_has}
-use Rattle.solv_plan.proofs.Leaning.{among_has}
 use Rattle.solv_laws.specs.Asked.{ErasedLinesAreAsked}
 use Rattle.solv_laws.proofs.Packs.{is_pack_there}
 use Rattle.solv_laws.proofs.RulesMet.{feature_met}

@@ -19,9 +19,8 @@ use Rattle.solv_pool.specs.declared.packages.Package.{Package}
 use Rattle.solv_pool.specs.declared.packages.Need.{Need}
 use Rattle.solv_pool.specs.declared.job_marks.Marks.{Marks}
 use Rattle.solv_pool.specs.declared.tasks.Task.{Task}
-use Rattle.solv_pool.proofs.Members.{Has, has_front, has_back, has_flat, has_mapped, has_filtered}
+use Rattle.solv_pool.proofs.Members.{Has, has_front, has_back, has_flat, has_mapped, has_filtered, among_has}
 use Rattle.solv_questions.proofs.Leading.{contains_has}
-use Rattle.solv_plan.proofs.Leaning.{among_has}
 use Rattle.solv_answers.specs.Answers.{meets_hard_rules}
 use Rattle.solv_laws.specs.Unbroken.{RequirementsHold, ConflictsAreKept, RichConflictsAreKept, ObsoletionsAreKept, NamesAreKept}
 use Rattle.solv_laws.proofs.Packs.{package_there, some_passes, passing_there}

@@ -8,7 +8,7 @@ use Rattle.std.proofs.lemmas.List.{reverse-append, take_all, take-take}
 use Rattle.std.proofs.lemmas.List.Folds.{list_all-append}
 use Rattle.solv_pool.specs.Propagation.{is_fact, is_refuted, is_open}
 use Rattle.solv_derive.specs.Forced.{is_falsified}
-use Rattle.solv_derive.specs.Range.{names_package, is_over}
+use Rattle.solv_pool.specs.Range.{names_package, is_over}
 use Rattle.solv_derive.specs.declared.logs.Hint.{Hint}
 use Rattle.solv_derive.proofs.Facts.{known_here, known_later, known_same, known_cases, neg-neg, all_from, all_member, open_from}
 use Rattle.solv_derive.proofs.Tables.{names_neg}

@@ -3,7 +3,7 @@ ghost use Rattle.std.specs.Prelude.{◌≡◌, ◌^◌, ◌<◌, ◌≤◌, ◌+
 ghost use Rattle.std.specs.List.{list_all};
 ghost use Rattle.solv_pool.specs.Propagation.{is_fact, is_refuted};
 ghost use Rattle.solv_derive.specs.Forced.{is_falsified};
-ghost use Rattle.solv_derive.specs.Range.{names_package, is_over, are_over};
+ghost use Rattle.solv_pool.specs.Range.{names_package, is_over, are_over};
 ghost use Rattle.solv_derive.specs.declared.logs.Hint.{Hint};
 ghost use Rattle.solv_trail.specs.Inner.Propagated.{IsUsed, IsReasoned};
 ghost use Rattle.solv_learn.specs.Inner.Collecting.{IsCollected, HasMarked, HavePlaces};

@@ -3,7 +3,7 @@ use Rattle.std.proofs.Common.{◌≡◌, ◌⊎◌, ℕ, Bool, true, false, ◌&
 use Rattle.std.specs.Prelude.{filter, flat_map, ◌==◌}
 use Rattle.std.specs.List.{list_any, list_all}
 use Rattle.std.specs.Option.{option_map_or}
-use Rattle.std.proofs.lemmas.Bool.{and_parts, and_from, or_left, or_right, cases_Bool, false≢true}
+use Rattle.std.proofs.lemmas.Bool.{and_parts, and_from, or_left, or_right, eqb-true, cases_Bool, false≢true}
 use Rattle.solv_pool.specs.Words.{when, is_among}
 
 -- x is one of them
@@ -121,3 +121,7 @@ fails_has f (z ∷ xs) t = elim (cases_Bool (f z)) [
 -- a list of numbers has what is among it
 pub has_among : (xs : List ℕ) (p : ℕ) → Has xs p → is_among xs p ≡ true
 has_among xs p h = any_at (λ y. y == p) xs p h (eq-eqb p p refl)
+
+-- and what it has is among it
+pub among_has : (xs : List ℕ) (q : ℕ) → is_among xs q ≡ true → Has xs q
+among_has xs q e = let a = any_has (λ y. y == q) xs e in let P : ℕ → Type 0 = λ n. Has xs n in subst P (eqb-true a.0 q a.1.1) a.1.0

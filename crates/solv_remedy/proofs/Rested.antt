@@ -11,7 +11,7 @@ use Rattle.solv_core.specs.Cores.{CoreOf}
 use Rattle.solv_core.specs.declared.refuting.RefutedRule.{RefutedRule}
 use Rattle.solv_rules.specs.Books.{Written}
 use Rattle.solv_questions.specs.Questions.{Request, rules_of}
-use Rattle.solv_pool.proofs.Members.{all_at}
+use Rattle.solv_pool.proofs.Members.{all_at, among_has}
 use Rattle.solv_decide.specs.Inner.Deciding.{Asker}
 use Rattle.solv_remedy.specs.Problems.{owning, rested_on}
 use Rattle.solv_remedy.specs.Remedies.{may_drop, is_fixed_at}
@@ -23,7 +23,6 @@ use Rattle.solv_remedy.specs.Inner.Resting.{IsSound, AreSound}
 use Rattle.solv_remedy.proofs.Back.{among_more}
 use Rattle.solv_remedy.proofs.Looked.{unsolvable_by, enabled_on}
 use Rattle.solv_remedy.proofs.Tried.{droppable_is, fixed_not_off, rested_fixed_or}
-use Rattle.solv_plan.proofs.Leaning.{among_has}
 
 pub sound_more : (core : CoreOf) (logs : List RefutedRule) (one : RefutedRule) → AreSound core logs → IsSound core one.log → AreSound core (logs ++ one ∷ [])
 sound_more core [] one h s = (s, tt)

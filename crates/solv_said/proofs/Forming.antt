@@ -6,11 +6,10 @@ use Rattle.std.proofs.lemmas.Bool.{and_parts, and_from}
 use Rattle.solv_base.specs.Dependency.{operators}
 use Rattle.solv_base.specs.Places.{fits_place}
 use Rattle.solv_pool.specs.Catalog.{Catalog, catalog_of, dependency}
-use Rattle.solv_pool.specs.TaskForms.{most_operators, has_form, is_formed, HasForms}
+use Rattle.solv_pool.specs.TaskForms.{most_operators, has_form, is_formed, HasForms, asks_in_form}
 use Rattle.solv_pool.specs.declared.packages.Package.{Package}
 use Rattle.solv_pool.specs.declared.packages.Need.{Need}
 use Rattle.solv_pool.specs.declared.tasks.Task.{Task}
-use Rattle.solv_rules.specs.Making.{asks_in_form}
 use Rattle.solv_list.proofs.Lists.{all_weaker}
 
 module _ (catalog : Catalog) where

@@ -1,7 +1,7 @@
 //! Unit propagation.
 ghost use Rattle.std.specs.Prelude.{◌≡◌, ◌<◌, ◌≤◌, ◌+◌, ◌-◌, ◌*◌, ◌^◌, ◌++◌, ℕ, ℤ, Bool, [], List, Some, None, true, false, length, take, nat_lt, slice_get, slice_index, Option, IfSome};
 ghost use Rattle.std.specs.List.{list_all};
-ghost use Rattle.solv_derive.specs.Range.{are_over};
+ghost use Rattle.solv_pool.specs.Range.{are_over};
 ghost use Rattle.solv_derive.specs.Forced.{is_falsified};
 ghost use Rattle.solv_trail.specs.Propagated.{in_use};
 ghost use Rattle.solv_trail.specs.Inner.Propagated.{IsUsed, IsGrown, Propagated};

@@ -8,8 +8,7 @@ use Rattle.solv_pool.specs.declared.job_marks.Marks.{Marks}
 use Rattle.solv_pool.specs.declared.tasks.Flags.{Flags}
 use Rattle.solv_prov.specs.Index.{IsIndexOf}
 use Rattle.solv_rules.specs.Books.{IsBook, first_fault, read_rules}
-use Rattle.solv_plan.specs.Inner.Behind.{rest_by}
-use Rattle.solv_decide.specs.declared.deciding.Left.{Left}
+use Rattle.solv_decide.specs.Inner.Lefts.{IsLeftFor}
 use Rattle.solv_answers.specs.declared.preparing.Front.{Front}
 use Rattle.solv_answers.specs.declared.preparing.Prepared.{Prepared}
 
@@ -26,10 +25,6 @@ pub record HasFront (made : List HardRule) (rules : Rules) (front : Front) : Typ
   pub enough : front.rules ≤ length rules.list
   pub enough_sets : front.sets ≤ length rules.sets
   pub reads : Reads (record { list = take front.rules rules.list; sets = take front.sets rules.sets }) made
-
--- what a decision left serves each task for these packages, flags and marks, on which its plan rests
-pub record IsLeftFor (catalog : Catalog) (flags : Flags) (marks : Marks) (left : Left) : Type 0 where
-  pub rest : left.rest ≡ rest_by catalog flags marks
 
 -- the next round over the same packages may begin with what was prepared, and with what an answer left
 pub record MayGoOn (catalog : Catalog) (prepared : Prepared) : Type 0 where

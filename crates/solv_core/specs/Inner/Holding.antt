@@ -8,7 +8,7 @@ use Rattle.solv_derive.specs.declared.logs.Hint.{Hint}
 use Rattle.solv_derive.specs.declared.logs.Hint.TheVariants as hint
 use Rattle.solv_derive.specs.declared.logs.Step.{Step}
 use Rattle.solv_trail.specs.Propagated.{in_use}
-use Rattle.solv_trimming.specs.Inner.Trimming.{is_on, renumbered, renumbered_step, hints_at}
+use Rattle.solv_derive.specs.Inner.Trimming.{is_on, renumbered, renumbered_step, hints_at}
 use Rattle.solv_core.specs.Inner.Cores.{LearningCore}
 use Rattle.solv_core.specs.declared.ledger.Entry.{Entry}
 use Rattle.solv_core.specs.declared.ledger.Ledger.{Ledger}

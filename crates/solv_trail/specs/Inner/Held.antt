@@ -3,7 +3,7 @@ use Rattle.std.specs.Prelude.{◌≡◌, ℕ, ℤ, pos, negsuc, ◌+◌, ◌<◌
 use Rattle.std.specs.List.{sum_by, list_all}
 use Rattle.solv_trail.specs.declared.questions.Question.{Question}
 use Rattle.solv_pool.specs.Propagation.{is_fact}
-use Rattle.solv_derive.specs.Range.{names_package}
+use Rattle.solv_pool.specs.Range.{names_package}
 use Rattle.solv_trail.specs.Inner.Numbers.{has, room}
 
 -- the number of packages, the literals in their order, the rule of each, the places of the choices, and what was asked at each

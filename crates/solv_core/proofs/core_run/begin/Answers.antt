@@ -4,7 +4,7 @@ use Rattle.std.specs.List.{range_with_len}
 use Rattle.std.proofs.lemmas.List.{length-map}
 use Rattle.solv_derive.specs.declared.logs.Step.{Step}
 use Rattle.solv_pack.specs.Inner.Packing.{kept}
-use Rattle.solv_trimming.specs.Inner.Trimming.{is_on}
+use Rattle.solv_derive.specs.Inner.Trimming.{is_on}
 use Rattle.solv_core.specs.Ledgers.{rests_on_enabled}
 use Rattle.solv_core.specs.Inner.Holding.{IsBegun, entry_of, numbers_on}
 use Rattle.solv_core.specs.declared.ledger.Entry.{Entry}

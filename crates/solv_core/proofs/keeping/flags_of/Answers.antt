@@ -3,7 +3,7 @@ use Rattle.std.specs.Prelude.{ℤ, slice_set}
 use Rattle.std.specs.List.{list_all}
 use Rattle.std.proofs.lemmas.Bool.{cases_lt}
 use Rattle.std.proofs.lemmas.List.{get_or-set_same, get_or-set_other, get_or_append_left, get_or_push, length-set}
-use Rattle.solv_trimming.specs.Inner.Trimming.{is_on, renumbered, hints_at}
+use Rattle.solv_derive.specs.Inner.Trimming.{is_on, renumbered, hints_at}
 use Rattle.solv_core.specs.Ledgers.{rests_on_enabled}
 use Rattle.solv_core.specs.Inner.Holding.{entry_of, hint_stays}
 use Rattle.solv_core.specs.declared.ledger.Entry.{Entry}

@@ -1,6 +1,6 @@
 use Rattle.std.proofs.Common.{◌≡◌, ℕ, ◌<◌, List, length}
 use Rattle.std.specs.Prelude.{ℤ}
-use Rattle.solv_trimming.specs.Inner.Trimming.{is_on}
+use Rattle.solv_derive.specs.Inner.Trimming.{is_on}
 use Rattle.solv_core.specs.Ledgers.{rests_on_enabled}
 use Rattle.solv_core.specs.Inner.Holding.{entry_of}
 use Rattle.solv_core.proofs.keeping.flags_of.Given as goal

@@ -1,6 +1,6 @@
 use Rattle.std.proofs.Common.{◌≡◌, ℕ, ◌+◌, Bool, true, false, List, [], ◌∷◌, ◌++◌, refl, sym, ap, ◌∙◌, arith, add-one, rules, if◌then◌else◌}
 use Rattle.std.proofs.lemmas.Bool.{cond-true, cond-false}
-use Rattle.solv_trimming.specs.Inner.Trimming.{is_on}
+use Rattle.solv_derive.specs.Inner.Trimming.{is_on}
 use Rattle.solv_core.specs.Inner.Holding.{entry_of, numbers_on}
 use Rattle.solv_core.proofs.Closing.{numbers_more}
 use Rattle.solv_core.proofs.keeping.kept_of.Goals as goal

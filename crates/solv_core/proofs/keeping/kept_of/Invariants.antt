@@ -1,5 +1,5 @@
 use Rattle.std.proofs.Common.{◌≡◌}
-use Rattle.solv_trimming.specs.Inner.Trimming.{is_on}
+use Rattle.solv_derive.specs.Inner.Trimming.{is_on}
 use Rattle.solv_core.specs.Inner.Holding.{entry_of, numbers_on}
 use Rattle.solv_core.proofs.keeping.kept_of.Given as goal
 

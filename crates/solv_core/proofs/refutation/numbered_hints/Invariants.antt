@@ -1,5 +1,5 @@
 use Rattle.std.proofs.Common.{◌≡◌, ◌++◌, map, drop}
-use Rattle.solv_trimming.specs.Inner.Trimming.{renumbered}
+use Rattle.solv_derive.specs.Inner.Trimming.{renumbered}
 use Rattle.solv_core.specs.Inner.Holding.{entry_of}
 use Rattle.solv_core.proofs.refutation.numbered_hints.Given as goal
 

@@ -1,5 +1,5 @@
 use Rattle.std.proofs.Common.{◌≡◌, ◌++◌, map, drop}
-use Rattle.solv_trimming.specs.Inner.Trimming.{numbered_by, renumbered}
+use Rattle.solv_derive.specs.Inner.Trimming.{numbered_by, renumbered}
 use Rattle.solv_core.proofs.refutation.placed_hints.Given as goal
 
 abbrev pub invariant-loop-hint : goal.invariant-loop-hint

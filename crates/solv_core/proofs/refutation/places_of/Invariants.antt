@@ -1,5 +1,5 @@
 use Rattle.std.proofs.Common.{◌≡◌, ℕ, ◌<◌, length}
-use Rattle.solv_trimming.specs.Inner.Trimming.{numbered_by}
+use Rattle.solv_derive.specs.Inner.Trimming.{numbered_by}
 use Rattle.solv_core.specs.Inner.Holding.{entry_of}
 use Rattle.solv_core.proofs.refutation.places_of.Given as goal
 

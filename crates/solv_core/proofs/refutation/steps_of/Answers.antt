@@ -1,6 +1,6 @@
 use Rattle.std.proofs.Common.{◌≡◌, ◌<◌, ◌++◌, ◌∷◌, [], ℕ, map, length, take, get_or, sym, ap, ◌∙◌, arith}
 use Rattle.std.proofs.lemmas.List.{take_more, get_or_read}
-use Rattle.solv_trimming.specs.Inner.Trimming.{numbered_by, renumbered}
+use Rattle.solv_derive.specs.Inner.Trimming.{numbered_by, renumbered}
 use Rattle.solv_core.specs.Inner.Holding.{entry_of}
 use Rattle.solv_core.specs.declared.ledger.Entry.{Entry}
 use Rattle.solv_core.proofs.Holding.{entry_at, renumbered_twice, renumbered_back, some_step, step_at}

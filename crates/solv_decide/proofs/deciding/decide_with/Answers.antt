@@ -3,14 +3,15 @@ use Rattle.std.specs.Prelude.{replicate}
 use Rattle.std.proofs.lemmas.List.{length-replicate}
 use Rattle.solv_pool.specs.Catalog.{Catalog, catalog_of}
 use Rattle.solv_pool.specs.RuleMeaning.{HardRule}
-use Rattle.solv_derive.specs.Range.{are_over}
+use Rattle.solv_pool.specs.Range.{are_over}
 use Rattle.solv_core.specs.Cores.{CoreOf}
 use Rattle.solv_core.specs.Ledgers.{IsGoodLedger}
 use Rattle.solv_core.specs.Inner.Ledgers.{run_of}
 use Rattle.solv_rules.specs.Books.{read_rules}
 use Rattle.solv_questions.specs.Questions.{Request, request_of, asks}
 use Rattle.solv_decide.specs.Inner.Deciding.{IsAskedFor, IsDecided}
-use Rattle.solv_decide.proofs.Whole.{asked_for, owners_fit, clauses_over, length_read}
+use Rattle.solv_decide.proofs.Whole.{asked_for, owners_fit, length_read}
+use Rattle.solv_rules.proofs.InRange.{clauses_over}
 use Rattle.solv_decide.proofs.deciding.decide_with.Goals as goal
 
 is_asked : (c : goal.After-ledger-1) → IsAskedFor (request_of c.args.task.now c.args.marks.now) c.in_ok-phases.phases c.in_ok-core.core.made

@@ -2,10 +2,9 @@ use Rattle.std.proofs.Common.{◌≡◌, ◌<◌, ◌∙◌, ◌||◌, ◌&&◌,
 use Rattle.std.specs.List.{list_all}
 use Rattle.std.proofs.lemmas.Bool.{and_parts, eqb-false}
 use Rattle.solv_pool.specs.Words.{is_among}
-use Rattle.solv_pool.proofs.Members.{all_at}
+use Rattle.solv_pool.proofs.Members.{all_at, among_has}
 use Rattle.solv_list.proofs.Booleans.{false_of_not}
 use Rattle.solv_trail.specs.Asked.{is_enabled}
-use Rattle.solv_plan.proofs.Leaning.{among_has}
 use Rattle.solv_remedy.specs.Inner.Conflicts.{listed_of, put_in, AreApart, AreMore, AreSettled}
 use Rattle.solv_remedy.specs.declared.smallest.Conflict.{Conflict}
 use Rattle.solv_remedy.proofs.Beside.{among_put, apart_put, settled_put}

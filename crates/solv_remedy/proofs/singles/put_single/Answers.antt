@@ -11,7 +11,7 @@ use Rattle.solv_remedy.proofs.ByHalves.{in_order}
 use Rattle.solv_remedy.proofs.Ledgers.{on_put}
 use Rattle.solv_remedy.proofs.singles.put_single.Goals as goal
 use Rattle.solv_remedy.proofs.singles.put_single.Goals.{After-put}
-use Rattle.solv_plan.proofs.Leaning.{among_has}
+use Rattle.solv_pool.proofs.Members.{among_has}
 
 pub is_new_single-requires-clause-singles : goal.is_new_single-requires-clause-singles
 is_new_single-requires-clause-singles c = ap (list_all is_single) c.deref.ensures.value ∙ c.requires.singles

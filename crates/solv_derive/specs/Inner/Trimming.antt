@@ -7,7 +7,7 @@ use Rattle.solv_derive.specs.declared.logs.Hint.{Hint}
 use Rattle.solv_derive.specs.declared.logs.Hint.TheVariants as hint
 use Rattle.solv_derive.specs.declared.logs.Step.{Step}
 use Rattle.std.specs.List.{list_any}
-use Rattle.solv_trimming.specs.Trimming.{names_step, is_trimmed}
+use Rattle.solv_derive.specs.Trimming.{names_step, is_trimmed}
 
 -- some of the hints names the step of this number
 abbrev pub hints_at : ℕ → List Hint → Bool

@@ -1,2 +1,0 @@
--- Words of contracts between layers, and what holds inside.
-pub mod Trimming
