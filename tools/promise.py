@@ -188,8 +188,12 @@ class Book:
                 self.by_name.setdefault((item.module.crate, item.module.name, name), item)
 
     def find(self, path, name):
+        """The definition of a name of a module, which may pass it on from another (`pub use`)."""
         crate, _, rest = path.partition(".specs.")
-        return self.by_name.get((crate, rest, name))
+        item, module = self.by_name.get((crate, rest, name)), self.modules.get((crate, rest))
+        if item or not module or name not in module.imports:
+            return item
+        return self.find(*module.imports[name])
 
     def cited(self, words, imports, aliases, crate=None, module=None):
         for word in words:

@@ -5,19 +5,13 @@ use Rattle.std.specs.List.{list_any, list_all}
 use Rattle.std.proofs.lemmas.Bool.{and_parts, or_cases, or_left, or_right, cases_Bool, false≢true}
 use Rattle.std.proofs.lemmas.List.Folds.{list_any-append}
 use Rattle.solv_list.proofs.Booleans.{false_of_not}
-use Rattle.solv_base.specs.Dependency.{Dep, one, namespace, and, or, with, without, if_holds, joined, under, package_wise}
-use Rattle.solv_pool.specs.Words.{when, is_among, passes}
+use Rattle.solv_pool.specs.Prelude.{Dep, one, namespace, and, or, with, without, if_holds, joined, under, package_wise, when, is_among, passes, Catalog, packages, package_at, dependency, is_installed, same_name, package_meets, holds, counted_requirements, counted_rich_conflicts, update_candidates, successors, feature_candidates, kept_packages, is_kept, marked, is_to_move, HardRule, not_installable, req, con, rich_con, obs, same, infarch, update, dup, feature, install, erase, lock, best_job, best_update, meets_rule, shape_of}
 use Rattle.solv_pool.specs.Best.{best}
-use Rattle.solv_pool.specs.Catalog.{Catalog, packages, package_at, dependency, is_installed, same_name}
 use Rattle.solv_pool.specs.Counting.{requirement_counts, rich_conflict_counts}
-use Rattle.solv_pool.specs.Holding.{package_meets, holds}
-use Rattle.solv_pool.specs.HardRules.{counted_requirements, counted_rich_conflicts, update_candidates, successors, feature_candidates, kept_packages, is_kept}
 use Rattle.solv_pool.specs.Inner.HardRules.{numbered_jobs}
-use Rattle.solv_pool.specs.JobMarks.{marked, is_to_move}
 use Rattle.solv_pool.specs.Laws.{names_packages}
 use Rattle.solv_pool.specs.Needs.{asked_by, serves}
 use Rattle.solv_pool.specs.Parts.{parts}
-use Rattle.solv_pool.specs.RuleMeaning.{HardRule, not_installable, req, con, rich_con, obs, same, infarch, update, dup, feature, install, erase, lock, best_job, best_update, meets_rule, shape_of}
 use Rattle.solv_pool.specs.Updates.{is_feature}
 use Rattle.solv_pool.specs.declared.jobs.Job.{Job}
 use Rattle.solv_pool.specs.declared.job_marks.Marks.{Marks}

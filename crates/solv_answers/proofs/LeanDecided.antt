@@ -2,9 +2,7 @@
 use Rattle.std.proofs.Common.{◌≡◌, ◌≤◌, ◌+◌, ℕ, Bool, true, List, [], ◌∷◌, sym, ap, ◌∙◌, subst, length}
 use Rattle.std.specs.Prelude.{◌==◌, flat_map, replicate}
 use Rattle.std.proofs.lemmas.List.{length-map}
-use Rattle.solv_pool.specs.Catalog.{catalog_of}
-use Rattle.solv_pool.specs.Clauses.{rule_clauses}
-use Rattle.solv_pool.specs.RuleMeaning.{rule_with}
+use Rattle.solv_pool.specs.Prelude.{catalog_of, rule_clauses, rule_with}
 use Rattle.solv_pool.specs.declared.job_marks.Marks.{Marks}
 use Rattle.solv_pool.specs.declared.tasks.Task.{Task}
 use Rattle.solv_core.specs.Cores.{CoreOf}

@@ -2,14 +2,8 @@
 use Rattle.std.proofs.Common.{◌≡◌, ◌+◌, ℕ, Bool, true, List, ◌∷◌, sym, ap, ◌∙◌, subst}
 use Rattle.std.specs.Prelude.{filter, flat_map, length}
 use Rattle.std.specs.List.{list_all, range_with_len}
-use Rattle.solv_pool.specs.Catalog.{catalog_of}
-use Rattle.solv_pool.specs.Clauses.{rule_clauses}
-use Rattle.solv_pool.specs.HardRules.{hard_rules}
-use Rattle.solv_pool.specs.JobMarks.{marks_of}
+use Rattle.solv_pool.specs.Prelude.{catalog_of, rule_clauses, hard_rules, marks_of, is_fact, HardRule, meets_rule, is_among}
 use Rattle.solv_pool.specs.Laws.{ClausesSayTheRule}
-use Rattle.solv_pool.specs.Propagation.{is_fact}
-use Rattle.solv_pool.specs.RuleMeaning.{HardRule, meets_rule}
-use Rattle.solv_pool.specs.Words.{is_among}
 use Rattle.solv_pool.specs.declared.tasks.Task.{Task}
 use Rattle.solv_pool.proofs.Members.{Has, all_by}
 use Rattle.solv_rules.specs.Books.{is_bookable}

@@ -4,9 +4,7 @@ use Rattle.std.specs.Prelude.{Result, Ok, Err, IfOk, IfSome, ◌==◌, replicate
 use Rattle.std.proofs.Math.Bool.{beq}
 use Rattle.solv_list.proofs.Booleans.{first_of_both, second_of_both}
 use Rattle.std.proofs.lemmas.List.{length-take, length-take-le, take-map}
-use Rattle.solv_pool.specs.Catalog.{Catalog, catalog_of}
-use Rattle.solv_pool.specs.HardRules.{hard_rules, package_rules, infarch_rules, update_rules, feature_rules, job_rules, best_job_rules, best_update_rules, hard_rules_by}
-use Rattle.solv_pool.specs.RuleMeaning.{HardRule, rule_with}
+use Rattle.solv_pool.specs.Prelude.{Catalog, catalog_of, hard_rules, package_rules, infarch_rules, update_rules, feature_rules, job_rules, best_job_rules, best_update_rules, hard_rules_by, HardRule, rule_with, marks_of}
 use Rattle.solv_pool.specs.declared.hard_rules.Rule.{Rule}
 use Rattle.solv_pool.specs.declared.hard_rules.Rules.{Rules}
 use Rattle.solv_pool.specs.declared.job_marks.Marks.{Marks}
@@ -14,7 +12,6 @@ use Rattle.solv_pool.specs.declared.jobs.Job.{Job}
 use Rattle.solv_pool.specs.declared.tasks.Flags.{Flags}
 use Rattle.solv_pool.specs.declared.tasks.Task.{Task}
 use Rattle.std.specs.List.{list_all}
-use Rattle.solv_pool.specs.JobMarks.{marks_of}
 use Rattle.solv_prov.specs.Index.{Index, IsIndexOf}
 use Rattle.solv_jobs.specs.Marking.{HasMarks}
 use Rattle.solv_core.specs.Inner.Holding.{IsHeldBy}

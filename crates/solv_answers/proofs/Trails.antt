@@ -5,12 +5,8 @@ use Rattle.std.specs.List.{list_all}
 use Rattle.std.specs.Ordering.{int_eq}
 use Rattle.std.proofs.lemmas.Bool.Decides.{Decides-int_eq}
 use Rattle.std.proofs.lemmas.Bool.{and_parts, and_from, eqb-true, or_cases, or_left, or_right, cases_Bool, false≢true}
-use Rattle.solv_pool.specs.Catalog.{Catalog}
-use Rattle.solv_pool.specs.Clauses.{literal_true, clause_true}
-use Rattle.solv_pool.specs.HardRules.{hard_rules_by}
+use Rattle.solv_pool.specs.Prelude.{Catalog, literal_true, clause_true, hard_rules_by, is_fact, HardRule, meets_rule}
 use Rattle.solv_pool.specs.Laws.{ClausesSayTheRule}
-use Rattle.solv_pool.specs.Propagation.{is_fact}
-use Rattle.solv_pool.specs.RuleMeaning.{HardRule, meets_rule}
 use Rattle.solv_pool.specs.declared.jobs.Job.{Job}
 use Rattle.solv_pool.specs.declared.job_marks.Marks.{Marks}
 use Rattle.solv_pool.specs.declared.tasks.Flags.{Flags}

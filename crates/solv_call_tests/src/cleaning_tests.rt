@@ -1,8 +1,6 @@
 //! What goes with what is erased, and what nobody needs.
 ghost use Rattle.std.specs.Prelude.{◌≡◌};
-ghost use Rattle.solv_pool.specs.Catalog.{catalog_of};
-ghost use Rattle.solv_pool.specs.TaskBelonging.{IsClosed};
-ghost use Rattle.solv_pool.specs.Words.{is_among};
+ghost use Rattle.solv_pool.specs.Prelude.{catalog_of, IsClosed, is_among};
 ghost use Rattle.solv_prov.specs.Index.{IsIndexOf};
 
 use crate::fixture::{are, are_packages, read, set_of};

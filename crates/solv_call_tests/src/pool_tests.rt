@@ -1,5 +1,5 @@
 //! A pool with and without its tables.
-use solv_base::{DepId, DepNode, NameId, Pool};
+use solv_pool::{DepId, DepNode, NameId, Pool};
 use std::test::Fail;
 
 /// Whether a text has this id in a pool, or gets it.

@@ -1,6 +1,6 @@
 //! Whole scripts over files in memory: the first bad line, and what is asked for.
 ghost use Rattle.std.specs.Prelude.{IfOk};
-ghost use Rattle.solv_pool.specs.TaskBelonging.{IsClosed};
+ghost use Rattle.solv_pool.specs.Prelude.{IsClosed};
 
 use crate::stage::{files_of, held};
 use solv_io::{AllFiles, MemFiles, lines};

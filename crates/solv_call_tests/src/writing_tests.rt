@@ -1,7 +1,7 @@
 //! Scripts and the packages of repositories, written.
 ghost use Rattle.std.specs.List.{All};
 ghost use Rattle.std.specs.Prelude.{IfOk};
-ghost use Rattle.solv_pool.specs.TaskBelonging.{IsClosed};
+ghost use Rattle.solv_pool.specs.Prelude.{IsClosed};
 ghost use Rattle.solv_script.specs.Rounds.{tasks};
 
 use crate::stage::files_of;

@@ -3,9 +3,7 @@ use Rattle.std.proofs.Common.{◌≡◌, ℕ, zero, suc, ◌+◌, ◌<◌, Bool,
 use Rattle.std.specs.List.{list_any}
 use Rattle.std.proofs.lemmas.Bool.{and_parts, and_from, false≢true, eqb-true, or_left, or_right}
 use Rattle.solv_list.proofs.Booleans.{or_cases}
-use Rattle.solv_pool.specs.Words.{is_among, passes}
-use Rattle.solv_pool.specs.Catalog.{Catalog, members, package_at, dependency}
-use Rattle.solv_pool.specs.Holding.{package_meets, holds}
+use Rattle.solv_pool.specs.Prelude.{is_among, passes, Catalog, members, package_at, dependency, package_meets, holds}
 use Rattle.solv_pool.specs.Parts.{parts}
 use Rattle.solv_pool.specs.Needs.{serves}
 use Rattle.solv_pool.specs.declared.packages.Package.{Package}

@@ -3,10 +3,8 @@ use Rattle.std.proofs.Common.{◌≡◌, ℕ, zero, suc, ◌+◌, ◌<◌, Bool,
 use Rattle.std.specs.Prelude.{not, replicate}
 use Rattle.std.proofs.lemmas.Bool.{and_from, and_parts, or_left, or_right, cases_lt, eqb-true}
 use Rattle.solv_list.proofs.Booleans.{or_cases, second_is_false, true_of_not}
-use Rattle.solv_pool.specs.Words.{is_among}
-use Rattle.solv_pool.specs.Catalog.{Catalog, packages}
+use Rattle.solv_pool.specs.Prelude.{is_among, Catalog, packages, marked}
 use Rattle.solv_pool.specs.Cleaning.{needed_from}
-use Rattle.solv_pool.specs.JobMarks.{marked}
 use Rattle.solv_pool.specs.Needs.{serves_package, supplements}
 use Rattle.solv_pool.proofs.Among.{among_filter}
 use Rattle.solv_graph.specs.Reaching.{ReachedIsWhereWalksLead}

@@ -5,10 +5,7 @@ use Rattle.std.specs.List.{list_any}
 use Rattle.std.proofs.lemmas.Bool.{false≢true, or_right}
 use Rattle.std.proofs.lemmas.List.Folds.{list_any-append}
 use Rattle.solv_list.proofs.Booleans.{or_false}
-use Rattle.solv_base.specs.Dependency.{Dep}
-use Rattle.solv_pool.specs.Words.{is_among, passes}
-use Rattle.solv_pool.specs.Catalog.{Catalog, members, packages, package_at, dependency}
-use Rattle.solv_pool.specs.Holding.{package_meets}
+use Rattle.solv_pool.specs.Prelude.{Dep, is_among, passes, Catalog, members, packages, package_at, dependency, package_meets}
 use Rattle.solv_pool.specs.Parts.{parts}
 use Rattle.solv_pool.specs.Needs.{serves, asked_by}
 use Rattle.solv_pool.specs.declared.packages.Package.{Package}

@@ -7,9 +7,7 @@ use Rattle.std.proofs.lemmas.Bool.{false≢true, false_from_ne_true, or_right, c
 use Rattle.std.proofs.lemmas.List.{length-map}
 use Rattle.std.proofs.lemmas.List.FromFn.{length-range_with_len}
 use Rattle.solv_list.proofs.Lists.{range_more}
-use Rattle.solv_pool.specs.Words.{is_among, passes}
-use Rattle.solv_pool.specs.Catalog.{Catalog, packages, is_installed, installed_set}
-use Rattle.solv_pool.specs.JobMarks.{mark_each}
+use Rattle.solv_pool.specs.Prelude.{is_among, passes, Catalog, packages, is_installed, installed_set, mark_each}
 use Rattle.solv_pool.specs.declared.jobs.Job.{Job}
 use Rattle.solv_pool.specs.declared.packages.Package.{Package}
 use Rattle.solv_pool.proofs.Among.{here, in_range}

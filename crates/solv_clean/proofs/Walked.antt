@@ -6,10 +6,8 @@ use Rattle.std.proofs.lemmas.Bool.{and_parts, and_from, false≢true, false_from
 use Rattle.std.proofs.lemmas.Bool.Decides.{eqb_tells, nat_tests}
 use Rattle.solv_list.proofs.Booleans.{or_cases, or_false, same_truth}
 use Rattle.solv_list.proofs.Lists.{below_true}
-use Rattle.solv_pool.specs.Words.{is_among, passes}
-use Rattle.solv_pool.specs.Catalog.{Catalog, members, package_at, dependency}
+use Rattle.solv_pool.specs.Prelude.{is_among, passes, Catalog, members, package_at, dependency, holds}
 use Rattle.solv_pool.specs.Cleaning.{needed_from}
-use Rattle.solv_pool.specs.Holding.{holds}
 use Rattle.solv_pool.specs.Needs.{needs, serves, serves_package, supplements}
 use Rattle.solv_pool.specs.declared.packages.Package.{Package}
 use Rattle.solv_pool.proofs.Among.{any_from, any_gives}

@@ -1,16 +1,15 @@
 //! Vertices that are marked and listed: members of a set by number, and relations behind them.
 ghost use Rattle.std.specs.Prelude.{◌≡◌, ◌≤◌, ◌<◌, ◌∷◌, [], true, length, OnOk};
 ghost use Rattle.std.specs.List.{list_all};
-ghost use Rattle.solv_pool.specs.Catalog.{catalog_of};
+ghost use Rattle.solv_pool.specs.Prelude.{catalog_of};
 ghost use Rattle.solv_clean.specs.Inner.Finding.{Finds, ArePassed, itself, serving, serving_need, serving_package, next_to};
 ghost use Rattle.solv_clean.specs.Inner.Tables.{IsWithRelations};
 ghost use Rattle.solv_clean.specs.Inner.Readiness.{dep_below, need_below};
 
 use crate::members::Members;
 use crate::passing::{note_passed, was_passed};
-use solv_base::DepId;
 use solv_graph::Graph;
-use solv_pool::{Need, PackNo};
+use solv_pool::{DepId, Need, PackNo};
 use solv_prov::{Parts, parts_of};
 use std::alloc::AllocError;
 

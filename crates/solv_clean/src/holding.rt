@@ -1,14 +1,12 @@
 //! Whether a dependency holds in a set.
 ghost use Rattle.std.specs.Prelude.{ℕ, Bool, ◌≡◌, ◌<◌, ◌⊎◌, Some, None, length, slice_index_or};
 ghost use Rattle.std.specs.List.{list_any};
-ghost use Rattle.solv_pool.specs.Catalog.{catalog_of, dependency};
-ghost use Rattle.solv_pool.specs.Holding.{holds, member_meets};
+ghost use Rattle.solv_pool.specs.Prelude.{catalog_of, dependency, holds, member_meets};
 ghost use Rattle.solv_clean.specs.Inner.Tables.{is_marked};
 ghost use Rattle.solv_clean.specs.Inner.Holding.{AreKnown};
 
 use crate::members::Members;
-use solv_base::{DepId, DepNode};
-use solv_pool::PackNo;
+use solv_pool::{DepId, DepNode, PackNo};
 
 /// Whether a package is in the set. One without an entry is not.
 pub(crate) fn is_in(in_set: &[bool], pack: PackNo) -> bool

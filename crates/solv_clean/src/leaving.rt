@@ -1,10 +1,7 @@
 //! Packages that nothing asks for, however far it is asked.
 ghost use Rattle.std.specs.Prelude.{ℕ, ◌≡◌, ◌+◌, true, false, length, IfOk};
-ghost use Rattle.solv_pool.specs.Catalog.{catalog_of, packages};
-ghost use Rattle.solv_pool.specs.JobMarks.{marked};
+ghost use Rattle.solv_pool.specs.Prelude.{catalog_of, packages, marked, IsClosed, is_among};
 ghost use Rattle.solv_pool.specs.Needs.{serves_package};
-ghost use Rattle.solv_pool.specs.TaskBelonging.{IsClosed};
-ghost use Rattle.solv_pool.specs.Words.{is_among};
 ghost use Rattle.solv_prov.specs.Index.{IsIndexOf};
 
 use crate::searching::needed_from;

@@ -1,7 +1,6 @@
 //! A set of packages, with what its members are looked up in.
 ghost use Rattle.std.specs.Prelude.{◌≡◌, ◌+◌, length};
-ghost use Rattle.solv_pool.specs.Belonging.{IsOver};
-ghost use Rattle.solv_pool.specs.Catalog.{catalog_of};
+ghost use Rattle.solv_pool.specs.Prelude.{IsOver, catalog_of};
 ghost use Rattle.solv_prov.specs.Index.{IsIndexOf};
 
 use solv_pool::Task;

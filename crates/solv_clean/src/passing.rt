@@ -2,7 +2,7 @@
 ghost use Rattle.std.specs.Prelude.{ℕ, ◌≡◌, ◌<◌, ◌||◌, ◌==◌, length};
 ghost use Rattle.solv_clean.specs.Inner.Tables.{is_marked};
 
-use solv_base::DepId;
+use solv_pool::DepId;
 
 /// Whether a relation was gone through. One without an entry was not.
 pub(crate) fn was_passed(passed: &[bool], dep: DepId) -> bool

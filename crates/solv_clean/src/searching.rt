@@ -1,8 +1,7 @@
 //! Where walks lead.
 ghost use Rattle.std.specs.Prelude.{ℕ, ◌≡◌, ◌<◌, ◌+◌, true, false, length, IfOk, OnOk};
-ghost use Rattle.solv_pool.specs.Catalog.{catalog_of};
+ghost use Rattle.solv_pool.specs.Prelude.{catalog_of, is_among};
 ghost use Rattle.solv_pool.specs.Cleaning.{needed_from};
-ghost use Rattle.solv_pool.specs.Words.{is_among};
 ghost use Rattle.solv_clean.specs.Inner.Tables.{is_marked, IsWithRelations};
 ghost use Rattle.solv_clean.specs.Inner.Finding.{ArePassed, serving, next_to};
 ghost use Rattle.solv_clean.specs.Inner.Joining.{AreSupplements};

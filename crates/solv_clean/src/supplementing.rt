@@ -5,8 +5,7 @@
 //! and from a supplement that holds to each member that has it. A relation is gone through once.
 ghost use Rattle.std.specs.Prelude.{ℕ, ◌≡◌, ◌≤◌, ◌<◌, ◌+◌, ◌∷◌, ◌||◌, ◌&&◌, ◌==◌, [], true, length, IfOk, OnOk};
 ghost use Rattle.std.specs.List.{list_all};
-ghost use Rattle.solv_pool.specs.Catalog.{catalog_of};
-ghost use Rattle.solv_pool.specs.Words.{is_among};
+ghost use Rattle.solv_pool.specs.Prelude.{catalog_of, is_among};
 ghost use Rattle.solv_graph.specs.Inner.Graphs.{edge_to};
 ghost use Rattle.solv_prov.specs.Index.{providers_of};
 ghost use Rattle.solv_clean.specs.Inner.Tables.{is_marked};
@@ -17,9 +16,8 @@ ghost use Rattle.solv_clean.specs.Inner.Readiness.{dep_below};
 use crate::holding::{holds, is_in};
 use crate::members::Members;
 use crate::passing::{note_passed, was_passed};
-use solv_base::DepId;
 use solv_graph::Graph;
-use solv_pool::PackNo;
+use solv_pool::{DepId, PackNo};
 use solv_prov::{Parts, parts_of};
 use std::alloc::{AllocError, Global};
 

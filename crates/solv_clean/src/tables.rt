@@ -1,8 +1,7 @@
 //! Tables of packages by number.
 ghost use Rattle.std.specs.Prelude.{ℕ, ◌≡◌, ◌≤◌, ◌<◌, ◌+◌, ◌||◌, ◌==◌, ◌∷◌, ◌++◌, true, filter, length, replicate, IfOk};
 ghost use Rattle.std.specs.List.{range_with_len};
-ghost use Rattle.solv_pool.specs.Catalog.{catalog_of, installed_set};
-ghost use Rattle.solv_pool.specs.Words.{is_among};
+ghost use Rattle.solv_pool.specs.Prelude.{catalog_of, installed_set, is_among};
 ghost use Rattle.solv_clean.specs.Inner.Tables.{is_marked, table_of, but_not, root_by, gone_by};
 
 use crate::holding::is_in;

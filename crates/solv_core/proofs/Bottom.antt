@@ -4,7 +4,7 @@ use Rattle.std.specs.Prelude.{ℤ, pos}
 use Rattle.std.proofs.lemmas.Bool.{and_from, cases_lt}
 use Rattle.std.proofs.lemmas.List.{take-take, get_or-take, length-map}
 use Rattle.std.proofs.lemmas.List.Folds.{list_all-append}
-use Rattle.solv_pool.specs.Range.{is_over, are_over}
+use Rattle.solv_pool.specs.Prelude.{is_over, are_over}
 use Rattle.solv_derive.specs.declared.logs.Step.{Step}
 use Rattle.solv_trail.specs.Inner.Held.{Held}
 use Rattle.solv_trail.specs.Inner.Propagated.{IsUsed, choice, by_rule, IsReasoned}

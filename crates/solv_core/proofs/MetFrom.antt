@@ -1,7 +1,7 @@
 -- The clauses of enabled owners from a place on.
 use Rattle.std.proofs.Common.{◌≡◌, ◌<◌, ◌+◌, ℕ, Bool, true, false, List, ◌∷◌, Some, refl, sym, ap, ◌∙◌, drop, length}
 use Rattle.std.specs.Prelude.{ℤ, slice_get, if◌then◌else◌, ◌&&◌}
-use Rattle.solv_pool.specs.Clauses.{clause_true, all_true}
+use Rattle.solv_pool.specs.Prelude.{clause_true, all_true}
 use Rattle.solv_trail.specs.Asked.{is_enabled, enabled_clauses}
 use Rattle.solv_list.proofs.Lists.{drop_get, some_there}
 

@@ -1,8 +1,7 @@
 //! A core, and its runs.
 ghost use Rattle.std.specs.Prelude.{◌≡◌, ◌^◌, ◌≤◌, ◌+◌, ◌*◌, ◌++◌, ◌∷◌, [], true, List, length, nat_lt, IfOk, OnOk, OnErr};
 ghost use Rattle.std.specs.List.{list_all};
-ghost use Rattle.solv_pool.specs.Range.{are_over};
-ghost use Rattle.solv_pool.specs.Clauses.{all_true};
+ghost use Rattle.solv_pool.specs.Prelude.{are_over, all_true};
 ghost use Rattle.solv_trail.specs.Asked.{enabled_clauses};
 ghost use Rattle.solv_core.specs.Inner.Meeting.{set_by};
 ghost use Rattle.solv_trail.specs.Propagated.{in_use};
@@ -61,7 +60,7 @@ impl Drop for Core<'_> {
 impl<'a> Model for Core<'a> {
     ghost use Rattle.std.specs.Prelude.{◌≡◌, ◌≤◌, ◌+◌, ◌*◌, ◌^◌, true, length};
     ghost use Rattle.solv_watch.specs.Inner.Watching.{AreChained, AreHeads, AreNarrow};
-    ghost use Rattle.solv_pool.specs.Range.{are_over};
+    ghost use Rattle.solv_pool.specs.Prelude.{are_over};
     ghost use Rattle.solv_core.specs.Inner.Cores.{LearningCore};
 
     ghost Value = { LearningCore };

@@ -1,7 +1,7 @@
 //! A guide that remembers nothing, in the place of one that does.
 ghost use Rattle.std.specs.Prelude.{⊤, ◌≡◌, ◌<◌, ℕ, ℤ, true, List, length, nat_lt};
 ghost use Rattle.std.specs.List.{list_all};
-ghost use Rattle.solv_pool.specs.Propagation.{is_fact};
+ghost use Rattle.solv_pool.specs.Prelude.{is_fact};
 
 use solv_trail::{Ask, Guide, Known, Recaller};
 

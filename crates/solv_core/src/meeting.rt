@@ -1,7 +1,7 @@
 //! Whether a set makes the clauses of enabled owners true.
 ghost use Rattle.std.specs.Prelude.{◌≡◌, ℕ, true, length, nat_lt};
 ghost use Rattle.std.specs.List.{list_all};
-ghost use Rattle.solv_pool.specs.Clauses.{literal_true, clause_true, all_true};
+ghost use Rattle.solv_pool.specs.Prelude.{literal_true, clause_true, all_true};
 ghost use Rattle.solv_trail.specs.Asked.{enabled_clauses};
 ghost use Rattle.solv_core.specs.Inner.Meeting.{set_by};
 

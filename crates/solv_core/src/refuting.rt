@@ -3,7 +3,7 @@ ghost use Rattle.std.specs.Prelude.{◌≡◌, ◌<◌, ◌≤◌, ◌+◌, ◌*
 ghost use Rattle.std.specs.List.{list_all};
 ghost use Rattle.std.specs.Option.{IfSome};
 ghost use Rattle.solv_derive.specs.Forced.{is_falsified as is_false};
-ghost use Rattle.solv_pool.specs.Range.{is_over, are_over};
+ghost use Rattle.solv_pool.specs.Prelude.{is_over, are_over};
 ghost use Rattle.solv_trail.specs.Propagated.{in_use};
 ghost use Rattle.solv_trail.specs.Inner.Propagated.{IsReasoned, Propagated};
 ghost use Rattle.solv_watch.specs.Inner.Watching.{AreChained, AreHeads, AreNarrow};

@@ -5,10 +5,8 @@ use Rattle.std.specs.Prelude.{ℤ, flat_map, length, slice_get, nat_lt, Result, 
 use Rattle.std.specs.declared.alloc.AllocError.{AllocError}
 use Rattle.std.specs.List.{list_all}
 use Rattle.std.proofs.lemmas.Bool.{and_parts, false≢true}
-use Rattle.solv_pool.specs.Clauses.{rule_clauses, clause_true, all_true}
+use Rattle.solv_pool.specs.Prelude.{rule_clauses, clause_true, all_true, is_fact, HardRule, meets_rule}
 use Rattle.solv_pool.specs.Laws.{ClausesSayTheRule}
-use Rattle.solv_pool.specs.Propagation.{is_fact}
-use Rattle.solv_pool.specs.RuleMeaning.{HardRule, meets_rule}
 use Rattle.solv_derive.specs.Laws.{GoodLogsRefute}
 use Rattle.solv_derive.specs.Leaves.{leaves, rule_true}
 use Rattle.solv_derive.specs.Logs.{is_good_log}

@@ -4,9 +4,7 @@ use Rattle.std.specs.Prelude.{ℤ, flat_map, length, replicate, slice_get, nat_l
 use Rattle.std.specs.List.{list_all}
 use Rattle.std.proofs.lemmas.Bool.{and_from, lt-ltb, false≢true}
 use Rattle.std.proofs.lemmas.List.{length-append, length-replicate}
-use Rattle.solv_pool.specs.Catalog.{Catalog}
-use Rattle.solv_pool.specs.Clauses.{rule_clauses}
-use Rattle.solv_pool.specs.RuleMeaning.{HardRule}
+use Rattle.solv_pool.specs.Prelude.{Catalog, rule_clauses, HardRule}
 use Rattle.solv_trail.specs.Asked.{is_enabled, enabled_clauses}
 use Rattle.solv_trail.specs.Propagated.{in_use}
 use Rattle.solv_rules.specs.Books.{owners_from}

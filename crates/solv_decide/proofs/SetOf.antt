@@ -6,10 +6,7 @@ use Rattle.std.specs.Ordering.{int_eq}
 use Rattle.std.proofs.lemmas.Bool.{and_parts, and_from, eqb-true, cases_Bool}
 use Rattle.std.proofs.lemmas.Bool.Decides.{Decides-int_eq}
 use Rattle.std.proofs.lemmas.List.Folds.{list_any-append}
-use Rattle.solv_pool.specs.Words.{is_among}
-use Rattle.solv_pool.specs.Propagation.{is_fact}
-use Rattle.solv_pool.specs.TaskBelonging.{is_pack}
-use Rattle.solv_pool.specs.Range.{names_package, is_over}
+use Rattle.solv_pool.specs.Prelude.{is_among, is_fact, is_pack, names_package, is_over}
 use Rattle.solv_trail.specs.Asked.{set_of}
 use Rattle.solv_core.specs.GoodTrails.{facts_of, literal_of}
 use Rattle.solv_core.specs.declared.verdicts.Event.{Event}

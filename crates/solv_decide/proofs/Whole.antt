@@ -3,15 +3,10 @@ use Rattle.std.proofs.Common.{◌≡◌, ◌<◌, ◌≤◌, ◌+◌, ◌*◌, �
 use Rattle.std.specs.Prelude.{ℤ, pos, negsuc, nat_lt, nat_le, flat_map, length, fold, ◌==◌}
 use Rattle.std.specs.List.{list_all, range_with_len}
 use Rattle.std.proofs.lemmas.Bool.{and_parts, and_from, lt-ltb, le-leb, eqb-true}
-use Rattle.solv_base.specs.Dependency.{IsWellFounded}
-use Rattle.solv_pool.specs.Words.{is_among}
-use Rattle.solv_pool.specs.Catalog.{Catalog}
-use Rattle.solv_pool.specs.Clauses.{rule_clauses, words, words_of_all}
+use Rattle.solv_pool.specs.Prelude.{IsWellFounded, is_among, Catalog, rule_clauses, words, words_of_all, HardRule, rule_with, shape_of, names_package, is_over, are_over}
 use Rattle.solv_pool.specs.Laws.{ClausesNamePackages, names_packages}
 use Rattle.solv_pool.specs.Laws.{names_package as names_one}
-use Rattle.solv_pool.specs.RuleMeaning.{HardRule, rule_with, shape_of}
 use Rattle.solv_pool.specs.declared.hard_rules.Rules.{Rules}
-use Rattle.solv_pool.specs.Range.{names_package, is_over, are_over}
 use Rattle.solv_core.specs.Cores.{CoreOf}
 use Rattle.solv_rules.specs.Books.{most_words, rich_fault, overrun, first_fault, is_bookable, has_form}
 use Rattle.solv_rules.specs.Inner.Books.{or_else, rule_fault}

@@ -1,7 +1,6 @@
 //! The questions of a task, as a guide of the search.
 ghost use Rattle.std.specs.Prelude.{◌≡◌, true, length, IfOk};
-ghost use Rattle.solv_pool.specs.Catalog.{catalog_of};
-ghost use Rattle.solv_pool.specs.TaskBelonging.{IsClosed};
+ghost use Rattle.solv_pool.specs.Prelude.{catalog_of, IsClosed};
 ghost use Rattle.solv_prov.specs.Index.{IsIndexOf};
 ghost use Rattle.solv_jobs.specs.Marking.{HasMarks};
 ghost use Rattle.solv_rules.specs.Books.{read_rules};

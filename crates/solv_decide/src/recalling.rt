@@ -2,7 +2,7 @@
 ghost use Rattle.std.specs.Prelude.{◌≡◌, ◌≤◌, ◌+◌, [], true, length, nat_lt, IfOk, IfSome};
 ghost use Rattle.std.specs.List.{list_all};
 ghost use Rattle.solv_core.specs.Inner.Holding.{IsHeldBy};
-ghost use Rattle.solv_pool.specs.Propagation.{is_fact};
+ghost use Rattle.solv_pool.specs.Prelude.{is_fact};
 ghost use Rattle.solv_core.specs.Inner.Looking.{AreRefutedBeside, verdict_in};
 ghost use Rattle.solv_core.specs.Inner.Running.{HasRunOnce};
 ghost use Rattle.solv_plan.specs.Inner.Plans.{plan_asks};

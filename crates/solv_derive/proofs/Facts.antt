@@ -5,7 +5,7 @@ use Rattle.std.specs.List.{list_any, list_all}
 use Rattle.std.specs.Ordering.{int_eq}
 use Rattle.std.proofs.lemmas.Bool.{or_left, or_right, or_cases, or_parts, or_from, and_parts, and_from, cases_Bool, false≢true}
 use Rattle.std.proofs.lemmas.Bool.Decides.{Decides-int_eq}
-use Rattle.solv_pool.specs.Propagation.{is_fact, is_refuted, is_open, only}
+use Rattle.solv_pool.specs.Prelude.{is_fact, is_refuted, is_open, only}
 use Rattle.solv_derive.specs.Forced.{forced}
 use Rattle.solv_derive.specs.Inner.Forced.{is_satisfied}
 use Rattle.solv_list.proofs.Booleans.{neither}

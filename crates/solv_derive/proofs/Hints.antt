@@ -3,10 +3,9 @@ use Rattle.std.proofs.Common.{◌≡◌, ℕ, zero, suc, ◌+◌, ◌<◌, ◌�
 use Rattle.std.specs.Prelude.{ℤ, neg_ℤ, slice_get}
 use Rattle.std.specs.List.{list_any}
 use Rattle.std.proofs.lemmas.Bool.{and_parts}
-use Rattle.solv_pool.specs.Propagation.{is_fact, only}
+use Rattle.solv_pool.specs.Prelude.{is_fact, only, is_over, are_over, names_package}
 use Rattle.solv_derive.specs.Forced.{is_falsified, forced}
 use Rattle.solv_derive.specs.Range.{steps_over}
-use Rattle.solv_pool.specs.Range.{is_over, are_over, names_package}
 use Rattle.solv_pool.specs.Inner.Propagation.{forced_by}
 use Rattle.solv_derive.specs.Logs.{ends_in_conflict, hint_clause}
 use Rattle.solv_derive.specs.declared.logs.Hint.{Hint}

@@ -4,15 +4,13 @@ use Rattle.std.specs.Prelude.{ℤ, pos, negsuc, neg_ℤ, nat_abs}
 use Rattle.std.specs.List.{list_all}
 use Rattle.std.proofs.lemmas.Bool.{and_parts, and_from, cases_Bool, false≢true}
 use Rattle.std.proofs.lemmas.List.Folds.{list_all-append}
-use Rattle.solv_pool.specs.Clauses.{literal_true, clause_true}
-use Rattle.solv_pool.specs.Propagation.{is_fact, is_refuted}
+use Rattle.solv_pool.specs.Prelude.{literal_true, clause_true, is_fact, is_refuted, is_over, are_over, names_package}
 use Rattle.solv_derive.specs.Forced.{is_falsified, forced}
 use Rattle.solv_derive.specs.Laws.{GoodLogsRefute}
 use Rattle.solv_derive.specs.Leaves.{named_rules, rule_true, leaves_true}
 use Rattle.solv_derive.specs.Inner.Leaves.{rules_of}
 use Rattle.solv_derive.specs.Logs.{ends_in_conflict, hint_clause, is_good_step, are_good_steps, ends_empty, is_empty, is_good_log}
 use Rattle.solv_derive.specs.Range.{steps_over}
-use Rattle.solv_pool.specs.Range.{is_over, are_over, names_package}
 use Rattle.solv_derive.specs.declared.logs.Hint.{Hint}
 use Rattle.solv_derive.specs.declared.logs.Hint.TheVariants as hint
 use Rattle.solv_derive.specs.declared.logs.Step.{Step}

@@ -8,7 +8,7 @@ use Rattle.solv_derive.specs.Laws.{YesIsForGoodLogs}
 use Rattle.solv_derive.specs.Logs.{is_good_step, are_good_steps, first_bad, ends_empty, is_empty, is_good_log, checked}
 use Rattle.solv_derive.specs.Inner.Marks.{Shows}
 use Rattle.solv_derive.specs.Range.{steps_over}
-use Rattle.solv_pool.specs.Range.{is_over}
+use Rattle.solv_pool.specs.Prelude.{is_over}
 use Rattle.solv_derive.specs.declared.logs.Step.{Step}
 use Rattle.solv_derive.specs.declared.logs.Checked.{Checked}
 use Rattle.solv_derive.specs.declared.logs.Checked.TheVariants.{Yes, No}

@@ -7,11 +7,10 @@ use Rattle.std.proofs.lemmas.Bool.{or_left, and_parts, cases_Bool, cases_eq, fal
 use Rattle.std.proofs.lemmas.List.{take_more, map-append, at_drop_more}
 use Rattle.std.proofs.lemmas.List.Folds.{list_any-append}
 use Rattle.solv_pack.specs.Inner.Literals.{place_of}
-use Rattle.solv_pool.specs.Propagation.{is_fact, is_refuted, is_open, only}
+use Rattle.solv_pool.specs.Prelude.{is_fact, is_refuted, is_open, only, is_over, names_package}
 use Rattle.solv_derive.specs.Forced.{is_falsified, forced}
 use Rattle.solv_derive.specs.Inner.Marks.{Shows, is_marked}
 use Rattle.solv_pool.specs.Inner.Propagation.{forced_by}
-use Rattle.solv_pool.specs.Range.{is_over, names_package}
 use Rattle.solv_derive.proofs.Facts.{same_self, all_member, filter_same, any_same, all_same}
 use Rattle.solv_list.proofs.Numbers.{same_integer}
 

@@ -2,7 +2,7 @@
 ghost use Rattle.std.specs.Prelude.{◌≡◌, ◌≤◌, ◌+◌, ◌*◌, ◌↔◌, ◌&&◌, ℕ, true, false, List, ℤ, Bool, map, take, length, slice_index, option_map, IfOk};
 ghost use Rattle.solv_derive.specs.Inner.Marks.{Shows};
 ghost use Rattle.solv_derive.specs.Range.{steps_over};
-ghost use Rattle.solv_pool.specs.Range.{is_over, are_over};
+ghost use Rattle.solv_pool.specs.Prelude.{is_over, are_over};
 ghost use Rattle.solv_derive.specs.Logs.{hint_clause, ends_in_conflict, checked, is_good_log, ends_empty as is_ended};
 ghost use Rattle.solv_derive.specs.Leaves.{leaves_true};
 

@@ -4,7 +4,7 @@ ghost use Rattle.std.specs.List.{list_all};
 ghost use Rattle.solv_pack.specs.Inner.Literals.{place_of};
 ghost use Rattle.solv_derive.specs.Inner.Marks.{Shows, is_marked};
 ghost use Rattle.solv_pool.specs.Inner.Propagation.{forced_by};
-ghost use Rattle.solv_pool.specs.Range.{is_over, names_package};
+ghost use Rattle.solv_pool.specs.Prelude.{is_over, names_package};
 
 use solv_pack::Lit;
 

@@ -16,10 +16,8 @@ use Rattle.solv_deps.specs.declared.place.Place.TheVariants.{Plain}
 use Rattle.solv_deps.specs.declared.fault.DepFault.{DepFault}
 use Rattle.solv_deps.specs.declared.fault.DepFault.TheVariants.{BadOperator, MissingOperand, MixedOperators, UnclosedParenthesis, TooDeep, OperatorNotHere, FullNames, FullRelations, Memory}
 use Rattle.solv_pool.specs.Inner.PackageText.{repo_found}
-use Rattle.solv_pool.specs.Belonging.{IsOver}
+use Rattle.solv_pool.specs.Prelude.{IsOver, IsClosed, choice_fits, WrittenTask, WrittenPackage, WrittenJob, WrittenChoice, written_task, written_repo, written_package, written_choice, written_job}
 use Rattle.solv_pool.specs.Contents.{Contents}
-use Rattle.solv_pool.specs.TaskBelonging.{IsClosed, choice_fits}
-use Rattle.solv_pool.specs.Written.{WrittenTask, WrittenPackage, WrittenJob, WrittenChoice, written_task, written_repo, written_package, written_choice, written_job}
 use Rattle.solv_pool.specs.declared.jobs.Choice.{Choice}
 use Rattle.solv_pool.specs.declared.jobs.Choice.TheVariants.{All, OneOf, Name, Provides}
 use Rattle.solv_pool.specs.declared.jobs.Job.{Job}

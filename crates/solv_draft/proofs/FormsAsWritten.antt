@@ -5,9 +5,8 @@ use Rattle.std.proofs.lemmas.List.{map-append}
 use Rattle.solv_base.specs.Dependency.{Dep, tree}
 use Rattle.solv_base.specs.Pool.{text_at, text_tree}
 use Rattle.solv_deps.specs.Table.{is_capability}
-use Rattle.solv_pool.specs.Catalog.{Catalog, catalog_of}
+use Rattle.solv_pool.specs.Prelude.{Catalog, catalog_of, WrittenJob, WrittenNeed, written_choice, written_job, written_package, written_task}
 use Rattle.solv_pool.specs.TaskForms.{HasForms, has_form, is_plain_form, is_formed, is_formed_choice}
-use Rattle.solv_pool.specs.Written.{WrittenJob, WrittenNeed, written_choice, written_job, written_package, written_task}
 use Rattle.solv_pool.specs.declared.jobs.Choice.{Choice}
 use Rattle.solv_pool.specs.declared.jobs.Choice.TheVariants.{Name, Provides}
 use Rattle.solv_pool.specs.declared.jobs.Job.{Job}

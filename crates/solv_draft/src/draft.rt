@@ -1,6 +1,6 @@
 //! A task so far.
 ghost use Rattle.std.specs.Prelude.{◌≡◌};
-ghost use Rattle.solv_pool.specs.TaskBelonging.{IsClosed};
+ghost use Rattle.solv_pool.specs.Prelude.{IsClosed};
 ghost use Rattle.solv_pool.specs.TaskForms.{HasForms};
 ghost use Rattle.solv_draft.specs.Inner.Drafts.{IsDraft};
 

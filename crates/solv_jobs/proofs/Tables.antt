@@ -4,15 +4,12 @@ use Rattle.std.specs.Prelude.{filter, fold, replicate, slice_set, ◌==◌, nat_
 use Rattle.std.specs.List.{list_any, list_all, range_with_len}
 use Rattle.std.specs.Option.{option_map_or}
 use Rattle.std.proofs.lemmas.Bool.Decides.{nat_tests}
-use Rattle.solv_pool.specs.Words.{is_among}
+use Rattle.solv_pool.specs.Prelude.{is_among, Catalog, catalog_of, packages, is_pack, mark_each, favour_of, favour_after}
 use Rattle.std.proofs.lemmas.List.{length-map}
-use Rattle.solv_pool.specs.Catalog.{Catalog, catalog_of, packages}
 use Rattle.solv_pool.specs.declared.tasks.Task.{Task}
 use Rattle.solv_pool.specs.Selections.{selects, selection}
-use Rattle.solv_pool.specs.TaskBelonging.{is_pack}
 use Rattle.solv_pool.specs.JobKinds.{job_selects, job_selects_installed}
 use Rattle.solv_pool.specs.Inner.JobKinds.{is_update, is_distupgrade, is_verify, is_multiversion, is_allow_uninstall, is_erase}
-use Rattle.solv_pool.specs.JobMarks.{mark_each, favour_of, favour_after}
 use Rattle.solv_pool.specs.Inner.JobMarks.{marks_by}
 use Rattle.solv_pool.specs.declared.jobs.Job.{Job}
 use Rattle.solv_pool.specs.declared.jobs.Action.{Action}

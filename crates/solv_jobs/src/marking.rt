@@ -1,11 +1,9 @@
 //! How jobs mark packages.
 ghost use Rattle.std.specs.Prelude.{◌≡◌, ◌<◌, ◌≤◌, ◌+◌, ◌||◌, ◌∷◌, pos, not, true, length, filter, map, nat_lt, nat_le, IfOk, OnOk};
 ghost use Rattle.std.specs.List.{list_all};
-ghost use Rattle.solv_pool.specs.Catalog.{catalog_of, packages};
+ghost use Rattle.solv_pool.specs.Prelude.{catalog_of, packages, mark_each, favour_of, is_to_move, IsClosed, choice_fits, is_pack};
 ghost use Rattle.solv_pool.specs.Selections.{selection};
-ghost use Rattle.solv_pool.specs.JobMarks.{mark_each, favour_of, is_to_move};
 ghost use Rattle.solv_pool.specs.Inner.JobMarks.{marks_by};
-ghost use Rattle.solv_pool.specs.TaskBelonging.{IsClosed, choice_fits, is_pack};
 ghost use Rattle.solv_prov.specs.Index.{IsIndexOf};
 ghost use Rattle.solv_jobs.specs.Inner.Marking.{with_values, with_job, with_favour, favour_given, makes, is_of_installed, may_bear, bears};
 ghost use Rattle.solv_jobs.specs.Marking.{HasMarks};

@@ -2,10 +2,8 @@
 use Rattle.std.proofs.Common.{◌≡◌, ◌+◌, ℕ, Bool, true, List, [], ◌∷◌, inl, inr, refl}
 use Rattle.std.specs.List.{enumerate_from}
 use Rattle.solv_list.proofs.Booleans.{first_of_both}
-use Rattle.solv_pool.specs.Catalog.{catalog_of, is_installed}
+use Rattle.solv_pool.specs.Prelude.{catalog_of, is_installed, HardRule, install, erase, lock, meets_rule, rule_of_job}
 use Rattle.solv_pool.specs.Selections.{selection}
-use Rattle.solv_pool.specs.RuleMeaning.{HardRule, install, erase, lock, meets_rule}
-use Rattle.solv_pool.specs.HardRules.{rule_of_job}
 use Rattle.solv_pool.specs.Inner.HardRules.{numbered_jobs}
 use Rattle.solv_pool.specs.declared.jobs.Action.{Action}
 use Rattle.solv_pool.specs.declared.jobs.Action.TheVariants.{Install, Erase, Lock}

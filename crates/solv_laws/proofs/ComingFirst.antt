@@ -11,9 +11,7 @@ use Rattle.solv_graph.specs.Walks.{InOneClass}
 use Rattle.solv_graph.specs.Classes.{AreClasses, lowest}
 use Rattle.solv_graph.proofs.Edges.{times_in}
 use Rattle.solv_graph.proofs.Walking.{class_back, class_through}
-use Rattle.solv_pool.specs.Words.{passes}
-use Rattle.solv_pool.specs.Catalog.{Catalog, packages, members, package_at, dependency, is_installed}
-use Rattle.solv_pool.specs.Holding.{package_meets, member_meets}
+use Rattle.solv_pool.specs.Prelude.{passes, Catalog, packages, members, package_at, dependency, is_installed, package_meets, member_meets}
 use Rattle.solv_pool.specs.Parts.{parts}
 use Rattle.solv_pool.specs.declared.packages.Package.{Package}
 use Rattle.solv_pool.specs.declared.packages.Need.{Need}

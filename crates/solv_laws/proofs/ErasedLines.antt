@@ -11,14 +11,12 @@ use Rattle.std.proofs.lemmas.Bool.{and_from, cases_Bool, eqb-true}
 use Rattle.std.proofs.lemmas.Cmp.{tied_itself, upto, on_total}
 use Rattle.solv_list.proofs.Booleans.{first_of_both, second_of_both, false_of_not, or_cases, true_is_not_false}
 use Rattle.solv_base.specs.Evr.{evr_cmp}
-use Rattle.solv_pool.specs.Catalog.{Catalog, catalog_of, packages, is_installed, same_name}
+use Rattle.solv_pool.specs.Prelude.{Catalog, catalog_of, packages, is_installed, same_name, marks_of, is_kept, feature_candidates}
 use Rattle.solv_pool.specs.Best.{evr_of, compare_evrs}
 use Rattle.solv_pool.specs.Installable.{is_installable}
-use Rattle.solv_pool.specs.JobMarks.{marks_of}
 use Rattle.solv_pool.specs.Providing.{obsoletes}
 use Rattle.solv_pool.specs.Updates.{coexist, is_feature, same_build}
 use Rattle.solv_pool.specs.Inner.RuleMeaning.{holds_some}
-use Rattle.solv_pool.specs.HardRules.{is_kept, feature_candidates}
 use Rattle.solv_pool.specs.declared.tasks.Flags.{Flags}
 use Rattle.solv_pool.specs.declared.job_marks.Marks.{Marks}
 use Rattle.solv_pool.proofs.Best.{top_of}

@@ -11,12 +11,10 @@ use Rattle.solv_list.proofs.Numbers.{equal_swapped}
 use Rattle.solv_base.specs.Dependency.{Dep, Capability, one, plain, versioned, map_dep, tree}
 use Rattle.solv_base.specs.Pool.{Held, text_at, text_tree}
 use Rattle.solv_base.specs.declared.comparison.Cmp.{Cmp}
-use Rattle.solv_pool.specs.Words.{passes}
-use Rattle.solv_pool.specs.Catalog.{Catalog, catalog_of, packages, members, package_at, is_installed, same_name}
+use Rattle.solv_pool.specs.Prelude.{passes, Catalog, catalog_of, packages, members, package_at, is_installed, same_name, written_package}
 use Rattle.solv_pool.specs.Providing.{provide_meets, provides, has, covers, obsoletes}
 use Rattle.solv_pool.specs.Installable.{is_installable}
 use Rattle.solv_pool.specs.Updates.{coexist, is_feature}
-use Rattle.solv_pool.specs.Written.{written_package}
 use Rattle.solv_pool.specs.declared.job_marks.Marks.{Marks}
 use Rattle.solv_pool.specs.declared.packages.Package.{Package}
 use Rattle.solv_pool.specs.declared.tasks.Task.{Task}

@@ -8,19 +8,13 @@ use Rattle.std.proofs.lemmas.List.FromFn.{length-range_with_len}
 use Rattle.solv_list.proofs.Booleans.{first_of_both, second_of_both}
 use Rattle.solv_base.specs.Dependency.{Dep, one, versioned, package_wise}
 use Rattle.solv_base.specs.Pool.{text_tree}
-use Rattle.solv_pool.specs.Words.{is_among, when}
-use Rattle.solv_pool.specs.Catalog.{Catalog, catalog_of, packages, members, package_at, dependency, is_installed, same_name}
+use Rattle.solv_pool.specs.Prelude.{is_among, when, Catalog, catalog_of, packages, members, package_at, dependency, is_installed, same_name, is_in, is_out, with_package, clauses_of, clause_count, all_meeting, shape_clauses, package_meets, leaving_out, marked, marks_of, HardRule, not_installable, req, con, rich_con, obs, same, infarch, update, dup, feature, install, erase, lock, best_job, shape_of, counted_requirements, is_conflicting, conflict_rules, counted_rich_conflicts, obsoletion_rules, is_later_namesake, rules_asked_by, package_rules, is_inferior, infarch_rules, update_candidates, feature_candidates, successors, successor_rule, is_kept, kept_packages, update_rules, feature_rules, rule_of_job, best_job_rule, job_rules, best_job_rules, best_update_rules, hard_rules}
 use Rattle.solv_pool.specs.Best.{best}
-use Rattle.solv_pool.specs.Clauses.{is_in, is_out, with_package, clauses_of, clause_count, all_meeting, shape_clauses}
 use Rattle.solv_pool.specs.Counting.{requirement_counts, rich_conflict_counts}
-use Rattle.solv_pool.specs.Holding.{package_meets, leaving_out}
 use Rattle.solv_pool.specs.Installable.{is_installable}
 use Rattle.solv_pool.specs.Inner.JobKinds.{is_install, is_update}
-use Rattle.solv_pool.specs.JobMarks.{marked, marks_of}
-use Rattle.solv_pool.specs.RuleMeaning.{HardRule, not_installable, req, con, rich_con, obs, same, infarch, update, dup, feature, install, erase, lock, best_job, shape_of}
 use Rattle.solv_pool.specs.Selections.{selects, selection}
 use Rattle.solv_pool.specs.Updates.{is_feature, is_legal, flags_allow, may_stay, feature_set, itself_and, dup_set}
-use Rattle.solv_pool.specs.HardRules.{counted_requirements, is_conflicting, conflict_rules, counted_rich_conflicts, obsoletion_rules, is_later_namesake, rules_asked_by, package_rules, is_inferior, infarch_rules, update_candidates, feature_candidates, successors, successor_rule, is_kept, kept_packages, update_rules, feature_rules, rule_of_job, best_job_rule, job_rules, best_job_rules, best_update_rules, hard_rules}
 use Rattle.solv_pool.specs.Inner.HardRules.{not_installable_rules, requirement_rules, package_wise_conflicts, conflicting, rich_conflict_rules, obsoleted, later_namesakes, same_name_rules, rules_of_package, inferior_packages, has_update_rule, numbered_jobs, selected_installed, best_update_rule}
 use Rattle.solv_pool.specs.declared.job_marks.Marks.{Marks}
 use Rattle.solv_pool.specs.declared.jobs.Action.{Action}

@@ -6,14 +6,10 @@ use Rattle.std.proofs.lemmas.Bool.Decides.{nat_tests}
 use Rattle.solv_list.proofs.Booleans.{first_of_both, second_of_both, false_of_not, and_swapped, true_is_not_false}
 use Rattle.solv_list.proofs.Numbers.{equal_swapped}
 use Rattle.solv_base.specs.Dependency.{package_wise}
-use Rattle.solv_pool.specs.Words.{passes}
+use Rattle.solv_pool.specs.Prelude.{passes, Catalog, catalog_of, packages, members, package_at, dependency, capability_at, is_installed, same_name, marked, marks_of, HardRule, req, con, rich_con, obs, same, counted_requirements, conflict_rules, is_conflicting, counted_rich_conflicts, obsoletion_rules, is_obsoleted, is_later_namesake, rules_asked_by}
 use Rattle.solv_pool.specs.Providing.{is_named, covers}
-use Rattle.solv_pool.specs.Catalog.{Catalog, catalog_of, packages, members, package_at, dependency, capability_at, is_installed, same_name}
-use Rattle.solv_pool.specs.JobMarks.{marked, marks_of}
 use Rattle.solv_pool.specs.Counting.{requirement_counts, rich_conflict_counts}
 use Rattle.solv_pool.specs.Updates.{coexist}
-use Rattle.solv_pool.specs.RuleMeaning.{HardRule, req, con, rich_con, obs, same}
-use Rattle.solv_pool.specs.HardRules.{counted_requirements, conflict_rules, is_conflicting, counted_rich_conflicts, obsoletion_rules, is_obsoleted, is_later_namesake, rules_asked_by}
 use Rattle.solv_pool.specs.Inner.HardRules.{not_installable_rules, requirement_rules, package_wise_conflicts, conflicting, rich_conflict_rules, obsoleted, same_name_rules, later_namesakes}
 use Rattle.solv_pool.specs.declared.packages.Package.{Package}
 use Rattle.solv_pool.specs.declared.packages.Need.{Need}

@@ -4,10 +4,8 @@ use Rattle.std.specs.Prelude.{nat_lt, nat_le}
 use Rattle.std.proofs.lemmas.Bool.{and_from}
 use Rattle.std.proofs.lemmas.Bool.Decides.{nat_tests}
 use Rattle.solv_list.proofs.Lists.{place_there}
-use Rattle.solv_pool.specs.Words.{passes}
-use Rattle.solv_pool.specs.Catalog.{Catalog, packages, package_at}
+use Rattle.solv_pool.specs.Prelude.{passes, Catalog, packages, package_at, is_pack}
 use Rattle.solv_pool.specs.declared.packages.Package.{Package}
-use Rattle.solv_pool.specs.TaskBelonging.{is_pack}
 use Rattle.solv_pool.proofs.Members.{Has, has_among}
 use Rattle.solv_trans.proofs.Asking.{packages_bound}
 use Rattle.solv_plan.proofs.Tables.{has_range}

@@ -1,10 +1,7 @@
 -- A set that meets the hard rules meets the rules of each package, of what is kept, and of jobs.
 use Rattle.std.proofs.Common.{◌≡◌, ℕ, Bool, true, List, ◌++◌, Some}
-use Rattle.solv_pool.specs.Catalog.{Catalog, catalog_of, packages, package_at}
-use Rattle.solv_pool.specs.JobMarks.{marks_of}
-use Rattle.solv_pool.specs.RuleMeaning.{HardRule, feature, meets_rule}
+use Rattle.solv_pool.specs.Prelude.{Catalog, catalog_of, packages, package_at, marks_of, HardRule, feature, meets_rule, rules_asked_by, package_rules, infarch_rules, update_rules, feature_rules, job_rules, best_job_rules, best_update_rules, hard_rules, is_kept, kept_packages, feature_candidates}
 use Rattle.solv_pool.specs.Inner.RuleMeaning.{holds_some}
-use Rattle.solv_pool.specs.HardRules.{rules_asked_by, package_rules, infarch_rules, update_rules, feature_rules, job_rules, best_job_rules, best_update_rules, hard_rules, is_kept, kept_packages, feature_candidates}
 use Rattle.solv_pool.specs.Inner.HardRules.{rules_of_package}
 use Rattle.solv_pool.specs.declared.packages.Package.{Package}
 use Rattle.solv_pool.specs.declared.tasks.Task.{Task}

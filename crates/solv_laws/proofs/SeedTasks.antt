@@ -9,9 +9,7 @@ use Rattle.std.proofs.lemmas.List.Folds.{list_all-map}
 use Rattle.std.proofs.lemmas.List.Sums.{sum_by-cons}
 use Rattle.solv_list.proofs.Lists.{bytes_themselves, same_bytes}
 use Rattle.solv_base.specs.Pool.{Held, text_at, text_tree}
-use Rattle.solv_pool.specs.Catalog.{catalog_of}
-use Rattle.solv_pool.specs.HardRules.{hard_rules}
-use Rattle.solv_pool.specs.Written.{WrittenNeed, WrittenPackage, written_package}
+use Rattle.solv_pool.specs.Prelude.{catalog_of, hard_rules, WrittenNeed, WrittenPackage, written_package}
 use Rattle.solv_pool.specs.declared.packages.Package.{Package}
 use Rattle.solv_pool.specs.declared.tasks.Task.{Task}
 use Rattle.solv_questions.proofs.Asking.{in_range}

@@ -5,7 +5,7 @@ use Rattle.std.specs.Ordering.{int_eq}
 use Rattle.std.proofs.lemmas.Bool.{or_left, or_right, or_cases, or_parts, and_parts, and_from, cases_Bool, cases_lt, false≢true, lt-ltb, ltb-true, false_from_ne_true}
 use Rattle.std.proofs.lemmas.List.{map-append, take-take}
 use Rattle.std.proofs.lemmas.List.Folds.{list_any-append}
-use Rattle.solv_pool.specs.Propagation.{is_fact, is_refuted}
+use Rattle.solv_pool.specs.Prelude.{is_fact, is_refuted}
 use Rattle.solv_derive.proofs.Facts.{same_self, known_later, known_same, known_cases, neg-neg}
 use Rattle.solv_trail.specs.Inner.Derivation.{IsConsistent}
 use Rattle.solv_trail.proofs.Walk.{take_known}

@@ -6,9 +6,8 @@ use Rattle.std.specs.Ordering.{int_eq}
 use Rattle.std.proofs.lemmas.Bool.{and_parts, and_from, cases_Bool, cases_lt, false≢true, ltb-true, lt-ltb, false_from_ne_true}
 use Rattle.std.proofs.lemmas.List.{reverse-append, take_all, take-take}
 use Rattle.std.proofs.lemmas.List.Folds.{list_all-append}
-use Rattle.solv_pool.specs.Propagation.{is_fact, is_refuted, is_open}
+use Rattle.solv_pool.specs.Prelude.{is_fact, is_refuted, is_open, names_package, is_over}
 use Rattle.solv_derive.specs.Forced.{is_falsified}
-use Rattle.solv_pool.specs.Range.{names_package, is_over}
 use Rattle.solv_derive.specs.declared.logs.Hint.{Hint}
 use Rattle.solv_derive.proofs.Facts.{known_here, known_later, known_same, known_cases, neg-neg, all_from, all_member, open_from}
 use Rattle.solv_derive.proofs.Tables.{names_neg}

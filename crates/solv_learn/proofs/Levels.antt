@@ -3,7 +3,7 @@ use Rattle.std.proofs.Common.{◌≡◌, ℕ, ◌+◌, ◌<◌, ◌≤◌, true,
 use Rattle.std.specs.Prelude.{ℤ, pos, neg_ℤ, nat_lt}
 use Rattle.std.proofs.lemmas.Bool.{cases_lt, false≢true, lt-ltb, ltb-true, false_from_ne_true}
 use Rattle.std.proofs.lemmas.List.{take_more}
-use Rattle.solv_pool.specs.Propagation.{is_fact, is_refuted}
+use Rattle.solv_pool.specs.Prelude.{is_fact, is_refuted}
 use Rattle.solv_trail.proofs.Walk.{known_at}
 use Rattle.solv_learn.proofs.Collected.{one_of}
 use Rattle.std.proofs.lemmas.List.Folds.{list_any-append}

@@ -4,7 +4,7 @@ use Rattle.std.specs.Prelude.{ℤ, pos, neg_ℤ, nat_lt}
 use Rattle.std.specs.Ordering.{int_eq}
 use Rattle.std.proofs.lemmas.Bool.{false≢true, cases_Bool, cases_lt, lt-ltb, ltb-true, false_from_ne_true}
 use Rattle.std.proofs.lemmas.List.{take_all}
-use Rattle.solv_pool.specs.Propagation.{is_fact, is_refuted, is_open}
+use Rattle.solv_pool.specs.Prelude.{is_fact, is_refuted, is_open}
 use Rattle.solv_derive.specs.Forced.{is_falsified, forced}
 use Rattle.solv_derive.specs.Inner.Forced.{is_satisfied}
 use Rattle.solv_derive.specs.Logs.{ends_in_conflict}

@@ -1,7 +1,7 @@
 //! A set of literals.
 ghost use Rattle.std.specs.Prelude.{◌≡◌, ◌<◌, ◌==◌, ◌||◌, ℕ, ℤ, true, false, IfOk};
 ghost use Rattle.std.specs.Ordering.{int_eq};
-ghost use Rattle.solv_pool.specs.Range.{names_package};
+ghost use Rattle.solv_pool.specs.Prelude.{names_package};
 ghost use Rattle.solv_learn.specs.Inner.Marks.{has, has_place};
 ghost use Rattle.solv_learn.specs.Inner.Places.{IsLast};
 

@@ -1,9 +1,8 @@
 //! Back over the literals that are known, from a falsified rule to a clause that follows.
 ghost use Rattle.std.specs.Prelude.{◌≡◌, ◌^◌, ◌<◌, ◌≤◌, ◌+◌, ◌-◌, ◌++◌, ◌∷◌, [], ℕ, ℤ, neg_ℤ, pos, Bool, true, false, List, Option, Some, map, take, length, reverse, slice_get, slice_index, slice_index_or, IfOk, OnOk};
 ghost use Rattle.std.specs.List.{list_all};
-ghost use Rattle.solv_pool.specs.Propagation.{is_fact, is_refuted};
+ghost use Rattle.solv_pool.specs.Prelude.{is_fact, is_refuted, names_package, is_over, are_over};
 ghost use Rattle.solv_derive.specs.Forced.{is_falsified};
-ghost use Rattle.solv_pool.specs.Range.{names_package, is_over, are_over};
 ghost use Rattle.solv_derive.specs.declared.logs.Hint.{Hint};
 ghost use Rattle.solv_trail.specs.Inner.Propagated.{IsUsed, IsReasoned};
 ghost use Rattle.solv_learn.specs.Inner.Collecting.{IsCollected, HasMarked, HavePlaces};

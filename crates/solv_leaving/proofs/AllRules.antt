@@ -4,15 +4,9 @@ use Rattle.std.proofs.lemmas.Bool.{cases_Bool, false≢true}
 use Rattle.std.specs.Prelude.{filter, flat_map, if◌then◌else◌}
 use Rattle.std.specs.Option.{option_map_or}
 use Rattle.solv_list.proofs.Booleans.{true_of_not}
-use Rattle.solv_base.specs.Dependency.{package_wise}
-use Rattle.solv_pool.specs.Words.{passes}
-use Rattle.solv_pool.specs.Catalog.{Catalog, packages, package_at, dependency}
-use Rattle.solv_pool.specs.Clauses.{rule_clauses, words, words_of_all}
+use Rattle.solv_pool.specs.Prelude.{package_wise, passes, Catalog, packages, package_at, dependency, rule_clauses, words, words_of_all, conflict_rules, obsoletion_rules, rules_asked_by, package_rules, infarch_rules, update_rules, feature_rules, job_rules, best_job_rules, best_update_rules, hard_rules_by, marked, HardRule, req, shape_of}
 use Rattle.solv_pool.specs.Counting.{requirement_counts}
-use Rattle.solv_pool.specs.HardRules.{conflict_rules, obsoletion_rules, rules_asked_by, package_rules, infarch_rules, update_rules, feature_rules, job_rules, best_job_rules, best_update_rules, hard_rules_by}
 use Rattle.solv_pool.specs.Inner.HardRules.{not_installable_rules, requirement_rules, rich_conflict_rules, same_name_rules, rules_of_package}
-use Rattle.solv_pool.specs.JobMarks.{marked}
-use Rattle.solv_pool.specs.RuleMeaning.{HardRule, req, shape_of}
 use Rattle.solv_pool.specs.declared.jobs.Job.{Job}
 use Rattle.solv_pool.specs.declared.job_marks.Marks.{Marks}
 use Rattle.solv_pool.specs.declared.packages.Package.{Package}

@@ -1,9 +1,8 @@
 -- Tables of what may be asked for by itself.
 use Rattle.std.proofs.Common.{◌≡◌, ◌+◌, ◌<◌, Bool, List, length, ap, ◌∙◌, arith}
-use Rattle.solv_pool.specs.Catalog.{Catalog}
+use Rattle.solv_pool.specs.Prelude.{Catalog, mark_each}
 use Rattle.solv_pool.specs.JobKinds.{job_selects}
 use Rattle.solv_pool.specs.Inner.JobKinds.{is_install}
-use Rattle.solv_pool.specs.JobMarks.{mark_each}
 use Rattle.solv_pool.specs.declared.jobs.Job.{Job}
 use Rattle.solv_pool.specs.declared.job_marks.Marks.{Marks}
 use Rattle.solv_pool.specs.declared.tasks.Flags.{Flags}

@@ -6,10 +6,7 @@ use Rattle.std.specs.Option.{option_map_or}
 use Rattle.std.proofs.lemmas.Bool.Decides.{nat_tests}
 use Rattle.solv_list.proofs.Lists.{all_at, all_left, all_right}
 use Rattle.solv_list.proofs.Booleans.{first_of_both, second_of_both}
-use Rattle.solv_pool.specs.Belonging.{fits, names_of, relations_of}
-use Rattle.solv_pool.specs.Catalog.{Catalog, catalog_of, packages, package_at}
-use Rattle.solv_pool.specs.JobMarks.{marked}
-use Rattle.solv_pool.specs.TaskBelonging.{IsClosed}
+use Rattle.solv_pool.specs.Prelude.{fits, names_of, relations_of, Catalog, catalog_of, packages, package_at, marked, IsClosed}
 use Rattle.solv_pool.specs.declared.packages.Need.{Need}
 use Rattle.solv_pool.specs.declared.packages.Package.{Package}
 use Rattle.solv_pool.specs.declared.tasks.Task.{Task}

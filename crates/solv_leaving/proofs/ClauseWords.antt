@@ -3,9 +3,7 @@ use Rattle.std.proofs.Common.{◌≡◌, ◌≤◌, ◌+◌, ℕ, Bool, true, fa
 use Rattle.std.specs.Prelude.{ℤ, filter, nat_lt}
 use Rattle.std.proofs.lemmas.Bool.Decides.{nat_tests}
 use Rattle.std.proofs.lemmas.List.{length-map}
-use Rattle.solv_pool.specs.Catalog.{Catalog}
-use Rattle.solv_pool.specs.Clauses.{is_out, Clause, shape_clauses, same_literal, contains_literal, is_always_true, firsts, shortened, kept, number_of, in_numbers, rule_clauses, words, words_of_all}
-use Rattle.solv_pool.specs.RuleMeaning.{HardRule, shape_of}
+use Rattle.solv_pool.specs.Prelude.{Catalog, is_out, Clause, shape_clauses, same_literal, contains_literal, is_always_true, firsts, shortened, kept, number_of, in_numbers, rule_clauses, words, words_of_all, HardRule, shape_of}
 use Rattle.solv_pool.proofs.Members.{Has}
 use Rattle.solv_rules.specs.Books.{most_words, overrun, rich_fault, first_fault}
 use Rattle.solv_rules.specs.Inner.Books.{or_else, rule_fault}

@@ -3,10 +3,7 @@ use Rattle.std.proofs.Common.{◌≡◌, ℕ, zero, suc, ◌+◌, ◌<◌, ◌�
 use Rattle.std.specs.Prelude.{not}
 use Rattle.std.specs.List.{list_all, list_any}
 use Rattle.std.proofs.lemmas.Bool.{and_from, false≢true, or_left, or_right, cases_lt}
-use Rattle.solv_pool.specs.Words.{is_among, passes}
-use Rattle.solv_pool.specs.Catalog.{Catalog, packages, package_at, is_installed}
-use Rattle.solv_pool.specs.HardRules.{feature_candidates}
-use Rattle.solv_pool.specs.JobMarks.{marked}
+use Rattle.solv_pool.specs.Prelude.{is_among, passes, Catalog, packages, package_at, is_installed, feature_candidates, marked}
 use Rattle.solv_pool.specs.Needs.{serves_package}
 use Rattle.solv_pool.specs.declared.jobs.Job.{Job}
 use Rattle.solv_pool.specs.declared.job_marks.Marks.{Marks}

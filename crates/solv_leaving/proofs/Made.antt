@@ -3,17 +3,13 @@ use Rattle.std.proofs.Common.{◌≡◌, ◌⊎◌, ℕ, ◌+◌, Bool, true, fa
 use Rattle.std.specs.Prelude.{filter}
 use Rattle.std.specs.List.{enumerate_from}
 use Rattle.std.proofs.lemmas.Bool.{and_parts, and_from, cases_Bool}
-use Rattle.solv_pool.specs.Words.{when, is_among}
-use Rattle.solv_pool.specs.Catalog.{Catalog, packages, package_at}
+use Rattle.solv_pool.specs.Prelude.{when, is_among, Catalog, packages, package_at, counted_requirements, conflict_rules, counted_rich_conflicts, obsoletion_rules, rules_asked_by, package_rules, infarch_rules, successors, successor_rule, feature_candidates, kept_packages, update_rules, feature_rules, rule_of_job, job_rules, best_job_rule, best_job_rules, best_update_rules, hard_rules_by, marked, HardRule, not_installable, req, con, rich_con, obs, same, infarch, update, dup, feature, install, best_job}
 use Rattle.solv_pool.specs.Best.{best}
 use Rattle.solv_pool.specs.Counting.{requirement_counts}
-use Rattle.solv_pool.specs.HardRules.{counted_requirements, conflict_rules, counted_rich_conflicts, obsoletion_rules, rules_asked_by, package_rules, infarch_rules, successors, successor_rule, feature_candidates, kept_packages, update_rules, feature_rules, rule_of_job, job_rules, best_job_rule, best_job_rules, best_update_rules, hard_rules_by}
 use Rattle.solv_pool.specs.Inner.HardRules.{not_installable_rules, requirement_rules, package_wise_conflicts, conflicting, rich_conflict_rules, obsoleted, same_name_rules, later_namesakes, rules_of_package, inferior_packages, has_update_rule, numbered_jobs, selected_installed, best_update_rule}
 use Rattle.solv_pool.specs.Installable.{is_installable}
 use Rattle.solv_pool.specs.JobKinds.{job_selects}
 use Rattle.solv_pool.specs.Inner.JobKinds.{is_install, is_update}
-use Rattle.solv_pool.specs.JobMarks.{marked}
-use Rattle.solv_pool.specs.RuleMeaning.{HardRule, not_installable, req, con, rich_con, obs, same, infarch, update, dup, feature, install, best_job}
 use Rattle.solv_pool.specs.Selections.{selects, selection}
 use Rattle.solv_pool.specs.declared.jobs.Action.{Action}
 use Rattle.solv_pool.specs.declared.jobs.Action.TheVariants as action

@@ -1,7 +1,7 @@
 -- Nothing may be left out.
 use Rattle.std.proofs.Common.{List, [], refl}
 use Rattle.std.proofs.lemmas.Bool.{false≢true}
-use Rattle.solv_pool.specs.Catalog.{Catalog}
+use Rattle.solv_pool.specs.Prelude.{Catalog}
 use Rattle.solv_pool.specs.declared.jobs.Job.{Job}
 use Rattle.solv_pool.specs.declared.job_marks.Marks.{Marks}
 use Rattle.solv_pool.specs.declared.tasks.Flags.{Flags}

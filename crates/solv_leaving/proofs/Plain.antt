@@ -3,9 +3,7 @@ use Rattle.std.proofs.Common.{◌≡◌, ℕ, zero, suc, ◌+◌, ◌<◌, Bool,
 use Rattle.std.specs.Prelude.{slice_get}
 use Rattle.std.specs.List.{list_all}
 use Rattle.std.proofs.lemmas.Bool.{false≢true, or_left}
-use Rattle.solv_base.specs.Dependency.{Dep, and, or, joined, under, under_else, missing, package_wise}
-use Rattle.solv_pool.specs.Words.{passes}
-use Rattle.solv_pool.specs.Catalog.{Catalog, package_at, dependency}
+use Rattle.solv_pool.specs.Prelude.{Dep, and, or, joined, under, under_else, missing, package_wise, passes, Catalog, package_at, dependency}
 use Rattle.solv_pool.specs.declared.packages.Package.{Package}
 use Rattle.solv_pool.specs.declared.packages.Need.{Need}
 use Rattle.solv_leaving.specs.Leaving.{asks_plainly, is_plainly_met}

@@ -4,11 +4,8 @@ use Rattle.std.specs.Prelude.{filter}
 use Rattle.std.specs.List.{list_all}
 use Rattle.std.proofs.lemmas.Bool.{false≢true}
 use Rattle.std.proofs.lemmas.List.{length-map}
-use Rattle.solv_base.specs.Dependency.{Dep, and, or, joined, under, under_else, missing, package_wise}
+use Rattle.solv_pool.specs.Prelude.{Dep, and, or, joined, under, under_else, missing, package_wise, Catalog, dependency, Clause, is_in, with_package, all_meeting, clauses_package_wise, clauses_of, clause_count, shape_clauses, HardRule, req, shape_of}
 use Rattle.solv_list.proofs.Booleans.{first_of_both, second_of_both}
-use Rattle.solv_pool.specs.Catalog.{Catalog, dependency}
-use Rattle.solv_pool.specs.Clauses.{Clause, is_in, with_package, all_meeting, clauses_package_wise, clauses_of, clause_count, shape_clauses}
-use Rattle.solv_pool.specs.RuleMeaning.{HardRule, req, shape_of}
 use Rattle.solv_pool.specs.declared.packages.Need.{Need}
 use Rattle.solv_rules.specs.Books.{rich_by, rich_fault}
 use Rattle.solv_leaving.proofs.ClauseWords.{raw_words, size, size_made}

@@ -3,7 +3,7 @@ use Rattle.std.proofs.Common.{◌≡◌, ◌≤◌, ◌+◌, ◌*◌, ℕ, Bool,
 use Rattle.std.specs.Prelude.{filter, flat_map, sum_by}
 use Rattle.std.proofs.lemmas.List.Sums.{sum_by-cons}
 use Rattle.solv_list.proofs.Numbers.{one_time_more}
-use Rattle.solv_pool.specs.Words.{when}
+use Rattle.solv_pool.specs.Prelude.{when}
 use Rattle.solv_pool.proofs.Members.{Has}
 
 abbrev pub total : {X : Type 0} → (X → ℕ) → List X → ℕ

@@ -4,10 +4,7 @@ use Rattle.std.specs.List.{list_any, list_all}
 use Rattle.std.specs.Bool.{beq}
 use Rattle.std.proofs.lemmas.Bool.{and_parts, and_from, or_cases, or_left, or_right, false≢true}
 use Rattle.std.proofs.lemmas.List.Folds.{list_any-append}
-use Rattle.solv_base.specs.Dependency.{Dep, one, namespace, and, or, with, without, if_holds, joined, under, package_wise}
-use Rattle.solv_base.specs.Places.{fits_place, unconditional}
-use Rattle.solv_pool.specs.Catalog.{Catalog, members, is_installed}
-use Rattle.solv_pool.specs.Holding.{package_meets, member_meets, holds}
+use Rattle.solv_pool.specs.Prelude.{Dep, one, namespace, and, or, with, without, if_holds, joined, under, package_wise, fits_place, unconditional, Catalog, members, is_installed, package_meets, member_meets, holds}
 use Rattle.solv_pool.specs.Needs.{serves}
 use Rattle.solv_pool.specs.Parts.{parts}
 use Rattle.solv_pool.specs.Inner.RuleMeaning.{holds_some}

@@ -1,7 +1,7 @@
 -- Packages that nothing can ask for. Of what they require no rules are made, since no set that answers a task holds them.
 use Rattle.std.specs.Prelude.{ℕ, ◌≡◌, Bool, true, false, not, ◌&&◌, ◌||◌, List, [], ◌∷◌}
 use Rattle.std.specs.List.{list_all, list_any}
-use Rattle.solv_base.specs.Dependency.{Dep, and, or, if_holds, joined, under, under_else, missing, package_wise}
+use Rattle.solv_pool.specs.Prelude.{Dep, and, or, if_holds, joined, under, under_else, missing, package_wise}
 use Rattle.solv_pool.specs.Words.{is_among, passes}
 use Rattle.solv_pool.specs.Catalog.{Catalog, packages, package_at, dependency, is_installed}
 use Rattle.solv_pool.specs.HardRules.{feature_candidates}

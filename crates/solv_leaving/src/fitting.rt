@@ -1,9 +1,7 @@
 //! That the clauses of all rules would pass no limit.
 ghost use Rattle.std.specs.Prelude.{◌≡◌, ◌<◌, ◌≤◌, ◌+◌, length, nat_lt, nat_le, sum_by, true, IfSome};
 ghost use Rattle.std.specs.List.{list_all};
-ghost use Rattle.solv_pool.specs.Catalog.{Catalog, catalog_of};
-ghost use Rattle.solv_pool.specs.JobMarks.{marked};
-ghost use Rattle.solv_pool.specs.TaskBelonging.{IsClosed};
+ghost use Rattle.solv_pool.specs.Prelude.{Catalog, catalog_of, marked, IsClosed};
 ghost use Rattle.solv_prov.specs.Index.{IsIndexOf};
 ghost use Rattle.solv_rules.specs.Books.{most_words};
 ghost use Rattle.solv_leaving.specs.Inner.Fitting.{AllFit, within, need_words, words_at, words_left_out};

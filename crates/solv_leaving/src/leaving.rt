@@ -1,20 +1,15 @@
 //! Which packages are left out.
 ghost use Rattle.std.specs.Prelude.{◌≡◌, ◌≤◌, ◌<◌, true, length, IfOk};
 ghost use Rattle.std.specs.List.{list_all};
-ghost use Rattle.solv_base.specs.Dependency.{tree, package_wise};
-ghost use Rattle.solv_pool.specs.Belonging.{IsOver};
-ghost use Rattle.solv_pool.specs.Catalog.{catalog_of, package_at};
-ghost use Rattle.solv_pool.specs.TaskBelonging.{IsClosed};
-ghost use Rattle.solv_pool.specs.Words.{passes};
+ghost use Rattle.solv_pool.specs.Prelude.{tree, package_wise, IsOver, catalog_of, package_at, IsClosed, passes};
 ghost use Rattle.solv_prov.specs.Index.{IsIndexOf};
 ghost use Rattle.solv_jobs.specs.Marking.{HasMarks};
 ghost use Rattle.solv_clean.specs.Inner.Readiness.{dep_below, need_below};
 ghost use Rattle.solv_leaving.specs.Leaving.{LeavesOut, asks_plainly, is_plainly_met};
 
 use crate::starting::starts;
-use solv_base::{DepId, DepNode, Pool};
 use solv_clean::unreached;
-use solv_pool::{Marks, Need, PackNo, Task};
+use solv_pool::{DepId, DepNode, Marks, Need, PackNo, Pool, Task};
 use solv_prov::Providers;
 use std::alloc::{AllocError, Global};
 

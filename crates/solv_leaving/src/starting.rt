@@ -1,11 +1,7 @@
 //! Packages that may be asked for by themselves.
 ghost use Rattle.std.specs.Prelude.{ℕ, ◌≡◌, ◌≤◌, ◌<◌, ◌||◌, ◌==◌, true, length, IfOk, OnOk};
 ghost use Rattle.std.specs.List.{list_all};
-ghost use Rattle.solv_base.specs.Dependency.{tree, package_wise};
-ghost use Rattle.solv_pool.specs.Belonging.{IsOver};
-ghost use Rattle.solv_pool.specs.Catalog.{catalog_of, package_at};
-ghost use Rattle.solv_pool.specs.TaskBelonging.{IsClosed};
-ghost use Rattle.solv_pool.specs.Words.{is_among, passes};
+ghost use Rattle.solv_pool.specs.Prelude.{tree, package_wise, IsOver, catalog_of, package_at, IsClosed, is_among, passes};
 ghost use Rattle.solv_prov.specs.Index.{IsIndexOf};
 ghost use Rattle.solv_jobs.specs.Marking.{HasMarks};
 ghost use Rattle.solv_policy.specs.Inner.Candidates.{IsPlace};
@@ -13,9 +9,8 @@ ghost use Rattle.solv_clean.specs.Inner.Readiness.{need_below};
 ghost use Rattle.solv_clean.specs.Inner.Tables.{is_marked};
 ghost use Rattle.solv_leaving.specs.Inner.Starting.{AreMarked, AreStarted, AreStarts, kept_by, stands_alone, starts_by};
 
-use solv_base::Pool;
 use solv_jobs::{Mark, marked_by};
-use solv_pool::{Marks, Need, PackNo, Task};
+use solv_pool::{Marks, Need, PackNo, Pool, Task};
 use solv_prov::Providers;
 use solv_updates::{Ready, feature_candidates};
 use std::alloc::{AllocError, Global};

@@ -6,9 +6,7 @@ use Rattle.std.specs.List.{cons_option, list_all}
 use Rattle.std.proofs.lemmas.Bool.{and_parts}
 use Rattle.solv_core.specs.declared.verdicts.Event.{Event}
 use Rattle.solv_core.specs.declared.verdicts.Event.TheVariants.{Known, Took}
-use Rattle.solv_pool.specs.Catalog.{Catalog, is_installed}
-use Rattle.solv_pool.specs.TaskBelonging.{is_pack}
-use Rattle.solv_pool.specs.Words.{is_among, passes}
+use Rattle.solv_pool.specs.Prelude.{Catalog, is_installed, is_pack, is_among, passes}
 use Rattle.solv_trans.specs.Moving.{comes}
 use Rattle.solv_lines.specs.Inner.LineNames.{reason_lines}
 use Rattle.solv_lines.specs.Inner.Reasons.{HasReasons, brought, event_word, line_by, reason_word, told_line, word_in}

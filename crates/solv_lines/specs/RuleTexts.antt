@@ -2,8 +2,7 @@
 use Rattle.std.specs.Prelude.{ℕ, Bool, List, [], ◌++◌, Option, Some, None, codes, flat_map, option_and_then, slice_get, if◌then◌else◌}
 use Rattle.std.specs.List.{list_any}
 use Rattle.std.specs.Option.{option_map_or}
-use Rattle.solv_base.specs.Dependency.{Dep}
-use Rattle.solv_base.specs.Pool.{text_tree}
+use Rattle.solv_pool.specs.Prelude.{Dep, text_tree}
 use Rattle.solv_pool.specs.Catalog.{Catalog, catalog_of, members, dependency}
 use Rattle.solv_pool.specs.Holding.{package_meets}
 use Rattle.solv_pool.specs.PackageText.{package_text}

@@ -1,10 +1,7 @@
 //! The lines of what the user asked for, and of what nobody needs.
 ghost use Rattle.std.specs.Prelude.{◌≡◌, ◌++◌, true, length, nat_le, map, IfOk, OnOk};
 ghost use Rattle.std.specs.List.{list_all};
-ghost use Rattle.solv_pool.specs.Belonging.{IsOver};
-ghost use Rattle.solv_pool.specs.Catalog.{catalog_of};
-ghost use Rattle.solv_pool.specs.TaskBelonging.{IsClosed};
-ghost use Rattle.solv_pool.specs.Words.{is_among, when};
+ghost use Rattle.solv_pool.specs.Prelude.{IsOver, catalog_of, IsClosed, is_among, when};
 ghost use Rattle.solv_prov.specs.Index.{IsIndexOf};
 ghost use Rattle.solv_clean.specs.Unneeded.{users as users_of, unneeded as unneeded_of};
 ghost use Rattle.solv_lines.specs.Inner.LineNames.{with_lines, pack_line, need_lines, user_word, unneeded_word};

@@ -1,8 +1,6 @@
 //! The texts of solutions.
 ghost use Rattle.std.specs.Prelude.{ℕ, List, ◌≡◌, ◌++◌, map, slice_get, filter_map, IfOk, OnOk};
-ghost use Rattle.solv_pool.specs.Belonging.{IsOver};
-ghost use Rattle.solv_pool.specs.Catalog.{catalog_of};
-ghost use Rattle.solv_pool.specs.RuleMeaning.{rule_with};
+ghost use Rattle.solv_pool.specs.Prelude.{IsOver, catalog_of, rule_with};
 ghost use Rattle.solv_lines.specs.Inner.Features.{HasFeatures, HasSets};
 ghost use Rattle.solv_lines.specs.RuleTexts.{named};
 ghost use Rattle.solv_lines.specs.SolutionTexts.{job_text, going_text, element, solution_texts};

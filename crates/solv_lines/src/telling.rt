@@ -1,18 +1,15 @@
 //! What is said of rules.
 ghost use Rattle.std.specs.Prelude.{◌≡◌, ◌++◌, ◌<◌, ◌==◌, length, IfOk, OnOk, codes};
 ghost use Rattle.std.specs.List.{list_all};
-ghost use Rattle.solv_pool.specs.Belonging.{IsOver};
-ghost use Rattle.solv_pool.specs.Catalog.{catalog_of, dependency};
-ghost use Rattle.solv_pool.specs.RuleMeaning.{install, not_installable, same, infarch, set_at, rule_with};
+ghost use Rattle.solv_pool.specs.Prelude.{IsOver, catalog_of, dependency, install, not_installable, same, infarch, set_at, rule_with};
 ghost use Rattle.solv_prov.specs.Index.{IsIndexOf};
 ghost use Rattle.solv_lines.specs.RuleTexts.{named, asked, has_provider, requirement_text, text_of_rule};
 ghost use Rattle.solv_lines.specs.Inner.LineNames.{dependency_of_job};
 ghost use Rattle.solv_lines.specs.Inner.RuleTexts.{rule_text_at};
 
 use crate::writing::{append_package, write_package, write_relation};
-use solv_base::DepId;
 use solv_list::{Bytes, Items};
-use solv_pool::{Choice, JobNo, PackNo, Rule, Rules, SetNo, Task};
+use solv_pool::{Choice, DepId, JobNo, PackNo, Rule, Rules, SetNo, Task};
 use solv_prov::{Parts, Providers, parts_of};
 use std::alloc::{AllocError, Global};
 

@@ -1,7 +1,7 @@
 //! Questions that ask for nothing because of what is in and out, whichever rules are enabled.
 ghost use Rattle.std.specs.Prelude.{◌≡◌, ◌<◌, ◌==◌, ◌||◌, ◌&&◌, not, ℕ, true, false};
 ghost use Rattle.std.specs.List.{list_all};
-ghost use Rattle.solv_pool.specs.Propagation.{is_fact};
+ghost use Rattle.solv_pool.specs.Prelude.{is_fact};
 ghost use Rattle.solv_trail.specs.Inner.Numbers.{has};
 ghost use Rattle.solv_plan.specs.Inside.{some_inside};
 ghost use Rattle.solv_plan.specs.Inner.Settling.{all_outside, demand_quiet, keep_quiet};

@@ -2,10 +2,7 @@
 use Rattle.std.proofs.Common.{◌≡◌, ◌+◌, ◌<◌, ◌≤◌, not, ◌&&◌, ℕ, zero, suc, Bool, true, false, cond, List, [], ◌∷◌, ◌++◌, map, length, refl, sym, ap, ◌∙◌, arith, add-one, append_assoc, append-nil, eq-eqb}
 use Rattle.std.specs.Prelude.{filter, flat_map, ◌==◌, nat_le}
 use Rattle.std.specs.List.{list_all, enumerate_from, range_with_len}
-use Rattle.solv_pool.specs.Words.{when}
-use Rattle.solv_pool.specs.Catalog.{packages, is_installed}
-use Rattle.solv_pool.specs.JobMarks.{is_to_move}
-use Rattle.solv_pool.specs.RuleMeaning.{HardRule, rule_with, install, best_job, best_update, update, dup, feature}
+use Rattle.solv_pool.specs.Prelude.{when, packages, is_installed, is_to_move, HardRule, rule_with, install, best_job, best_update, update, dup, feature}
 use Rattle.solv_pool.specs.declared.hard_rules.Rule.{Rule}
 use Rattle.solv_pool.specs.declared.hard_rules.Rule.TheVariants as rule
 use Rattle.solv_pool.specs.declared.jobs.Job.{Job}

@@ -4,17 +4,12 @@ use Rattle.std.specs.Prelude.{filter, flat_map, if◌then◌else◌}
 use Rattle.std.specs.List.{list_all}
 use Rattle.std.specs.Option.{option_map_or}
 use Rattle.std.proofs.lemmas.Grind.{flat_map-append}
-use Rattle.solv_pool.specs.Words.{when, is_among}
-use Rattle.solv_pool.specs.Catalog.{packages, package_at}
+use Rattle.solv_pool.specs.Prelude.{when, is_among, packages, package_at, marked, is_pack, HardRule, not_installable, req, con, rich_con, obs, same, infarch, update, dup, feature, install, best_job, best_update, counted_requirements, conflict_rules, counted_rich_conflicts, obsoletion_rules, rules_asked_by, package_rules, infarch_rules, update_candidates, feature_candidates, successors, successor_rule, kept_packages, update_rules, feature_rules, rule_of_job, job_rules, best_job_rule, best_job_rules, best_update_rules}
 use Rattle.solv_pool.specs.Best.{best}
 use Rattle.solv_pool.specs.Inner.Best.{is_beaten}
 use Rattle.solv_pool.specs.Installable.{is_installable}
 use Rattle.solv_pool.specs.Selections.{selects, selection}
 use Rattle.solv_pool.specs.Inner.JobKinds.{is_install, is_update}
-use Rattle.solv_pool.specs.JobMarks.{marked}
-use Rattle.solv_pool.specs.TaskBelonging.{is_pack}
-use Rattle.solv_pool.specs.RuleMeaning.{HardRule, not_installable, req, con, rich_con, obs, same, infarch, update, dup, feature, install, best_job, best_update}
-use Rattle.solv_pool.specs.HardRules.{counted_requirements, conflict_rules, counted_rich_conflicts, obsoletion_rules, rules_asked_by, package_rules, infarch_rules, update_candidates, feature_candidates, successors, successor_rule, kept_packages, update_rules, feature_rules, rule_of_job, job_rules, best_job_rule, best_job_rules, best_update_rules}
 use Rattle.solv_pool.specs.Inner.HardRules.{not_installable_rules, requirement_rules, conflicting, package_wise_conflicts, rich_conflict_rules, obsoleted, later_namesakes, same_name_rules, rules_of_package, inferior_packages, has_update_rule, numbered_jobs, selected_installed, best_update_rule}
 use Rattle.solv_pool.specs.declared.packages.Package.{Package}
 use Rattle.solv_pool.specs.declared.packages.Need.{Need}

@@ -3,12 +3,7 @@ ghost use Rattle.std.specs.Prelude.{ℕ, List, ◌≡◌, ◌∷◌, [], ◌++�
 ghost use Rattle.std.specs.BTreeSet.{contains};
 ghost use Rattle.std.specs.List.{list_all, range_with_len};
 ghost use Rattle.std.specs.Ordering.{nat_cmp};
-ghost use Rattle.solv_pool.specs.Catalog.{catalog_of, is_installed};
-ghost use Rattle.solv_pool.specs.HardRules.{successors};
-ghost use Rattle.solv_pool.specs.JobMarks.{is_to_move};
-ghost use Rattle.solv_pool.specs.RuleMeaning.{rule_with, update, dup, feature, best_update};
-ghost use Rattle.solv_pool.specs.TaskBelonging.{is_pack};
-ghost use Rattle.solv_pool.specs.Words.{when, is_among};
+ghost use Rattle.solv_pool.specs.Prelude.{catalog_of, is_installed, successors, is_to_move, rule_with, update, dup, feature, best_update, is_pack, when, is_among};
 ghost use Rattle.solv_rules.specs.Books.{read_rules};
 ghost use Rattle.solv_questions.specs.Questions.{Request, request_of, far_candidates};
 ghost use Rattle.solv_questions.specs.Inner.Questions.{without_those, close_candidates};

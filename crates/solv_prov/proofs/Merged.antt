@@ -3,7 +3,7 @@ use Rattle.std.proofs.Common.{◌≡◌, ◌<◌, ◌+◌, ℕ, zero, suc, Bool,
 use Rattle.std.specs.Prelude.{filter, nat_lt, ◌==◌}
 use Rattle.std.specs.List.{range_with_len}
 use Rattle.std.proofs.lemmas.Bool.Decides.{nat_tests}
-use Rattle.solv_pool.specs.Words.{when}
+use Rattle.solv_pool.specs.Prelude.{when}
 use Rattle.solv_prov.specs.declared.merging.Joint.{Joint}
 use Rattle.solv_prov.specs.declared.merging.Joint.TheVariants.{Either, Both, FirstAlone}
 use Rattle.solv_prov.specs.Inner.Merging.{is_kept, merged_beside, merged, MergingJoinsTests}

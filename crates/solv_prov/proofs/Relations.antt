@@ -9,16 +9,9 @@ use Rattle.solv_prov.specs.declared.merging.Joint.{Joint}
 use Rattle.solv_prov.specs.declared.merging.Joint.TheVariants.{Either, Both, FirstAlone}
 use Rattle.solv_prov.specs.Inner.Merging.{is_kept, merged}
 use Rattle.solv_prov.proofs.Merged.{merging}
-use Rattle.solv_base.specs.Inner.Pool.{uses_below}
-use Rattle.solv_base.specs.Dependency.{Capability, Dep, one, namespace, or, with, without, joined, tree, tree_of_node, capability_of_node}
+use Rattle.solv_pool.specs.Prelude.{uses_below, Capability, Dep, one, namespace, or, with, without, joined, tree, tree_of_node, capability_of_node, Cmp, DepNode, Simple, Versioned, Namespace, And, Or, With, Without, If, IfElse, Unless, UnlessElse, when, passes, Catalog, packages, members, dependency, capability_at, text, package_meets}
 use Rattle.std.proofs.lemmas.List.{length-map}
-use Rattle.solv_base.specs.declared.comparison.Cmp.{Cmp}
-use Rattle.solv_base.specs.declared.relation.DepNode.{DepNode}
-use Rattle.solv_base.specs.declared.relation.DepNode.TheVariants.{Simple, Versioned, Namespace, And, Or, With, Without, If, IfElse, Unless, UnlessElse}
-use Rattle.solv_pool.specs.Words.{when, passes}
-use Rattle.solv_pool.specs.Catalog.{Catalog, packages, members, dependency, capability_at, text}
 use Rattle.solv_pool.specs.Providing.{name_of, has, has_namespace, is_named}
-use Rattle.solv_pool.specs.Holding.{package_meets}
 use Rattle.solv_prov.specs.declared.capability.Provide.{Provide}
 use Rattle.solv_prov.specs.Inner.Capabilities.{version_of}
 use Rattle.solv_prov.specs.Inner.Groups.{group_at}
@@ -28,7 +21,7 @@ use Rattle.solv_prov.specs.Inner.Index.{relations, names}
 use Rattle.solv_prov.proofs.Booleans.{filter_none, at_range, made_at}
 use Rattle.solv_list.proofs.Booleans.{first_of_both}
 use Rattle.std.proofs.lemmas.List.FromFn.{length-range_with_len}
-use Rattle.solv_base.proofs.Trees.{no_capability}
+use Rattle.solv_pool.proofs.Dependencies.{no_capability}
 
 -- what a relation of a dependency has
 abbrev providers_by : Catalog → Dep ℕ → List ℕ

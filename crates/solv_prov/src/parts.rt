@@ -2,7 +2,7 @@
 ghost use Rattle.std.specs.Prelude.{◌<◌, length};
 ghost use Rattle.solv_prov.specs.Inner.PartsBy.{AreParts};
 
-use solv_base::{DepId, DepNode, Pool};
+use solv_pool::{DepId, DepNode, Pool};
 
 /// The parts of a dependency: those that packages meet alone, and that stand in no condition.
 #[derive(Clone, Copy)]

@@ -3,7 +3,7 @@ use Rattle.std.proofs.Common.{◌≡◌, ◌<◌, ◌≤◌, ℕ, zero, suc, Boo
 use Rattle.std.specs.Prelude.{◌==◌, nat_lt, nat_le}
 use Rattle.std.specs.List.{list_all}
 use Rattle.std.proofs.lemmas.Bool.{and_parts, and_from, false≢true, eqb-true, ltb-true, lt-ltb, le-leb, leb-true}
-use Rattle.solv_pool.specs.Words.{is_among}
+use Rattle.solv_pool.specs.Prelude.{is_among}
 use Rattle.solv_rules.specs.Books.{rises}
 use Rattle.solv_remedy.specs.Remedies.{firsts}
 use Rattle.solv_remedy.specs.Inner.Conflicts.{listed_of, first_of, has_rule, is_single, place_in, first_rules, AreApart}

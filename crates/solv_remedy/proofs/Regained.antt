@@ -2,7 +2,7 @@
 use Rattle.std.proofs.Common.{◌≡◌, ◌≤◌, ℕ, Bool, true, false, not, ◌&&◌, ◌||◌, List, [], ◌++◌, refl, sym, subst, arith, ap, ◌∙◌, length, ◌∷◌, cond, inl, inr}
 use Rattle.std.specs.Prelude.{◌==◌, filter}
 use Rattle.std.proofs.lemmas.List.Folds.{list_any-append}
-use Rattle.solv_pool.specs.Words.{is_among}
+use Rattle.solv_pool.specs.Prelude.{is_among}
 use Rattle.solv_core.specs.Cores.{CoreOf}
 use Rattle.solv_core.specs.declared.refuting.RefutedRule.{RefutedRule}
 use Rattle.solv_questions.specs.Questions.{Request}

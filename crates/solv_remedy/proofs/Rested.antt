@@ -3,8 +3,7 @@ use Rattle.std.proofs.Common.{◌≡◌, ◌<◌, ℕ, Bool, true, false, not, �
 use Rattle.std.specs.Prelude.{◌==◌, filter, slice_get}
 use Rattle.std.specs.List.{list_all}
 use Rattle.std.proofs.lemmas.Bool.{and_from, or_cases, or_left, or_right, eqb-true, cases_Bool, false≢true}
-use Rattle.solv_pool.specs.RuleMeaning.{HardRule, is_fixed}
-use Rattle.solv_pool.specs.Words.{is_among}
+use Rattle.solv_pool.specs.Prelude.{HardRule, is_fixed, is_among}
 use Rattle.solv_derive.specs.Leaves.{leaves}
 use Rattle.solv_trail.specs.Asked.{is_enabled}
 use Rattle.solv_core.specs.Cores.{CoreOf}

@@ -2,8 +2,7 @@
 ghost use Rattle.std.specs.Prelude.{◌≡◌, ◌≤◌, ◌<◌, ◌+◌, ◌*◌, ◌∷◌, [], ℕ, Bool, List, true, false, not, length, map, nat_lt, is_none, IfOk, ◌&&◌};
 ghost use Rattle.std.specs.List.{list_all, AllZip};
 ghost use Rattle.std.specs.Option.{IfSome};
-ghost use Rattle.solv_pool.specs.RuleMeaning.{is_fixed as is_fixed_rule, rule_with};
-ghost use Rattle.solv_pool.specs.Words.{is_among};
+ghost use Rattle.solv_pool.specs.Prelude.{is_fixed as is_fixed_rule, rule_with, is_among};
 ghost use Rattle.solv_derive.specs.Leaves.{leaves};
 ghost use Rattle.solv_derive.specs.Logs.{is_good_log};
 ghost use Rattle.solv_derive.specs.Range.{steps_over};

@@ -2,7 +2,7 @@
 ghost use Rattle.std.specs.Prelude.{◌≡◌, ◌<◌, ◌++◌, ℕ, not, length, filter, IfOk};
 ghost use Rattle.solv_remedy.specs.Inner.GivingBack.{kept_rules};
 ghost use Rattle.solv_core.specs.declared.refuting.RefutedRule.{RefutedRule as Refuted};
-ghost use Rattle.solv_pool.specs.Words.{is_among};
+ghost use Rattle.solv_pool.specs.Prelude.{is_among};
 ghost use Rattle.solv_trail.specs.Asked.{is_enabled};
 
 use crate::smallest::{is_listed, switch_on};

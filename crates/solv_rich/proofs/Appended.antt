@@ -4,10 +4,7 @@ use Rattle.std.specs.Prelude.{filter, flat_map, nat_le, slice_get, unwrap_or, if
 use Rattle.std.specs.List.{list_all}
 use Rattle.std.proofs.lemmas.Bool.{and_parts}
 use Rattle.std.proofs.lemmas.List.{append-nil}
-use Rattle.solv_base.specs.Dependency.{Dep}
-use Rattle.solv_pool.specs.Words.{is_among}
-use Rattle.solv_pool.specs.Catalog.{Catalog, members}
-use Rattle.solv_pool.specs.Clauses.{Literal, Clause, is_in, is_out, is_always_true, shortened, kept, in_numbers, number_of, clauses_of}
+use Rattle.solv_pool.specs.Prelude.{Dep, is_among, Catalog, members, Literal, Clause, is_in, is_out, is_always_true, shortened, kept, in_numbers, number_of, clauses_of}
 use Rattle.solv_pool.proofs.ClauseNames.{clauses-members}
 use Rattle.solv_pool.proofs.ClauseNames.{package_of as named}
 use Rattle.solv_rich.specs.Inner.Counts.{ends_behind, HasAppended}

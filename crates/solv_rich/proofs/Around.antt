@@ -4,10 +4,7 @@ use Rattle.std.specs.Prelude.{filter, nat_le, ◌==◌, slice_get, unwrap_or, if
 use Rattle.std.specs.List.{list_any}
 use Rattle.std.proofs.lemmas.Bool.Decides.{nat_tests}
 use Rattle.std.proofs.lemmas.List.{take_all, drop_all, append-nil}
-use Rattle.solv_pool.specs.Holding.{package_meets}
-use Rattle.solv_base.specs.Dependency.{Dep}
-use Rattle.solv_pool.specs.Catalog.{Catalog, members}
-use Rattle.solv_pool.specs.Clauses.{all_meeting, clauses_package_wise}
+use Rattle.solv_pool.specs.Prelude.{package_meets, Dep, Catalog, members, all_meeting, clauses_package_wise}
 use Rattle.solv_rich.specs.Inner.Expansions.{package_clauses}
 use Rattle.solv_rich.specs.Inner.Singles.{without, rising}
 use Rattle.solv_rich.proofs.Rising.{left_out}

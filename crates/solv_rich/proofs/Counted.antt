@@ -2,7 +2,7 @@
 use Rattle.std.proofs.Common.{◌≡◌, ◌≤◌, ◌<◌, ℕ, Bool, true, ◌&&◌, length}
 use Rattle.std.specs.Prelude.{◌==◌}
 use Rattle.std.proofs.lemmas.Bool.{and_parts, eqb-true}
-use Rattle.solv_pool.specs.Clauses.{times}
+use Rattle.solv_pool.specs.Prelude.{times}
 use Rattle.solv_rich.specs.Counts.{saturated}
 use Rattle.solv_rich.specs.Inner.Expansions.{clauses_in, are_counted}
 use Rattle.solv_rich.specs.declared.expansion.Expansion.{Expansion}

@@ -1,9 +1,7 @@
 -- How many clauses are joined, or crossed, or made of a relation.
 use Rattle.std.proofs.Common.{◌≡◌, ℕ, ◌*◌, Bool, true, false, not, List, [], ◌∷◌, ◌++◌, length, map, Option, refl, ◌∙◌, arith, length-append}
 use Rattle.std.proofs.lemmas.List.{length-map}
-use Rattle.solv_base.specs.Dependency.{Dep}
-use Rattle.solv_pool.specs.Catalog.{Catalog, dependency}
-use Rattle.solv_pool.specs.Clauses.{Clause, is_out, times, all_meeting, clauses_package_wise, clauses_of}
+use Rattle.solv_pool.specs.Prelude.{Dep, Catalog, dependency, Clause, is_out, times, all_meeting, clauses_package_wise, clauses_of}
 use Rattle.solv_rich.specs.Inner.Operators.{clauses_by, count_package_wise, count_by}
 use Rattle.solv_rich.specs.declared.operators.Parts.{Parts}
 use Rattle.solv_rich.specs.declared.operators.Parts.TheVariants.{Packages, Joined, Crossed, Chosen, Nothing}

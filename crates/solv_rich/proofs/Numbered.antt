@@ -6,7 +6,7 @@ use Rattle.std.proofs.lemmas.Bool.Decides.{nat_tests}
 use Rattle.std.proofs.lemmas.Option.{slice_get-map}
 use Rattle.std.proofs.lemmas.List.{length-map}
 use Rattle.std.proofs.Math.Nat.{mod-eq-sub-mod, div-eq_of_lt, mod-eq_of_lt, div-eq-sub-div, mul-le-mul, div-lt_iff_lt-mul, mod-lt}
-use Rattle.solv_pool.specs.Clauses.{Clause, times}
+use Rattle.solv_pool.specs.Prelude.{Clause, times}
 use Rattle.solv_rich.specs.Counts.{saturated}
 use Rattle.solv_rich.specs.Inner.Expansions.{CrossesAt}
 use Rattle.solv_rich.proofs.Lengths.{length-times}

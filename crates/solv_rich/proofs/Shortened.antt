@@ -4,7 +4,7 @@ use Rattle.std.specs.Prelude.{filter, nat_lt, if◌then◌else◌}
 use Rattle.std.specs.List.{list_any, list_all}
 use Rattle.std.proofs.lemmas.Bool.Decides.{nat_tests}
 use Rattle.std.proofs.lemmas.List.Folds.{list_any-append}
-use Rattle.solv_pool.specs.Clauses.{Literal, Clause, is_in, is_out, same_literal, negation, contains_literal, is_always_true, firsts, shortened}
+use Rattle.solv_pool.specs.Prelude.{Literal, Clause, is_in, is_out, same_literal, negation, contains_literal, is_always_true, firsts, shortened}
 use Rattle.solv_rich.specs.Inner.Shortening.{package_of, each_first}
 use Rattle.solv_list.proofs.Booleans.{first_of_both, or_false, or_swapped, second_of_both}
 use Rattle.solv_list.proofs.Numbers.{zero_not_successor}

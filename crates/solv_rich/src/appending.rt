@@ -1,8 +1,7 @@
 //! The clauses of a dependency appended.
 ghost use Rattle.std.specs.Prelude.{◌≡◌, ◌≤◌, ◌<◌, ◌∷◌, [], length, take, slice_get, Some, OnOk, true};
 ghost use Rattle.std.specs.List.{list_all};
-ghost use Rattle.solv_pool.specs.Catalog.{catalog_of, dependency};
-ghost use Rattle.solv_pool.specs.Clauses.{Clause, clause_count, dependency_clauses, kept, in_numbers};
+ghost use Rattle.solv_pool.specs.Prelude.{catalog_of, dependency, Clause, clause_count, dependency_clauses, kept, in_numbers};
 ghost use Rattle.solv_prov.specs.Index.{IsIndexOf};
 ghost use Rattle.solv_rich.specs.Inner.Counts.{HasAppended};
 ghost use Rattle.solv_rich.specs.Inner.Expansions.{are_counted, clauses_in};
@@ -11,9 +10,8 @@ ghost use Rattle.solv_rich.specs.Inner.Shortening.{has_number};
 use crate::expanding::expand;
 use crate::expansion::{Expansion, Said, count_in, put_clause};
 use crate::shortening::append_clause;
-use solv_base::DepId;
 use solv_pack::Lit;
-use solv_pool::{PackNo, Task};
+use solv_pool::{DepId, PackNo, Task};
 use solv_prov::Providers;
 use std::alloc::AllocError;
 

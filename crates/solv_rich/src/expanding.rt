@@ -1,15 +1,13 @@
 //! What the clauses of a dependency are made of.
 ghost use Rattle.std.specs.Prelude.{◌≡◌, ◌≤◌, ◌<◌, ◌+◌, ◌++◌, length, take, drop, true, Some, IfOk};
-ghost use Rattle.solv_pool.specs.Clauses.{clauses_of, clauses_package_wise};
-ghost use Rattle.solv_pool.specs.Catalog.{catalog_of, dependency};
+ghost use Rattle.solv_pool.specs.Prelude.{clauses_of, clauses_package_wise, catalog_of, dependency};
 ghost use Rattle.solv_prov.specs.Index.{IsIndexOf};
 ghost use Rattle.solv_rich.specs.Inner.Expansions.{IsExpansion, package_clauses};
 ghost use Rattle.solv_rich.specs.Inner.Singles.{without, rising};
 
 use crate::expansion::{Expansion, cross, join};
 use crate::operators::{Parts, parts_of};
-use solv_base::DepId;
-use solv_pool::{PackNo, Task};
+use solv_pool::{DepId, PackNo, Task};
 use solv_prov::Providers;
 use std::alloc::{AllocError, Global};
 

@@ -1,6 +1,6 @@
 //! The clauses of a dependency, each of which is made by its number.
 ghost use Rattle.std.specs.Prelude.{◌≡◌, ◌≤◌, ◌<◌, ◌++◌, ◌==◌, ◌&&◌, List, length, map, slice_get, Some, true, IfOk, OnOk};
-ghost use Rattle.solv_pool.specs.Clauses.{Clause, is_in, times};
+ghost use Rattle.solv_pool.specs.Prelude.{Clause, is_in, times};
 ghost use Rattle.solv_rich.specs.Counts.{saturated};
 ghost use Rattle.solv_rich.specs.Inner.Expansions.{literal_of, clauses_in, are_counted, IsExpansion, CrossesAt};
 

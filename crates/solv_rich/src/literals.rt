@@ -1,6 +1,6 @@
 //! What a literal says of a package.
 ghost use Rattle.std.specs.Prelude.{◌≡◌, ◌<◌, nat_le, true};
-ghost use Rattle.solv_pool.specs.Clauses.{same_literal, negation as negation_of, number_of};
+ghost use Rattle.solv_pool.specs.Prelude.{same_literal, negation as negation_of, number_of};
 ghost use Rattle.solv_rich.specs.Inner.Expansions.{literal_of};
 ghost use Rattle.solv_rich.specs.Inner.Shortening.{package_of};
 

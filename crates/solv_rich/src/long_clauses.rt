@@ -1,7 +1,7 @@
 //! Clauses of many literals, which are looked up in sets.
 ghost use Rattle.std.specs.Prelude.{◌≡◌, ◌∷◌, ◌++◌, [], ◌&&◌, ◌||◌, not, length, map, take, nat_lt, IfOk, OnOk, true};
 ghost use Rattle.std.specs.List.{list_any, list_all};
-ghost use Rattle.solv_pool.specs.Clauses.{Clause, is_in, same_literal, negation as negation_of, is_always_true as is_true_always, number_of};
+ghost use Rattle.solv_pool.specs.Prelude.{Clause, is_in, same_literal, negation as negation_of, is_always_true as is_true_always, number_of};
 ghost use Rattle.solv_rich.specs.Inner.Expansions.{literal_of};
 ghost use Rattle.solv_rich.specs.Inner.LongClauses.{has_literal, IsSetOf};
 ghost use Rattle.solv_rich.specs.Inner.Shortening.{package_of, has_number, each_first};

@@ -1,12 +1,10 @@
 //! What the clauses of a relation are made of.
 ghost use Rattle.std.specs.Prelude.{◌≡◌, ◌<◌, Option, ℕ, length, true, if◌then◌else◌};
-ghost use Rattle.solv_pool.specs.Catalog.{catalog_of, dependency};
-ghost use Rattle.solv_pool.specs.Clauses.{clauses_of, clause_count};
+ghost use Rattle.solv_pool.specs.Prelude.{catalog_of, dependency, clauses_of, clause_count};
 ghost use Rattle.solv_rich.specs.Inner.Operators.{clauses_by, count_by, are_below};
 ghost use Rattle.solv_rich.specs.declared.operators.Parts.TheVariants.{Nothing};
 
-use solv_base::{DepId, DepNode};
-use solv_pool::Task;
+use solv_pool::{DepId, DepNode, Task};
 
 /// What the clauses are made of that say that a relation holds, or that it does not. The clauses of an operand say the same
 /// of it, unless another sense is named.

@@ -1,15 +1,13 @@
 //! How many clauses a relation of any form gives, before any of them is made.
 ghost use Rattle.std.specs.Prelude.{◌≡◌, ◌≤◌, ◌<◌, ◌+◌, ◌*◌, ℕ, length};
-ghost use Rattle.solv_pool.specs.Catalog.{catalog_of, dependency};
-ghost use Rattle.solv_pool.specs.Clauses.{clause_count};
+ghost use Rattle.solv_pool.specs.Prelude.{catalog_of, dependency, clause_count};
 ghost use Rattle.solv_prov.specs.Index.{IsIndexOf};
 ghost use Rattle.solv_rich.specs.Counts.{saturated};
 ghost use Rattle.solv_rich.specs.Inner.Operators.{count_package_wise};
 
 use crate::operators::{Parts, parts_of};
 use crate::singles::count_of;
-use solv_base::DepId;
-use solv_pool::{PackNo, Task};
+use solv_pool::{DepId, PackNo, Task};
 use solv_prov::Providers;
 
 /// One more than the most clauses of one dependency.

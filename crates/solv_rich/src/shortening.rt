@@ -1,7 +1,7 @@
 //! Clauses without what is said of the system or twice.
 ghost use Rattle.std.specs.Prelude.{◌≡◌, ◌≤◌, ◌∷◌, ◌++◌, [], ◌&&◌, ◌||◌, not, length, map, take, nat_lt, IfOk, OnOk, true};
 ghost use Rattle.std.specs.List.{list_all};
-ghost use Rattle.solv_pool.specs.Clauses.{is_in, same_literal, negation as negation_of, contains_literal, is_always_true as is_true_always, number_of, kept, in_numbers};
+ghost use Rattle.solv_pool.specs.Prelude.{is_in, same_literal, negation as negation_of, contains_literal, is_always_true as is_true_always, number_of, kept, in_numbers};
 ghost use Rattle.solv_rich.specs.Inner.Counts.{HasAppended};
 ghost use Rattle.solv_rich.specs.Inner.Expansions.{literal_of};
 ghost use Rattle.solv_rich.specs.Inner.Shortening.{package_of, has_number, each_first};

@@ -1,8 +1,7 @@
 //! The rounds of a script, prepared.
 ghost use Rattle.std.specs.Prelude.{◌≡◌, ◌≤◌, None, length, map, IfOk, IfErr, OnOk};
 ghost use Rattle.std.specs.List.{All};
-ghost use Rattle.solv_pool.specs.Catalog.{catalog_of};
-ghost use Rattle.solv_pool.specs.TaskBelonging.{IsClosed};
+ghost use Rattle.solv_pool.specs.Prelude.{catalog_of, IsClosed};
 ghost use Rattle.solv_pool.specs.TaskForms.{HasForms};
 ghost use Rattle.solv_rules.specs.Books.{IsDue};
 ghost use Rattle.solv_answers.specs.Answers.{IsPrepared, first_limit};

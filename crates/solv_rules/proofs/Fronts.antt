@@ -3,9 +3,7 @@ use Rattle.std.proofs.Common.{◌≡◌, ◌+◌, ◌≤◌, ℕ, zero, suc, ℤ
 use Rattle.std.specs.Prelude.{flat_map, take, drop}
 use Rattle.std.proofs.lemmas.List.{drop-map, length-replicate, length-take-le}
 use Rattle.std.proofs.Math.Seq.{drop-append_seam}
-use Rattle.solv_pool.specs.Catalog.{Catalog}
-use Rattle.solv_pool.specs.Clauses.{rule_clauses, words_of_all}
-use Rattle.solv_pool.specs.RuleMeaning.{HardRule}
+use Rattle.solv_pool.specs.Prelude.{Catalog, rule_clauses, words_of_all, HardRule}
 use Rattle.solv_pool.specs.declared.hard_rules.Rule.{Rule}
 use Rattle.solv_rules.specs.Books.{first_fault, owners_from, spans_from}
 use Rattle.solv_rules.specs.Inner.Books.{or_else, rule_fault}

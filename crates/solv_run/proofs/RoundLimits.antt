@@ -1,8 +1,7 @@
 -- The limit of a round that was turned to the front.
 use Rattle.std.proofs.Common.{ℕ, suc, ◌≡◌, ◌+◌, ◌<◌, None, length, arith, sym, subst}
 use Rattle.std.specs.Prelude.{IfErr, IsSomeAnd, OnOk, Ok, Err, Result, slice_get}
-use Rattle.solv_pool.specs.Catalog.{catalog_of}
-use Rattle.solv_pool.specs.HardRules.{hard_rules}
+use Rattle.solv_pool.specs.Prelude.{catalog_of, hard_rules}
 use Rattle.solv_pool.specs.declared.tasks.Task.{Task}
 use Rattle.solv_rounds.proofs.Turned.{at_place}
 use Rattle.solv_rounds.specs.Inner.Fronts.{IsDueAt, IsLimitAt}

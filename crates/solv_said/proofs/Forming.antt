@@ -3,9 +3,7 @@ use Rattle.std.proofs.Common.{◌≡◌, ℕ, Bool, true, false}
 use Rattle.std.specs.Prelude.{nat_le}
 use Rattle.std.specs.List.{list_all}
 use Rattle.std.proofs.lemmas.Bool.{and_parts, and_from}
-use Rattle.solv_base.specs.Dependency.{operators}
-use Rattle.solv_base.specs.Places.{fits_place}
-use Rattle.solv_pool.specs.Catalog.{Catalog, catalog_of, dependency}
+use Rattle.solv_pool.specs.Prelude.{operators, fits_place, Catalog, catalog_of, dependency}
 use Rattle.solv_pool.specs.TaskForms.{most_operators, has_form, is_formed, HasForms, asks_in_form}
 use Rattle.solv_pool.specs.declared.packages.Package.{Package}
 use Rattle.solv_pool.specs.declared.packages.Need.{Need}

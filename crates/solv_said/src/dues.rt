@@ -1,6 +1,6 @@
 //! What is due at the end of a run.
 ghost use Rattle.std.specs.Prelude.{◌≡◌, IfOk};
-ghost use Rattle.solv_pool.specs.Belonging.{IsOver};
+ghost use Rattle.solv_pool.specs.Prelude.{IsOver};
 ghost use Rattle.solv_said.specs.Dues.{limit_due, line_due, read_fault_due};
 ghost use Rattle.solv_said.specs.Inner.Dues.{usage_due};
 ghost use Rattle.solv_said.specs.Inner.Faults.{IsFaultDue};

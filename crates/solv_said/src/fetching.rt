@@ -1,7 +1,7 @@
 //! The script that a run reads.
 ghost use Rattle.std.specs.Prelude.{◌≡◌, ℕ, List, Option, Some, IfOk, IfErr};
 ghost use Rattle.std.specs.List.{All};
-ghost use Rattle.solv_pool.specs.TaskBelonging.{IsClosed};
+ghost use Rattle.solv_pool.specs.Prelude.{IsClosed};
 ghost use Rattle.solv_pool.specs.TaskForms.{HasForms};
 ghost use Rattle.solv_script.specs.FileRuns.{FilesRun};
 ghost use Rattle.solv_script.specs.Rounds.{tasks};

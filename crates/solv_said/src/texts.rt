@@ -1,7 +1,7 @@
 //! The lines on `err` that programs share.
 ghost use Rattle.std.specs.Prelude.{◌≡◌, ◌++◌, codes, IfOk, OnOk, string_bytes};
 ghost use Rattle.std.specs.Fmt.{decimal};
-ghost use Rattle.solv_pool.specs.Belonging.{IsOver};
+ghost use Rattle.solv_pool.specs.Prelude.{IsOver};
 ghost use Rattle.solv_pool.specs.PackageText.{package_text};
 ghost use Rattle.solv_said.specs.Dues.{line_at, limit_line};
 ghost use Rattle.solv_said.specs.Inner.Dues.{read_fault_line};

@@ -5,9 +5,8 @@ use Rattle.std.specs.List.{All, list_all}
 use Rattle.std.proofs.lemmas.Bool.{and_from}
 use Rattle.std.proofs.lemmas.List.{map-append}
 use Rattle.solv_base.specs.Pool.{IsPool}
-use Rattle.solv_pool.specs.TaskBelonging.{IsClosed}
+use Rattle.solv_pool.specs.Prelude.{IsClosed, WrittenJob, written_job, written_task}
 use Rattle.solv_pool.specs.TaskForms.{HasForms}
-use Rattle.solv_pool.specs.Written.{WrittenJob, written_job, written_task}
 use Rattle.solv_pool.specs.declared.jobs.Job.{Job}
 use Rattle.solv_pool.specs.declared.tasks.Task.{Task}
 use Rattle.solv_script.specs.Inner.Readings.{IsReader, state_of}

@@ -6,7 +6,7 @@ use Rattle.std.specs.Str.{bytes_eq}
 use Rattle.std.proofs.lemmas.Bool.{and_from, ltb-true, lt-ltb}
 use Rattle.solv_base.specs.Pool.{Held, IsPool, text_at}
 use Rattle.solv_base.proofs.Identity.{texts_differ}
-use Rattle.solv_pool.specs.TaskBelonging.{line_fits}
+use Rattle.solv_pool.specs.Prelude.{line_fits}
 use Rattle.solv_script.specs.Inner.Namespaces.{with_packages}
 use Rattle.solv_script.specs.Rows.{with_namespace}
 use Rattle.solv_script.proofs.TaskGrowth.{written_line}

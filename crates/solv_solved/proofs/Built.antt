@@ -3,8 +3,7 @@ use Rattle.std.proofs.Common.{◌≡◌, ◌∙◌, ℕ, true, false, List, None
 use Rattle.std.specs.Prelude.{IfErr}
 use Rattle.std.specs.Result.{IsOk, OnErr, OnOk}
 use Rattle.solv_base.proofs.Growth.{Grows-itself}
-use Rattle.solv_pool.specs.Catalog.{catalog_of}
-use Rattle.solv_pool.specs.HardRules.{hard_rules}
+use Rattle.solv_pool.specs.Prelude.{catalog_of, hard_rules}
 use Rattle.solv_pool.specs.declared.tasks.Task.{Task}
 use Rattle.solv_rules.specs.Books.{IsDue, first_fault}
 use Rattle.solv_rules.specs.declared.fault.BookFault.{BookFault}

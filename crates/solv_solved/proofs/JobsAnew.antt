@@ -3,9 +3,7 @@ use Rattle.std.proofs.Common.{◌≡◌, ℕ, Bool, true, false, None, List, [],
 use Rattle.std.specs.List.{list_all}
 use Rattle.std.proofs.lemmas.Bool.{and_parts, and_from}
 use Rattle.std.specs.Prelude.{nat_lt, if◌then◌else◌}
-use Rattle.solv_pool.specs.Catalog.{Catalog, catalog_of}
-use Rattle.solv_pool.specs.HardRules.{hard_rules}
-use Rattle.solv_pool.specs.TaskBelonging.{IsClosed, choice_fits}
+use Rattle.solv_pool.specs.Prelude.{Catalog, catalog_of, hard_rules, IsClosed, choice_fits}
 use Rattle.solv_pool.specs.TaskForms.{HasForms, is_formed_choice}
 use Rattle.solv_pool.specs.declared.jobs.Choice.TheVariants.{All, OneOf}
 use Rattle.solv_pool.specs.declared.jobs.Job.{Job}

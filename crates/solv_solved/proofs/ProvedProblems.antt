@@ -10,8 +10,7 @@ use Rattle.solv_answers.proofs.Whole.{whole_problems}
 use Rattle.solv_answers.specs.declared.answers.Answer.{Answer}
 use Rattle.solv_answers.specs.declared.answers.Answer.TheVariants.{Transaction, Problems, Spent}
 use Rattle.solv_core.specs.declared.ledger.Ledger.{Ledger}
-use Rattle.solv_pool.specs.Catalog.{catalog_of}
-use Rattle.solv_pool.specs.HardRules.{hard_rules}
+use Rattle.solv_pool.specs.Prelude.{catalog_of, hard_rules}
 use Rattle.solv_pool.specs.declared.tasks.Task.{Task}
 use Rattle.solv_proof.specs.Texts.{all_follow, are_listed, comes_after, is_some_list, may_follow, rising}
 use Rattle.solv_proof.specs.declared.kinds.Proof.{Proof}

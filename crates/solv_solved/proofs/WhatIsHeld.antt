@@ -1,8 +1,7 @@
 -- What is held by the clauses of the calls.
 use Rattle.std.proofs.Common.{◌≡◌, ◌<◌, ◌∙◌, ◌∷◌, ◌++◌, ℕ, true, List, [], Some, inl, inr, refl, sym, subst, arith}
 use Rattle.solv_io.specs.Counters.{Rose}
-use Rattle.solv_pool.specs.Catalog.{catalog_of}
-use Rattle.solv_pool.specs.HardRules.{hard_rules}
+use Rattle.solv_pool.specs.Prelude.{catalog_of, hard_rules}
 use Rattle.solv_rules.specs.Books.{first_fault}
 use Rattle.solv_rules.specs.declared.fault.BookFault.{BookFault}
 use Rattle.solv_lent.specs.Inner.Asked.{last_is_missing}

@@ -1,7 +1,6 @@
 //! A task that is answered anew, with other flags and jobs.
 ghost use Rattle.std.specs.Prelude.{◌≡◌, ◌≤◌, true, length, map, IfOk, IfErr, OnOk, OnErr};
-ghost use Rattle.solv_pool.specs.Catalog.{catalog_of};
-ghost use Rattle.solv_pool.specs.HardRules.{hard_rules};
+ghost use Rattle.solv_pool.specs.Prelude.{catalog_of, hard_rules};
 ghost use Rattle.solv_rules.specs.Books.{IsDue, first_fault};
 ghost use Rattle.solv_solved.specs.Anew.{IsAgain, IsHeldAgain, IsHeldSame, IsSame};
 ghost use Rattle.solv_draft.specs.JobRows.{are_rows, job_of, with_rows};

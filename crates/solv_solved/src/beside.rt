@@ -1,6 +1,6 @@
 //! What an answer has besides its task, so that the task may be taken out and put back.
 ghost use Rattle.std.specs.Prelude.{◌≡◌};
-ghost use Rattle.solv_pool.specs.TaskBelonging.{IsClosed};
+ghost use Rattle.solv_pool.specs.Prelude.{IsClosed};
 ghost use Rattle.solv_pool.specs.TaskForms.{HasForms};
 ghost use Rattle.solv_solved.specs.Anew.{IsSame};
 ghost use Rattle.solv_solved.specs.Inner.Besides.{IsAnswerTo, beside_of};

@@ -1,7 +1,7 @@
 //! What calls build, and the answer to it.
 ghost use Rattle.std.specs.Prelude.{◌≡◌, ◌≤◌, None, Some, IfOk, IsOk, OnErr};
 ghost use Rattle.std.specs.Option.{option_map};
-ghost use Rattle.solv_pool.specs.TaskBelonging.{IsClosed};
+ghost use Rattle.solv_pool.specs.Prelude.{IsClosed};
 ghost use Rattle.solv_pool.specs.TaskForms.{HasForms};
 ghost use Rattle.solv_draft.specs.Inner.Calls.{given};
 ghost use Rattle.solv_solved.specs.Building.{IsBuilt, IsEmpty, IsEmptyHeld, IsGiven, IsStill, IsStillOpen, IsTaskSolved, script_of, task_of};

@@ -1,8 +1,7 @@
 //! The hard rules of a task that is answered, by number.
 ghost use Rattle.std.specs.Prelude.{ℕ, ◌≡◌, List, length, is_some, slice_get};
 ghost use Rattle.std.specs.Option.{option_copied, option_map};
-ghost use Rattle.solv_pool.specs.HardRules.{hard_rules};
-ghost use Rattle.solv_pool.specs.RuleMeaning.{rule_with, set_at};
+ghost use Rattle.solv_pool.specs.Prelude.{hard_rules, rule_with, set_at};
 ghost use Rattle.solv_solved.specs.Fillings.{filled_where, length_where};
 ghost use Rattle.solv_solved.specs.RuleRows.{packs_of_rule, rule_of, rule_packs, rule_row, rules_of};
 

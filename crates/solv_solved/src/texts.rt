@@ -1,7 +1,7 @@
 //! Texts of what an answer names.
 ghost use Rattle.std.specs.Prelude.{◌≡◌, ◌++◌, length, map, IfOk, OnOk};
 ghost use Rattle.solv_io.specs.Lines.{ended_lines};
-ghost use Rattle.solv_pool.specs.Belonging.{IsOver};
+ghost use Rattle.solv_pool.specs.Prelude.{IsOver};
 ghost use Rattle.solv_solved.specs.Texts.{package_count_of, repo_count_of, package_found, dep_text_in, dep_text_of, package_text_in, package_text_of, rule_text_in, rule_text_of, solution_text_in, solution_text_of};
 
 use crate::outcomes::Held;

@@ -8,7 +8,7 @@ use Rattle.solv_io.specs.Lines.{numbered_lines}
 use Rattle.solv_io.specs.Words.{words_of}
 use Rattle.solv_base.specs.Dependency.{Dep, operators}
 use Rattle.solv_base.specs.Pool.{Held}
-use Rattle.solv_pool.specs.Written.{WrittenNeed, WrittenPackage}
+use Rattle.solv_pool.specs.Prelude.{WrittenNeed, WrittenPackage}
 use Rattle.solv_pool.specs.Contents.{most_packages}
 use Rattle.solv_pool.specs.TaskForms.{most_operators}
 use Rattle.solv_deps.specs.Entering.{text_entered, dependency_entered}

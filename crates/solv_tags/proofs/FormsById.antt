@@ -10,11 +10,10 @@ use Rattle.solv_base.specs.Pool.{Held, text_at, text_tree}
 use Rattle.solv_base.specs.declared.relation.DepNode.{DepNode}
 use Rattle.solv_base.specs.declared.relation.DepNode.TheVariants.{Simple}
 use Rattle.solv_deps.specs.Table.{is_capability}
-use Rattle.solv_pool.specs.Catalog.{Catalog}
+use Rattle.solv_pool.specs.Prelude.{Catalog, WrittenNeed, written_package}
 use Rattle.solv_pool.specs.Inner.Catalog.{alone}
 use Rattle.solv_pool.specs.Contents.{Contents}
 use Rattle.solv_pool.specs.TaskForms.{most_operators, has_form, is_plain_form, is_formed}
-use Rattle.solv_pool.specs.Written.{WrittenNeed, written_package}
 use Rattle.solv_pool.specs.declared.packages.Need.{Need}
 use Rattle.solv_pool.specs.declared.packages.Package.{Package}
 use Rattle.solv_tags.specs.EntryForms.{has_written_form, is_written_formed}

@@ -4,7 +4,7 @@ use Rattle.std.specs.Prelude.{nat_lt}
 use Rattle.std.specs.Str.{bytes_eq}
 use Rattle.solv_base.specs.Dependency.{Dep}
 use Rattle.solv_base.specs.Pool.{Held, Grows, text_at, text_tree}
-use Rattle.solv_pool.specs.Written.{WrittenPackage, written_package}
+use Rattle.solv_pool.specs.Prelude.{WrittenPackage, written_package}
 use Rattle.solv_pool.specs.declared.packages.Package.{Package}
 use Rattle.solv_tags.specs.Inner.Tags.{with_path, with_entry}
 use Rattle.solv_deps.specs.Inner.Entering.{IsRefusal, text_read}

@@ -9,7 +9,7 @@ use Rattle.solv_base.specs.declared.relation.DepNode.{DepNode}
 use Rattle.solv_base.specs.declared.relation.DepNode.TheVariants.{Simple, Versioned, Namespace, And, Or, With, Without, If, IfElse, Unless, UnlessElse}
 use Rattle.solv_io.specs.Words.{words_of}
 use Rattle.solv_pool.specs.Contents.{most_packages}
-use Rattle.solv_pool.specs.Written.{WrittenPackage}
+use Rattle.solv_pool.specs.Prelude.{WrittenPackage}
 use Rattle.solv_deps.specs.Entering.{Entered, text_entered, relation_entered, pair_entered, triple_entered, dependency_entered}
 use Rattle.solv_deps.specs.Inner.Entering.{is_relation}
 use Rattle.solv_deps.specs.Inner.Signs.{operator, opens, closes}

@@ -6,9 +6,8 @@ use Rattle.std.specs.List.{list_all}
 use Rattle.std.specs.Str.{bytes_eq}
 use Rattle.std.proofs.lemmas.List.{map-append, length-append, drop-append-le, length-map, append_assoc}
 use Rattle.solv_base.specs.Pool.{Held, Grows}
-use Rattle.solv_pool.specs.Belonging.{IsOver, fits}
+use Rattle.solv_pool.specs.Prelude.{IsOver, fits, WrittenPackage, written_package}
 use Rattle.solv_pool.specs.Contents.{Contents, most_packages}
-use Rattle.solv_pool.specs.Written.{WrittenPackage, written_package}
 use Rattle.solv_pool.specs.declared.packages.Package.{Package}
 use Rattle.solv_tags.specs.Entries.{bare_package}
 use Rattle.solv_tags.specs.Inner.Tags.{entry_sign, opening_sign, closing_sign, after_heading, tag}

@@ -5,7 +5,7 @@ use Rattle.std.specs.List.{find, list_any, zip}
 use Rattle.std.specs.Str.{bytes_eq}
 use Rattle.solv_io.specs.Words.{words_of}
 use Rattle.solv_base.specs.Pool.{Held, with_name}
-use Rattle.solv_pool.specs.Written.{WrittenPackage}
+use Rattle.solv_pool.specs.Prelude.{WrittenPackage}
 use Rattle.solv_tags.specs.Headings.{is_heading, letters, trimmed}
 use Rattle.solv_tags.specs.Inner.Lines as tags
 use Rattle.solv_tags.specs.Inner.Tags.{tag}

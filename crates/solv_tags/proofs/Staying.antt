@@ -9,8 +9,7 @@ use Rattle.std.proofs.lemmas.List.{map-append}
 use Rattle.std.proofs.lemmas.List.Folds.{list_all-map}
 use Rattle.solv_base.specs.Dependency.{Dep}
 use Rattle.solv_base.specs.Pool.{Held, Grows, text_at, text_tree}
-use Rattle.solv_pool.specs.Belonging.{fits, names_of, relations_of}
-use Rattle.solv_pool.specs.Written.{WrittenNeed, written_package}
+use Rattle.solv_pool.specs.Prelude.{fits, names_of, relations_of, WrittenNeed, written_package}
 use Rattle.solv_pool.specs.declared.packages.Need.{Need}
 use Rattle.solv_pool.specs.declared.packages.Package.{Package}
 use Rattle.solv_tags.specs.Entries.{is_same, with_need, with_dependency}

@@ -3,7 +3,7 @@ ghost use Rattle.std.specs.Prelude.{◌≡◌, ◌∷◌, [], ◌≤◌, ◌&&�
 ghost use Rattle.solv_base.specs.Pool.{Held, Grows};
 ghost use Rattle.std.specs.Option.{option_map};
 ghost use Rattle.std.specs.Str.{bytes_eq};
-ghost use Rattle.solv_pool.specs.Written.{written_package};
+ghost use Rattle.solv_pool.specs.Prelude.{written_package};
 ghost use Rattle.solv_deps.specs.Inner.Recent.{AreRead};
 ghost use Rattle.solv_tags.specs.Entries.{evr_text};
 ghost use Rattle.solv_tags.specs.Inner.Tags.{closing_sign, tag};

@@ -2,7 +2,7 @@
 ghost use Rattle.std.specs.Prelude.{◌≡◌, ◌<◌, ◌≤◌, true, drop, length, Some, None, IsOkAnd, IfOk, IfErr, OnOk, OnErr};
 ghost use Rattle.solv_base.specs.Pool.{Held, Grows};
 ghost use Rattle.std.specs.List.{list_all};
-ghost use Rattle.solv_pool.specs.Belonging.{IsOver};
+ghost use Rattle.solv_pool.specs.Prelude.{IsOver};
 ghost use Rattle.solv_pool.specs.Inner.Catalog.{alone};
 ghost use Rattle.solv_pool.specs.TaskForms.{is_formed};
 ghost use Rattle.solv_io.specs.Lines.{numbered_lines};

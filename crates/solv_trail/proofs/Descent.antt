@@ -3,8 +3,7 @@ use Rattle.std.proofs.Common.{◌≡◌, ℕ, ◌+◌, ◌<◌, ◌≤◌, Bool,
 use Rattle.std.specs.Prelude.{ℤ, pos, nat_lt, nat_le, option_map}
 use Rattle.std.proofs.lemmas.Bool.{cases_lt, lt-ltb, le-leb, and_from}
 use Rattle.std.proofs.lemmas.List.{take-append-le, take-take, take_at, get_or-take, get_or_append_left, get_or_push, length_push}
-use Rattle.solv_pool.specs.Propagation.{is_fact, is_refuted}
-use Rattle.solv_pool.specs.Range.{names_package}
+use Rattle.solv_pool.specs.Prelude.{is_fact, is_refuted, names_package}
 use Rattle.solv_trail.specs.Inner.Derivation.{IsConsistent, IsTrail}
 use Rattle.solv_trail.specs.Inner.Held.{Held}
 use Rattle.solv_trail.specs.Inner.Used.{used_clauses}

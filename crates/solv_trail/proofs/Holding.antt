@@ -7,8 +7,7 @@ use Rattle.std.proofs.lemmas.Bool.{and_parts, and_from, cases_Bool, cases_lt, ca
 use Rattle.std.proofs.lemmas.List.{get_or_append_left, length_push, get_or_push, get_or-take, length-take-le, take_at, take-take, take_all, take_more}
 use Rattle.std.proofs.lemmas.List.Sums.{sum_by-set, sum_by-cons}
 use Rattle.std.proofs.lemmas.List.Folds.{list_all-append}
-use Rattle.solv_pool.specs.Propagation.{is_fact, is_refuted}
-use Rattle.solv_pool.specs.Range.{names_package}
+use Rattle.solv_pool.specs.Prelude.{is_fact, is_refuted, names_package}
 use Rattle.solv_trail.specs.Inner.Held.{IsHeld, code, filled}
 use Rattle.solv_derive.proofs.Facts.{same_self, all_member}
 use Rattle.solv_derive.proofs.Tables.{names_parts, names_neg, known_push}

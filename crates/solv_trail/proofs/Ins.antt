@@ -3,8 +3,7 @@ use Rattle.std.proofs.Common.{◌≡◌, ℕ, ◌*◌, ◌<◌, ◌≤◌, Bool,
 use Rattle.std.specs.Prelude.{ℤ, pos, negsuc, nat_abs, int_lt}
 use Rattle.std.specs.Ordering.{int_eq}
 use Rattle.std.proofs.lemmas.Bool.{cases_Bool, cases_eq, ltb-false}
-use Rattle.solv_pool.specs.Propagation.{is_fact}
-use Rattle.solv_pool.specs.Range.{names_package}
+use Rattle.solv_pool.specs.Prelude.{is_fact, names_package}
 use Rattle.solv_derive.proofs.Facts.{same_self}
 use Rattle.solv_derive.proofs.Tables.{names_parts, known_push}
 use Rattle.solv_trail.specs.Inner.Numbers.{has}

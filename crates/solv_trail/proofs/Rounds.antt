@@ -3,7 +3,7 @@ use Rattle.std.proofs.Common.{◌≡◌, ℕ, zero, suc, List, [], ◌∷◌, Op
 use Rattle.std.specs.Prelude.{ℤ}
 use Rattle.std.proofs.lemmas.Bool.{cases_Bool}
 use Rattle.solv_pool.specs.Propagation as defined
-use Rattle.solv_pool.specs.Propagation.{is_open, facts_after, only}
+use Rattle.solv_pool.specs.Prelude.{is_open, facts_after, only}
 use Rattle.solv_pool.specs.Inner.Propagation.{with_single, round as round_of}
 use Rattle.solv_derive.specs.Forced.{forced}
 use Rattle.solv_derive.specs.Inner.Forced.{is_satisfied}

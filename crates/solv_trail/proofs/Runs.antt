@@ -4,8 +4,7 @@ use Rattle.std.specs.Prelude.{ℤ, pos, slice_get}
 use Rattle.std.proofs.lemmas.Bool.{cases_Bool, false≢true}
 use Rattle.std.proofs.lemmas.List.{take-take, get_or-take}
 use Rattle.solv_derive.specs.Forced.{is_falsified}
-use Rattle.solv_pool.specs.Clauses.{literal_true, clause_true}
-use Rattle.solv_pool.specs.Range.{is_over}
+use Rattle.solv_pool.specs.Prelude.{literal_true, clause_true, is_over}
 use Rattle.solv_derive.proofs.Facts.{known_here}
 use Rattle.solv_derive.proofs.Sound.{AllSo, forced_is_so}
 use Rattle.solv_trail.specs.Walk.{asserts, met_by_choices}

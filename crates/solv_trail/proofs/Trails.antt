@@ -5,7 +5,7 @@ use Rattle.std.specs.Ordering.{int_eq}
 use Rattle.std.proofs.lemmas.Bool.{or_cases, cases_lt, cases_order, false≢true}
 use Rattle.std.proofs.lemmas.List.{get_or_append_left, take-append-le, take_at, take-take, get_or-take, length-take-le, length_push, get_or_push}
 use Rattle.std.proofs.lemmas.List.Folds.{list_any-append}
-use Rattle.solv_pool.specs.Propagation.{is_fact, is_refuted}
+use Rattle.solv_pool.specs.Prelude.{is_fact, is_refuted}
 use Rattle.solv_derive.specs.Forced.{forced}
 use Rattle.solv_derive.proofs.Facts.{known_cases, neg-neg, forces_from, forced_member, open_parts}
 use Rattle.solv_trail.specs.Inner.Derivation.{IsConsistent, IsQuiet, AllQuiet, Among, chosen, forced_by, IsChoice, IsTrail}

@@ -6,7 +6,7 @@ use Rattle.std.specs.Ordering.{int_eq}
 use Rattle.std.proofs.lemmas.Bool.{or_left, or_right, or_cases, or_parts, or_from, cases_Bool, false≢true, false_from_ne_true}
 use Rattle.std.proofs.lemmas.List.{take_more, take_all}
 use Rattle.std.proofs.lemmas.List.Folds.{list_any-append}
-use Rattle.solv_pool.specs.Propagation.{is_fact, is_refuted, is_open, unit, clashes}
+use Rattle.solv_pool.specs.Prelude.{is_fact, is_refuted, is_open, unit, clashes}
 use Rattle.solv_derive.specs.Forced.{is_falsified, forced}
 use Rattle.solv_derive.specs.Inner.Forced.{is_satisfied}
 use Rattle.solv_trail.proofs.Rounds.{grown, settled, round, rounds, rounds_are}

@@ -7,7 +7,7 @@ use Rattle.std.proofs.lemmas.Bool.{cases_lt, and_from, lt-ltb, false≢true, con
 use Rattle.std.proofs.lemmas.List.{length-map, take_more, take_all, take-take, get_or-take, length-take-le}
 use Rattle.std.proofs.lemmas.List.Folds.{list_any-append}
 use mathlib.Core.Path.{fun_ext}
-use Rattle.solv_pool.specs.Propagation.{is_fact, clashes}
+use Rattle.solv_pool.specs.Prelude.{is_fact, clashes}
 use Rattle.solv_derive.specs.Forced.{is_falsified}
 use Rattle.solv_trail.specs.Inner.Derivation.{Within, IsConsistent, Among}
 use Rattle.solv_trail.specs.Inner.Derivation.{chosen, forced_by, IsTrail}

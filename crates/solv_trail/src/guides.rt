@@ -1,7 +1,7 @@
 //! Who chooses.
 ghost use Rattle.std.specs.Prelude.{◌≡◌, ◌<◌, ℕ, ℤ, Bool, true, List, Option, length, take, nat_lt};
 ghost use Rattle.std.specs.List.{list_all};
-ghost use Rattle.solv_pool.specs.Propagation.{is_fact};
+ghost use Rattle.solv_pool.specs.Prelude.{is_fact};
 ghost use Rattle.solv_trail.specs.Inner.Asked.{KeepsLaw};
 ghost use Rattle.solv_trail.specs.Asked.{enabled_clauses};
 ghost use Rattle.solv_trail.specs.declared.questions.Ask.{Ask};

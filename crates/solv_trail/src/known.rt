@@ -1,8 +1,7 @@
 //! The literals that are known.
 ghost use Rattle.std.specs.Prelude.{◌≡◌, ◌≤◌, ◌<◌, ◌+◌, ◌==◌, ◌||◌, ◌&&◌, not, ℕ, ℤ, pos, nat_abs, nat_lt, neg_ℤ, true, false, [], ◌∷◌, ◌++◌, List, length, take, slice_index, slice_index_or, IfOk};
 ghost use Rattle.std.specs.List.{list_all};
-ghost use Rattle.solv_pool.specs.Propagation.{is_fact, is_refuted};
-ghost use Rattle.solv_pool.specs.Range.{names_package};
+ghost use Rattle.solv_pool.specs.Prelude.{is_fact, is_refuted, names_package};
 ghost use Rattle.solv_trail.specs.Inner.Held.{code};
 ghost use Rattle.solv_trail.specs.Inner.Numbers.{has, room};
 ghost use Rattle.std.specs.Ordering.{int_eq};

@@ -1,9 +1,8 @@
 //! What a guide asks.
 ghost use Rattle.std.specs.Prelude.{◌≡◌, ◌≤◌, ◌<◌, ◌++◌, ◌∷◌, [], pos, length, vec_capacity, vec_len};
 
-use solv_base::{DepId, NameId};
 use solv_pack::Lit;
-use solv_pool::{JobNo, PackNo};
+use solv_pool::{DepId, JobNo, NameId, PackNo};
 
 /// Why a package is asked for.
 #[derive(Clone, Copy, PartialEq, Eq, Debug)]

@@ -5,13 +5,8 @@ use Rattle.std.specs.List.{list_any, list_all}
 use Rattle.std.specs.Option.{option_eq}
 use Rattle.std.proofs.lemmas.Bool.{and_parts, and_from, false≢true, eqb-true, ltb-true, false_from_ne_true, or_left, or_right}
 use Rattle.std.proofs.lemmas.Bool.Decides.{eqb_tells, nat_tests}
-use Rattle.solv_base.specs.Dependency.{Dep}
-use Rattle.solv_pool.specs.Words.{passes, is_among}
-use Rattle.solv_pool.specs.Belonging.{IsOver, fits, names_of}
-use Rattle.solv_pool.specs.Catalog.{Catalog, dependency, is_installed, members, package_at, packages}
-use Rattle.solv_pool.specs.Holding.{package_meets}
+use Rattle.solv_pool.specs.Prelude.{Dep, passes, is_among, IsOver, fits, names_of, Catalog, dependency, is_installed, members, package_at, packages, package_meets, is_pack}
 use Rattle.solv_pool.specs.Parts.{parts}
-use Rattle.solv_pool.specs.TaskBelonging.{is_pack}
 use Rattle.solv_pool.specs.declared.packages.Package.{Package}
 use Rattle.solv_pool.specs.declared.tasks.Task.{Task}
 use Rattle.solv_graph.specs.Inner.Orders.{turn_at, part_of, late_of, is_placed, is_late}

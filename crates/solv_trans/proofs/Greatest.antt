@@ -8,9 +8,8 @@ use Rattle.std.specs.Ordering.{is_gt, ordering_reverse}
 use Rattle.std.specs.declared.cmp.Ordering.{Ordering}
 use Rattle.std.specs.declared.cmp.Ordering.TheVariants.{Less, Equal, Greater}
 use Rattle.std.proofs.lemmas.Cmp.{tied_itself, upto, on_total}
-use Rattle.solv_base.specs.Evr.{evr_cmp}
+use Rattle.solv_pool.specs.Prelude.{evr_cmp, Catalog, packages, same_name}
 use Rattle.solv_pool.specs.Best.{evr_of, compare_evrs}
-use Rattle.solv_pool.specs.Catalog.{Catalog, packages, same_name}
 use Rattle.solv_trans.specs.Changes.{partner}
 use Rattle.solv_trans.specs.Moving.{comes}
 use Rattle.solv_trans.specs.Inner.Order.{greatest_from, greatest}

@@ -4,11 +4,8 @@ use Rattle.std.proofs.lemmas.List.{append-nil}
 use Rattle.std.specs.Prelude.{filter, find, nat_lt, nat_le, ◌==◌}
 use Rattle.std.specs.List.{list_all, range_with_len}
 use Rattle.std.proofs.lemmas.Bool.Decides.{nat_tests}
-use Rattle.solv_base.specs.Dependency.{plain}
-use Rattle.solv_pool.specs.Words.{passes, when}
-use Rattle.solv_pool.specs.Catalog.{Catalog, packages, package_at, same_name}
+use Rattle.solv_pool.specs.Prelude.{plain, passes, when, Catalog, packages, package_at, same_name, is_pack}
 use Rattle.solv_pool.specs.Providing.{is_named}
-use Rattle.solv_pool.specs.TaskBelonging.{is_pack}
 use Rattle.solv_pool.specs.declared.packages.Package.{Package}
 use Rattle.solv_list.proofs.Lists.{filter_same}
 use Rattle.solv_list.proofs.Numbers.{equal_swapped}

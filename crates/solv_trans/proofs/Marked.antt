@@ -6,8 +6,7 @@ use Rattle.std.proofs.Math.ListN.{get_or-append}
 use Rattle.std.proofs.Math.Seq.{get_or-append_seam}
 use Rattle.std.proofs.lemmas.Bool.Decides.{eqb_tells}
 use Rattle.std.proofs.lemmas.List.{get_or-set_same, get_or-set_other}
-use Rattle.solv_pool.specs.Words.{passes}
-use Rattle.solv_pool.specs.Catalog.{Catalog, package_at, packages}
+use Rattle.solv_pool.specs.Prelude.{passes, Catalog, package_at, packages}
 use Rattle.solv_pool.specs.declared.packages.Package.{Package}
 use Rattle.solv_graph.specs.Inner.Orders.{turn_at}
 use Rattle.solv_graph.specs.declared.orders.Turn.{Turn}

@@ -5,11 +5,7 @@ use Rattle.std.specs.List.{list_any, list_all}
 use Rattle.std.proofs.lemmas.Bool.{and_parts, and_from, false≢true, eqb-true, ne_eqb, ltb-true, false_from_ne_true, or_left, or_right}
 use Rattle.std.proofs.lemmas.Bool.Decides.{nat_tests}
 use Rattle.std.proofs.lemmas.List.Folds.{list_any-append}
-use Rattle.solv_base.specs.Dependency.{Dep}
-use Rattle.solv_pool.specs.Words.{passes, is_among}
-use Rattle.solv_pool.specs.Belonging.{fits, names_of, relations_of}
-use Rattle.solv_pool.specs.Catalog.{Catalog, dependency, members, package_at, packages}
-use Rattle.solv_pool.specs.Holding.{package_meets}
+use Rattle.solv_pool.specs.Prelude.{Dep, passes, is_among, fits, names_of, relations_of, Catalog, dependency, members, package_at, packages, package_meets}
 use Rattle.solv_pool.specs.Parts.{parts}
 use Rattle.solv_pool.specs.declared.packages.Package.{Package}
 use Rattle.solv_pool.specs.declared.packages.Need.{Need}

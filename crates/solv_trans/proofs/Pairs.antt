@@ -3,7 +3,7 @@ use Rattle.std.proofs.Common.{◌≡◌, ◌<◌, ℕ, true, arith}
 use Rattle.std.specs.Prelude.{nat_lt}
 use Rattle.std.specs.List.{list_all}
 use Rattle.std.proofs.lemmas.Bool.Decides.{nat_tests}
-use Rattle.solv_pool.specs.Belonging.{fits, names_of}
+use Rattle.solv_pool.specs.Prelude.{fits, names_of}
 use Rattle.solv_pool.specs.declared.packages.Package.{Package}
 use Rattle.solv_list.proofs.Booleans.{first_of_both, second_of_both}
 

@@ -8,8 +8,7 @@ use Rattle.std.specs.declared.cmp.Ordering.TheVariants.{Less, Equal, Greater}
 use Rattle.std.proofs.lemmas.Bool.{eqb-true}
 use Rattle.std.proofs.lemmas.Bool.Decides.{nat_tests}
 use Rattle.solv_pool.specs.Best.{compare_evrs}
-use Rattle.solv_pool.specs.Catalog.{Catalog, packages, members, is_installed, same_name}
-use Rattle.solv_pool.specs.Words.{is_among}
+use Rattle.solv_pool.specs.Prelude.{Catalog, packages, members, is_installed, same_name, is_among, is_pack}
 use Rattle.solv_trans.specs.declared.kinds.Change.{Change}
 use Rattle.solv_trans.specs.declared.kinds.Change.TheVariants.{Install, Erase, Obsolete}
 use Rattle.solv_trans.specs.Changes.{change_by, partner, obsoleter, line_of, lines_of_leaving, changes}
@@ -21,7 +20,6 @@ use Rattle.solv_trans.specs.Inner.Effects.{takes, brings}
 use Rattle.solv_trans.proofs.Same.{filter_range}
 use Rattle.solv_list.proofs.Booleans.{first_of_both, true_or_false, second_of_both}
 use Rattle.solv_list.proofs.Lists.{none_of}
-use Rattle.solv_pool.specs.TaskBelonging.{is_pack}
 use Rattle.solv_trans.proofs.Listing.{a_pack}
 use Rattle.solv_pool.proofs.Among.{among_filter}
 use Rattle.solv_prov.proofs.Obsoleting.{among_range}

@@ -3,8 +3,7 @@ use Rattle.std.proofs.Common.{◌≡◌, ℕ, suc, Bool, true, List, [], ◌∷�
 use Rattle.std.specs.Prelude.{filter, nat_lt, nat_le}
 use Rattle.std.specs.List.{list_all}
 use Rattle.std.proofs.lemmas.Bool.Decides.{nat_tests}
-use Rattle.solv_pool.specs.Words.{is_among}
-use Rattle.solv_pool.specs.Catalog.{Catalog, members}
+use Rattle.solv_pool.specs.Prelude.{is_among, Catalog, members}
 use Rattle.solv_trans.specs.Effects.{IsMemberList}
 use Rattle.solv_list.proofs.Booleans.{first_of_both, second_of_both}
 use Rattle.std.proofs.lemmas.Bool.{and_from}

@@ -3,9 +3,8 @@ use Rattle.std.proofs.Common.{◌≡◌, ◌<◌, ◌≤◌, ◌+◌, ℕ, zero,
 use Rattle.std.specs.Prelude.{filter, find}
 use Rattle.std.specs.List.{range_with_len}
 use Rattle.std.specs.Option.{option_map_or}
-use Rattle.solv_pool.specs.Catalog.{Catalog, packages, is_installed, same_name}
+use Rattle.solv_pool.specs.Prelude.{Catalog, packages, is_installed, same_name, is_pack}
 use Rattle.solv_pool.specs.Providing.{obsoletes}
-use Rattle.solv_pool.specs.TaskBelonging.{is_pack}
 use Rattle.solv_trans.specs.declared.kinds.Change.{Change}
 use Rattle.solv_trans.specs.declared.kinds.Change.TheVariants.{Install, Erase, Obsolete}
 use Rattle.solv_trans.specs.Inner.Order.{greatest}

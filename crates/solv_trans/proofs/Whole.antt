@@ -5,8 +5,7 @@ use Rattle.std.specs.Prelude.{nat_le}
 use Rattle.std.specs.List.{list_any, list_all}
 use Rattle.std.proofs.lemmas.Bool.{and_parts, and_from, false≢true, false_from_ne_true, or_left, or_right}
 use Rattle.std.proofs.lemmas.Bool.Decides.{nat_tests}
-use Rattle.solv_pool.specs.Words.{passes, is_among}
-use Rattle.solv_pool.specs.Catalog.{Catalog, package_at, dependency}
+use Rattle.solv_pool.specs.Prelude.{passes, is_among, Catalog, package_at, dependency}
 use Rattle.solv_pool.specs.declared.packages.Package.{Package}
 use Rattle.solv_pool.specs.declared.packages.Need.{Need}
 use Rattle.solv_graph.specs.Inner.Orders.{part_of, late_of}

@@ -1,7 +1,7 @@
 -- Which parts of a transaction come before which.
 use Rattle.std.specs.Prelude.{ℕ, Bool, true, not, ◌&&◌, ◌||◌, ◌==◌}
 use Rattle.std.specs.List.{list_any}
-use Rattle.solv_base.specs.Dependency.{Dep}
+use Rattle.solv_pool.specs.Prelude.{Dep}
 use Rattle.solv_pool.specs.Words.{passes}
 use Rattle.solv_pool.specs.Catalog.{Catalog, packages, package_at, dependency, is_installed}
 use Rattle.solv_pool.specs.Holding.{package_meets}

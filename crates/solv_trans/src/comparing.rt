@@ -1,16 +1,13 @@
 //! Two packages beside each other.
 ghost use Rattle.std.specs.Prelude.{◌≡◌, ◌<◌, ◌≤◌, length, true, Some, IfSome};
-ghost use Rattle.solv_pool.specs.Belonging.{IsOver};
+ghost use Rattle.solv_pool.specs.Prelude.{IsOver, catalog_of, package_at, is_pack};
 ghost use Rattle.solv_pool.specs.Best.{evr_of, compare_evrs};
-ghost use Rattle.solv_pool.specs.Catalog.{catalog_of, package_at};
-ghost use Rattle.solv_pool.specs.TaskBelonging.{is_pack};
 ghost use Rattle.solv_pool.specs.Updates.{same_build};
 ghost use Rattle.solv_trans.specs.Inner.Changes.{is_same_build, change_to};
 ghost use Rattle.solv_trans.specs.Inner.Order.{greater_of};
 
 use crate::kinds::Change;
-use solv_base::evr_compare;
-use solv_pool::{PackNo, PackageRef, Task};
+use solv_pool::{PackNo, PackageRef, Task, evr_compare};
 use std::cmp::Ordering;
 
 /// The record of a package.

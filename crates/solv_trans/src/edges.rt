@@ -1,16 +1,14 @@
 //! Which parts come before which.
 ghost use Rattle.std.specs.Prelude.{ℕ, Bool, ◌≡◌, ◌≤◌, ◌<◌, ◌+◌, ◌∷◌, [], ◌||◌, ◌&&◌, ◌==◌, true, length, nat_le, nat_lt, IfOk, OnOk};
 ghost use Rattle.std.specs.List.{list_any, list_all};
-ghost use Rattle.solv_pool.specs.Catalog.{catalog_of, dependency, members, packages};
-ghost use Rattle.solv_pool.specs.Holding.{package_meets};
+ghost use Rattle.solv_pool.specs.Prelude.{catalog_of, dependency, members, packages, package_meets};
 ghost use Rattle.solv_prov.specs.Index.{IsIndexOf};
 ghost use Rattle.solv_trans.specs.Moving.{comes, goes};
 ghost use Rattle.solv_trans.specs.Inner.Readiness.{IsReady};
 ghost use Rattle.solv_trans.specs.Inner.Joining.{is_marked, linked, pre_linked, AreTurns, Joins, from_one, to_one, settles, unsettled, to_coming, from_going, owned_by, AreEdges};
 
-use solv_base::DepId;
 use solv_graph::Turn;
-use solv_pool::{Need, PackNo, Task};
+use solv_pool::{DepId, Need, PackNo, Task};
 use solv_prov::{Parts, Providers, parts_of};
 use std::alloc::{AllocError, Global};
 

@@ -1,11 +1,8 @@
 //! The packages that leave, and what comes for them.
 ghost use Rattle.std.specs.Prelude.{◌≡◌, ◌≤◌, ◌+◌, ◌&&◌, ◌++◌, ◌∷◌, [], length, true, filter, find, None, nat_lt, IfSome, IfOk, OnOk};
 ghost use Rattle.std.specs.List.{list_all};
-ghost use Rattle.solv_pool.specs.Belonging.{IsOver};
-ghost use Rattle.solv_pool.specs.Catalog.{catalog_of, packages, same_name};
+ghost use Rattle.solv_pool.specs.Prelude.{IsOver, catalog_of, packages, same_name, is_pack, when};
 ghost use Rattle.solv_pool.specs.Providing.{obsoletes};
-ghost use Rattle.solv_pool.specs.TaskBelonging.{is_pack};
-ghost use Rattle.solv_pool.specs.Words.{when};
 ghost use Rattle.solv_prov.specs.Index.{IsIndexOf};
 ghost use Rattle.solv_trans.specs.Changes.{partner, obsoleter, line_of, lines_of_leaving};
 ghost use Rattle.solv_trans.specs.Inner.Changes.{leaves};
@@ -16,8 +13,7 @@ ghost use Rattle.solv_trans.specs.Inner.Joining.{is_marked};
 use crate::comparing::{change_to, greater_of, package};
 use crate::kinds::Change;
 use crate::moving::does_come;
-use solv_base::evr_order_is_total;
-use solv_pool::{PackNo, Task};
+use solv_pool::{PackNo, Task, evr_order_is_total};
 use solv_prov::Providers;
 use std::alloc::{AllocError, Global};
 

@@ -1,6 +1,6 @@
 //! Tables of packages by number.
 ghost use Rattle.std.specs.Prelude.{ℕ, ◌≡◌, ◌<◌, ◌+◌, ◌||◌, ◌==◌, length, IfOk};
-ghost use Rattle.solv_pool.specs.Words.{is_among};
+ghost use Rattle.solv_pool.specs.Prelude.{is_among};
 ghost use Rattle.solv_trans.specs.Effects.{is_brought};
 ghost use Rattle.solv_trans.specs.Inner.Effects.{brings};
 ghost use Rattle.solv_trans.specs.Inner.Joining.{is_marked};

@@ -1,8 +1,7 @@
 //! What comes and what goes.
 ghost use Rattle.std.specs.Prelude.{ℕ, ◌≡◌, ◌≤◌, ◌<◌, ◌+◌, ◌||◌, false, length, IfOk};
 ghost use Rattle.std.specs.List.{list_any};
-ghost use Rattle.solv_pool.specs.Belonging.{IsOver};
-ghost use Rattle.solv_pool.specs.Catalog.{catalog_of, packages};
+ghost use Rattle.solv_pool.specs.Prelude.{IsOver, catalog_of, packages};
 ghost use Rattle.solv_trans.specs.Moving.{comes, goes};
 ghost use Rattle.solv_trans.specs.Inner.Joining.{is_marked, comes_named, turn_of, AreTurns};
 

@@ -1,9 +1,6 @@
 //! The changes to a set.
 ghost use Rattle.std.specs.Prelude.{◌≡◌, ◌≤◌, ◌+◌, ◌&&◌, ◌++◌, ◌∷◌, [], not, length, true, map, filter, IfOk, OnOk};
-ghost use Rattle.solv_pool.specs.Belonging.{IsOver};
-ghost use Rattle.solv_pool.specs.Catalog.{catalog_of, packages};
-ghost use Rattle.solv_pool.specs.TaskBelonging.{is_pack};
-ghost use Rattle.solv_pool.specs.Words.{is_among, when};
+ghost use Rattle.solv_pool.specs.Prelude.{IsOver, catalog_of, packages, is_pack, is_among, when};
 ghost use Rattle.solv_prov.specs.Index.{IsIndexOf};
 ghost use Rattle.solv_trans.specs.declared.kinds.Change.TheVariants.{Install};
 ghost use Rattle.solv_trans.specs.Changes.{changes};

@@ -1,13 +1,10 @@
 //! What may take the place of an installed package.
 ghost use Rattle.std.specs.Prelude.{ℕ, List, ◌≡◌, ◌&&◌, ◌||◌, ◌==◌, not, true, filter, length, IfOk, OnOk};
 ghost use Rattle.std.specs.List.{list_any, list_all};
-ghost use Rattle.solv_pool.specs.Belonging.{IsOver};
-ghost use Rattle.solv_pool.specs.Catalog.{catalog_of, packages, is_installed, same_name};
+ghost use Rattle.solv_pool.specs.Prelude.{IsOver, catalog_of, packages, is_installed, same_name, update_candidates, feature_candidates, successors, is_pack};
 ghost use Rattle.solv_pool.specs.Best.{top_priority};
-ghost use Rattle.solv_pool.specs.HardRules.{update_candidates, feature_candidates, successors};
 ghost use Rattle.solv_pool.specs.Installable.{is_installable};
 ghost use Rattle.solv_pool.specs.Providing.{obsoletes};
-ghost use Rattle.solv_pool.specs.TaskBelonging.{is_pack};
 ghost use Rattle.solv_pool.specs.Updates.{coexist, is_feature, is_legal, flags_allow, feature_set, is_equal_to, is_on_top, may_stay, dup_set};
 ghost use Rattle.solv_pool.specs.Inner.Updates.{legal_set};
 ghost use Rattle.solv_prov.specs.Index.{IsIndexOf};

@@ -9,7 +9,7 @@ use Rattle.solv_watch.specs.Inner.Chains.{no_link, Has, IsChain, AreHung, AreAll
 use Rattle.solv_watch.specs.Inner.Spares.{AreTwoOf}
 use Rattle.solv_watch.specs.Inner.Watching.{literal_of, place_at, IsWatch, ArePairs, AreChained, AreChainedTo, AreNarrow}
 use Rattle.std.specs.Ordering.{int_eq}
-use Rattle.solv_pool.specs.Propagation.{is_fact}
+use Rattle.solv_pool.specs.Prelude.{is_fact}
 use Rattle.solv_derive.proofs.Facts.{known_later, known_same}
 use Rattle.solv_watch.specs.Inner.Spares.{without}
 use Rattle.solv_watch.proofs.Pairs.{two_flip, without_here, without_later}

@@ -4,7 +4,7 @@ use Rattle.std.specs.Prelude.{ℤ, neg_ℤ, slice_get}
 use Rattle.std.specs.List.{list_all}
 use Rattle.std.proofs.lemmas.Bool.{and_parts, cases_Bool, cases_lt, false≢true}
 use Rattle.std.proofs.lemmas.List.{length_push, length-take-le, get_or-take}
-use Rattle.solv_pool.specs.Propagation.{is_fact, is_refuted, is_open}
+use Rattle.solv_pool.specs.Prelude.{is_fact, is_refuted, is_open}
 use Rattle.solv_derive.specs.Forced.{forced}
 use Rattle.solv_derive.proofs.Facts.{open_parts, known_here, same_self}
 use Rattle.solv_watch.specs.Inner.Chains.{no_link}

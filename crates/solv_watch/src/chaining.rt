@@ -1,7 +1,7 @@
 //! Rules are hung at the literals that they watch.
 ghost use Rattle.std.specs.Prelude.{◌≡◌, ◌<◌, ◌≤◌, ◌+◌, ◌*◌, ◌^◌, ◌++◌, ◌∷◌, [], ℕ, ℤ, pos, true, List, Some, length, take, slice_get, slice_index, slice_set, IfOk, OnOk, vec_capacity};
 ghost use Rattle.solv_pack.specs.Inner.Literals.{place_of};
-ghost use Rattle.solv_pool.specs.Range.{are_over};
+ghost use Rattle.solv_pool.specs.Prelude.{are_over};
 ghost use Rattle.solv_watch.specs.Inner.Chains.{no_link};
 ghost use Rattle.solv_watch.specs.Inner.Spares.{AreTwoOf};
 ghost use Rattle.solv_watch.specs.Inner.Watching.{AreChained, AreChainedTo, AreHeads, AreHeadsFrom, AreNarrow};

@@ -1,7 +1,7 @@
 //! Propagation and choices in turn.
 ghost use Rattle.std.specs.Prelude.{◌≡◌, ◌<◌, ◌≤◌, ◌^◌, ◌++◌, ℕ, ℤ, true, List, length, nat_lt};
 ghost use Rattle.std.specs.List.{list_all};
-ghost use Rattle.solv_pool.specs.Range.{are_over};
+ghost use Rattle.solv_pool.specs.Prelude.{are_over};
 ghost use Rattle.solv_trail.specs.Propagated.{in_use};
 ghost use Rattle.solv_trail.specs.Inner.Descends.{AsksUnknown, Ended, IsKept};
 ghost use Rattle.solv_watch.specs.Inner.Propagating.{AreWatched, AreKeptAtChoices, AreReady};

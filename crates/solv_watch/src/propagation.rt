@@ -1,11 +1,10 @@
 //! Unit propagation.
 ghost use Rattle.std.specs.Prelude.{◌≡◌, ◌<◌, ◌≤◌, ◌+◌, ◌-◌, ◌*◌, ◌^◌, ◌++◌, ℕ, ℤ, Bool, [], List, Some, None, true, false, length, take, nat_lt, slice_get, slice_index, Option, IfSome};
 ghost use Rattle.std.specs.List.{list_all};
-ghost use Rattle.solv_pool.specs.Range.{are_over};
+ghost use Rattle.solv_pool.specs.Prelude.{are_over, is_fact};
 ghost use Rattle.solv_derive.specs.Forced.{is_falsified};
 ghost use Rattle.solv_trail.specs.Propagated.{in_use};
 ghost use Rattle.solv_trail.specs.Inner.Propagated.{IsUsed, IsGrown, Propagated};
-ghost use Rattle.solv_pool.specs.Propagation.{is_fact};
 ghost use Rattle.solv_derive.specs.Inner.Forced.{is_satisfied};
 ghost use Rattle.solv_watch.specs.Inner.Watching.{AreChained, AreNarrow, AreNarrowTrue, AreGuards, AreGuardsAtChoices, Each, IsPart, always, IsKeptAtChoices, IsKeptUpto};
 ghost use Rattle.solv_watch.specs.Inner.Propagating.{AreWatched, AreKeptAtChoices, AreReady, AreSeen};

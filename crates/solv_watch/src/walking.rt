@@ -1,9 +1,8 @@
 //! A walk through the watches of a literal that became false.
 ghost use Rattle.std.specs.Prelude.{◌≡◌, ◌<◌, ◌≤◌, ◌+◌, ◌*◌, ◌/◌, ◌%◌, ◌^◌, ℕ, ℤ, pos, neg_ℤ, Bool, true, List, Some, None, length, take, nat_lt, slice_get, slice_index, slice_index_or, slice_set, Option, IfSome};
 ghost use Rattle.std.specs.List.{list_all};
-ghost use Rattle.solv_pool.specs.Propagation.{is_fact};
+ghost use Rattle.solv_pool.specs.Prelude.{is_fact, is_over, are_over, names_package};
 ghost use Rattle.solv_pack.specs.Inner.Literals.{place_of};
-ghost use Rattle.solv_pool.specs.Range.{is_over, are_over, names_package};
 ghost use Rattle.solv_derive.specs.Forced.{is_falsified};
 ghost use Rattle.solv_trail.specs.Propagated.{in_use};
 ghost use Rattle.solv_trail.specs.Inner.Propagated.{IsUsed, IsGrown};

@@ -1,8 +1,7 @@
 //! What is cleaned with what is erased, and what nobody needs.
 ghost use Rattle.std.specs.Prelude.{◌≡◌, ◌∷◌, [], true, false, codes};
-ghost use Rattle.solv_pool.specs.Catalog.{catalog_of, installed_set};
+ghost use Rattle.solv_pool.specs.Prelude.{catalog_of, installed_set, marks_of};
 ghost use Rattle.solv_pool.specs.Cleaning.{touched, kept};
-ghost use Rattle.solv_pool.specs.JobMarks.{marks_of};
 ghost use Rattle.solv_pool.specs.Needs.{needs};
 ghost use Rattle.solv_pool.specs.declared.jobs.Choice.TheVariants.{Name, OneOf};
 ghost use Rattle.solv_pool.specs.declared.jobs.Action.TheVariants.{Install, Erase, UserInstalled};

@@ -2,7 +2,7 @@
 ghost use Rattle.std.specs.Prelude.{◌≡◌, ◌∷◌, [], map, codes};
 ghost use Rattle.std.specs.List.{range_with_len};
 ghost use Rattle.solv_trail.specs.declared.questions.Question.TheVariants as question;
-ghost use Rattle.solv_pool.specs.Catalog.{catalog_of};
+ghost use Rattle.solv_pool.specs.Prelude.{catalog_of};
 ghost use Rattle.solv_lines.specs.Inner.RuleTexts.{rule_text_at};
 ghost use Rattle.solv_lines.specs.Comparing.{missing_lines};
 ghost use Rattle.solv_lines.specs.LineSets.{line_set};

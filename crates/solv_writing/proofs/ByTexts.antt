@@ -8,7 +8,7 @@ use Rattle.solv_base.specs.Pool.{Held, text_at}
 use Rattle.solv_deps.specs.Canonical.{comparison_text}
 use Rattle.solv_pool.specs.Contents.{Contents}
 use Rattle.solv_pool.specs.PackageText.{package_text, repo_text}
-use Rattle.solv_pool.specs.Written.{WrittenPackage, WrittenRepo, written_job, written_package, written_repo, written_task}
+use Rattle.solv_pool.specs.Prelude.{WrittenPackage, WrittenRepo, written_job, written_package, written_repo, written_task}
 use Rattle.solv_pool.specs.declared.jobs.Job.{Job}
 use Rattle.solv_pool.specs.declared.packages.Package.{Package}
 use Rattle.solv_pool.specs.declared.packages.Repo.{Repo}

@@ -6,7 +6,7 @@ use Rattle.solv_base.specs.Pool.{Held}
 use Rattle.solv_pool.specs.Contents.{Contents}
 use Rattle.solv_pool.specs.Installable.{is_disabled}
 use Rattle.solv_pool.specs.Inner.Catalog.{alone}
-use Rattle.solv_pool.specs.Words.{when}
+use Rattle.solv_pool.specs.Prelude.{when}
 use Rattle.solv_list.proofs.Lists.{drop_get, some_there}
 use Rattle.solv_writing.specs.Inner.ByIds.{disable_text, disabled_texts}
 use Rattle.solv_io.proofs.WrittenLines.{ended_lines-append}

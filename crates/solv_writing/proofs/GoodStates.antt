@@ -3,7 +3,7 @@ use Rattle.std.proofs.Common.{◌≡◌, ℕ, true, Bool, List, [], ◌∷◌, �
 use Rattle.std.specs.List.{list_all}
 use Rattle.std.proofs.lemmas.List.Elements.{All-push}
 use Rattle.solv_base.specs.Pool.{Held}
-use Rattle.solv_pool.specs.Written.{WrittenPackage}
+use Rattle.solv_pool.specs.Prelude.{WrittenPackage}
 use Rattle.solv_script.specs.Reads.{WrittenRound}
 use Rattle.solv_script.specs.States.{State, with_rounds, script_given}
 use Rattle.solv_script.specs.Inner.LineParts.{in_hand}

@@ -12,7 +12,7 @@ use Rattle.std.proofs.lemmas.List.Folds.{prefix_len-append}
 use Rattle.std.proofs.lemmas.List.Quantifiers.{position-Some}
 use Rattle.std.proofs.lemmas.Option.{slice_get-get_or}
 use Rattle.solv_pool.specs.Contents.{most_packages}
-use Rattle.solv_pool.specs.Written.{WrittenTask, WrittenRepo, WrittenPackage, WrittenJob, WrittenChoice}
+use Rattle.solv_pool.specs.Prelude.{WrittenTask, WrittenRepo, WrittenPackage, WrittenJob, WrittenChoice}
 use Rattle.solv_pool.specs.declared.universes.Arch.{Arch}
 use Rattle.solv_commands.specs.Commands.{Asked, pkg, by_name, by_provides, one_of, all, nothing}
 use Rattle.solv_script.specs.Reads.{WrittenRound}

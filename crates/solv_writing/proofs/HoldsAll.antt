@@ -5,9 +5,7 @@ use Rattle.std.specs.List.{list_all}
 use Rattle.std.proofs.lemmas.Bool.{ltb-true}
 use Rattle.std.proofs.lemmas.List.Elements.{All-nil, All-cons, All-head, All-tail}
 use Rattle.solv_base.specs.Pool.{Held, text_at, text_tree}
-use Rattle.solv_pool.specs.Belonging.{names_of, relations_of, fits}
-use Rattle.solv_pool.specs.TaskBelonging.{IsClosed, choice_fits, line_fits}
-use Rattle.solv_pool.specs.Written.{WrittenRepo, WrittenNeed, WrittenJob, written_repo, written_package, written_choice, written_job}
+use Rattle.solv_pool.specs.Prelude.{names_of, relations_of, fits, IsClosed, choice_fits, line_fits, WrittenRepo, WrittenNeed, WrittenJob, written_repo, written_package, written_choice, written_job}
 use Rattle.solv_pool.specs.declared.jobs.Choice.{Choice}
 use Rattle.solv_pool.specs.declared.jobs.Choice.TheVariants.{Pkg, Name, Provides, OneOf, All as AllPackages, Nothing}
 use Rattle.solv_pool.specs.declared.jobs.Job.{Job}

@@ -12,7 +12,7 @@ use Rattle.solv_base.specs.Pool.{Held}
 use Rattle.solv_deps.specs.Entering.{text_entered}
 use Rattle.solv_deps.specs.Laws.{PrintedIsReadAgain, ReadIsWritten}
 use Rattle.solv_pool.specs.Contents.{most_packages}
-use Rattle.solv_pool.specs.Written.{WrittenRepo, WrittenPackage}
+use Rattle.solv_pool.specs.Prelude.{WrittenRepo, WrittenPackage}
 use Rattle.solv_tags.specs.Headings.{trimmed}
 use Rattle.solv_tags.specs.Testtags.{Repository, testtags}
 use Rattle.solv_tags.specs.declared.tag_fault.TagFault.{TagFault}

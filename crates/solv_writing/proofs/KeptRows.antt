@@ -12,7 +12,7 @@ use Rattle.solv_deps.specs.Entering.{text_entered, dependency_entered}
 use Rattle.solv_deps.specs.Grammar.{is_namespace}
 use Rattle.solv_deps.specs.Reading.{dependency}
 use Rattle.solv_deps.specs.declared.place.Place.TheVariants.{Plain}
-use Rattle.solv_pool.specs.Written.{WrittenTask, WrittenRepo, WrittenPackage, WrittenJob}
+use Rattle.solv_pool.specs.Prelude.{WrittenTask, WrittenRepo, WrittenPackage, WrittenJob}
 use Rattle.solv_pool.specs.Written as written
 use Rattle.solv_pool.specs.declared.jobs.Action.{Action}
 use Rattle.solv_pool.specs.declared.universes.Arch.{Arch}

@@ -9,7 +9,7 @@ use Rattle.solv_io.specs.Words.{is_blank}
 use Rattle.solv_base.specs.Dependency.{Dep}
 use Rattle.solv_deps.specs.Canonical.{comparison_text}
 use Rattle.solv_deps.specs.declared.place.Place.{Place}
-use Rattle.solv_pool.specs.Written.{WrittenTask, WrittenRepo, WrittenPackage, WrittenNeed, WrittenJob}
+use Rattle.solv_pool.specs.Prelude.{WrittenTask, WrittenRepo, WrittenPackage, WrittenNeed, WrittenJob}
 use Rattle.solv_pool.specs.declared.tasks.Flags.{Flags}
 use Rattle.solv_pool.specs.declared.universes.Arch.{Arch}
 use Rattle.solv_pool.specs.declared.universes.Arch.TheVariants.{X86_64, I686, Aarch64}

@@ -6,9 +6,8 @@ use Rattle.std.proofs.lemmas.Bool.{ltb-true}
 use Rattle.std.proofs.lemmas.List.Elements.{filter-append}
 use Rattle.solv_base.specs.Pool.{Held, text_at, text_tree}
 use Rattle.solv_deps.specs.Canonical.{text}
-use Rattle.solv_pool.specs.Belonging.{names_of, relations_of, fits, IsOver}
+use Rattle.solv_pool.specs.Prelude.{names_of, relations_of, fits, IsOver, WrittenNeed, WrittenPackage, written_package}
 use Rattle.solv_pool.specs.Contents.{Contents}
-use Rattle.solv_pool.specs.Written.{WrittenNeed, WrittenPackage, written_package}
 use Rattle.solv_pool.specs.declared.packages.Need.{Need}
 use Rattle.solv_pool.specs.declared.packages.Package.{Package}
 use Rattle.solv_tags.specs.declared.tag.Tag.{Tag}

@@ -16,7 +16,7 @@ use Rattle.solv_deps.specs.Reading.{dependency}
 use Rattle.solv_deps.specs.declared.place.Place.{Place}
 use Rattle.solv_deps.specs.declared.place.Place.TheVariants.{Requires, Conflicts, Plain}
 use Rattle.solv_pool.specs.Contents.{most_packages}
-use Rattle.solv_pool.specs.Written.{WrittenPackage, WrittenNeed}
+use Rattle.solv_pool.specs.Prelude.{WrittenPackage, WrittenNeed}
 use Rattle.solv_tags.specs.Entries.{is_same, with_dependency, with_need, bare_package, evr_text}
 use Rattle.solv_tags.specs.Inner.Tags.{also_pre, with_path, with_entry}
 use Rattle.solv_tags.specs.Inner.Tags.{entry_sign, opening_sign, closing_sign, after_heading, tag, place_of}

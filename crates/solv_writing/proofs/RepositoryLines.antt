@@ -6,9 +6,8 @@ use Rattle.std.proofs.lemmas.Bool.{ltb-true}
 use Rattle.solv_io.specs.JoinedWords.{joined}
 use Rattle.solv_io.specs.Lines.{ended_lines}
 use Rattle.solv_base.specs.Pool.{Held, text_at}
-use Rattle.solv_pool.specs.Belonging.{IsOver}
+use Rattle.solv_pool.specs.Prelude.{IsOver, WrittenPackage, written_package, written_repo}
 use Rattle.solv_pool.specs.Contents.{Contents}
-use Rattle.solv_pool.specs.Written.{WrittenPackage, written_package, written_repo}
 use Rattle.solv_pool.specs.declared.packages.Package.{Package}
 use Rattle.solv_pool.specs.declared.packages.Repo.{Repo}
 use Rattle.solv_script.specs.Grammar.{inline}

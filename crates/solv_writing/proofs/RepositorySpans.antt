@@ -5,8 +5,7 @@ use Rattle.std.proofs.lemmas.Bool.Decides.{nat_tests}
 use Rattle.std.specs.Prelude.{codes, if◌then◌else◌}
 use Rattle.std.specs.Option.{option_map_or}
 use Rattle.solv_base.specs.Pool.{Held}
-use Rattle.solv_pool.specs.Words.{passes}
-use Rattle.solv_pool.specs.Written.{written_package}
+use Rattle.solv_pool.specs.Prelude.{passes, written_package}
 use Rattle.solv_pool.specs.declared.packages.Package.{Package}
 use Rattle.solv_script.specs.Grammar.{inline}
 use Rattle.solv_list.proofs.Booleans.{or_true}

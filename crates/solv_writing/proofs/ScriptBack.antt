@@ -11,7 +11,7 @@ use Rattle.solv_io.proofs.WrittenLines.{lines_of-ended}
 use Rattle.solv_base.specs.Pool.{Held, IsPool}
 use Rattle.solv_deps.specs.Laws.{HeldIsEntered}
 use Rattle.solv_pool.specs.Contents.{most_packages}
-use Rattle.solv_pool.specs.Written.{WrittenRepo, WrittenPackage, WrittenJob}
+use Rattle.solv_pool.specs.Prelude.{WrittenRepo, WrittenPackage, WrittenJob}
 use Rattle.solv_pool.specs.declared.tasks.Flags.{Flags}
 use Rattle.solv_pool.specs.declared.universes.Arch.{Arch}
 use Rattle.solv_script.specs.Grammar.{Bad, most_file, most_script, script_read}

@@ -9,7 +9,7 @@ use Rattle.solv_base.specs.Pool.{Held, IsPool}
 use Rattle.solv_deps.specs.Canonical.{comparison_text}
 use Rattle.solv_deps.specs.Entering.{dependency_entered}
 use Rattle.solv_deps.specs.Laws.{HeldIsEntered}
-use Rattle.solv_pool.specs.Written.{WrittenTask, WrittenJob, WrittenChoice}
+use Rattle.solv_pool.specs.Prelude.{WrittenTask, WrittenJob, WrittenChoice}
 use Rattle.solv_pool.specs.declared.tasks.Flags.{Flags}
 use Rattle.solv_commands.specs.Commas.{between_commas}
 use Rattle.solv_io.specs.JoinedWords.{joined, is_word}

@@ -16,7 +16,7 @@ use Rattle.solv_deps.specs.Laws.{HeldIsEntered}
 use Rattle.solv_deps.specs.Reading.{dependency}
 use Rattle.solv_deps.specs.declared.place.Place.TheVariants.{Requires}
 use Rattle.solv_pool.specs.Contents.{most_packages}
-use Rattle.solv_pool.specs.Written.{WrittenPackage, WrittenNeed}
+use Rattle.solv_pool.specs.Prelude.{WrittenPackage, WrittenNeed}
 use Rattle.solv_tags.specs.Entries.{is_same, with_dependency, with_need, bare_package}
 use Rattle.solv_tags.specs.Inner.Tags.{with_path, with_entry}
 use Rattle.solv_tags.specs.Inner.Tags.{place_of}

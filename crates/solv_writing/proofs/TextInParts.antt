@@ -10,7 +10,7 @@ use Rattle.solv_io.specs.JoinedWords.{joined}
 use Rattle.solv_io.specs.Lines.{ended_lines}
 use Rattle.solv_base.specs.Dependency.{Dep}
 use Rattle.solv_deps.specs.Canonical.{comparison_text, text}
-use Rattle.solv_pool.specs.Written.{WrittenTask, WrittenRepo, WrittenPackage, WrittenNeed}
+use Rattle.solv_pool.specs.Prelude.{WrittenTask, WrittenRepo, WrittenPackage, WrittenNeed}
 use Rattle.solv_pool.specs.declared.universes.Arch.{Arch}
 use Rattle.solv_tags.specs.declared.tag.Tag.{Tag}
 use Rattle.solv_tags.specs.declared.tag.Tag.TheVariants.{Pkg, Prv, Con, Obs, Rec, Sug, Sup, Enh, Vnd, Fls, Req, Prq}

@@ -12,7 +12,7 @@ use Rattle.solv_deps.specs.Entering.{text_entered}
 use Rattle.solv_deps.specs.Grammar.{is_namespace}
 use Rattle.solv_deps.specs.Laws.{HeldIsEntered}
 use Rattle.solv_pool.specs.Contents.{most_packages}
-use Rattle.solv_pool.specs.Written.{WrittenTask, WrittenRepo, WrittenPackage}
+use Rattle.solv_pool.specs.Prelude.{WrittenTask, WrittenRepo, WrittenPackage}
 use Rattle.solv_pool.specs.declared.universes.Arch.{Arch}
 use Rattle.solv_pool.specs.declared.universes.Arch.TheVariants.{X86_64, I686, Aarch64}
 use Rattle.solv_tags.specs.Testtags.{Repository, testtags}

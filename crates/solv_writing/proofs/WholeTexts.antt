@@ -4,7 +4,7 @@ use Rattle.std.specs.Prelude.{codes}
 use Rattle.solv_io.specs.JoinedWords.{joined}
 use Rattle.solv_io.specs.Lines.{ended_lines}
 use Rattle.solv_deps.specs.Canonical.{comparison_text}
-use Rattle.solv_pool.specs.Written.{written_package, written_repo, written_task}
+use Rattle.solv_pool.specs.Prelude.{written_package, written_repo, written_task}
 use Rattle.solv_pool.specs.declared.tasks.Task.{Task}
 use Rattle.solv_script.specs.Reads.{written_script}
 use Rattle.solv_script.specs.Rounds as rounds

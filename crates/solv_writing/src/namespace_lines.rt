@@ -2,8 +2,7 @@
 ghost use Rattle.std.specs.Prelude.{◌≡◌, ◌++◌, ◌∷◌, ◌<◌, [], true, length, map, nat_le, OnOk};
 ghost use Rattle.std.specs.List.{list_all};
 ghost use Rattle.solv_io.specs.Lines.{ended_lines};
-ghost use Rattle.solv_pool.specs.Belonging.{IsOver};
-ghost use Rattle.solv_pool.specs.TaskBelonging.{line_fits};
+ghost use Rattle.solv_pool.specs.Prelude.{IsOver, line_fits};
 ghost use Rattle.solv_writing.specs.Inner.ByIds.{namespace_text};
 
 use crate::line_words::add_word;

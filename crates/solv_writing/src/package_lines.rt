@@ -2,7 +2,7 @@
 ghost use Rattle.std.specs.Prelude.{◌≡◌, ◌++◌, ◌∷◌, [], true, length, nat_lt, codes, map, option_to_list, OnOk};
 ghost use Rattle.std.specs.List.{list_all};
 ghost use Rattle.solv_base.specs.Pool.{text_at};
-ghost use Rattle.solv_pool.specs.Written.{written_package};
+ghost use Rattle.solv_pool.specs.Prelude.{written_package};
 ghost use Rattle.solv_writing.specs.Inner.PackageLines.{HasNames, HasRelations, strong_lines, weak_lines};
 ghost use Rattle.solv_writing.specs.Inner.TagParts.{tag_line, package_lines, entry_line};
 ghost use Rattle.solv_writing.specs.Inner.LineNames.{package_entry};

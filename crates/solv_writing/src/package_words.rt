@@ -2,11 +2,10 @@
 ghost use Rattle.std.specs.Prelude.{◌≡◌, ◌++◌, ◌∷◌, ◌+◌, ◌≤◌, [], true, length, map, flat_map, nat_le, OnOk};
 ghost use Rattle.std.specs.List.{list_all};
 ghost use Rattle.solv_io.specs.Lines.{ended_lines};
-ghost use Rattle.solv_pool.specs.Belonging.{IsOver};
+ghost use Rattle.solv_pool.specs.Prelude.{IsOver, when};
 ghost use Rattle.solv_pool.specs.Inner.Catalog.{alone};
 ghost use Rattle.solv_pool.specs.Installable.{is_disabled};
 ghost use Rattle.solv_pool.specs.PackageText.{package_text};
-ghost use Rattle.solv_pool.specs.Words.{when};
 ghost use Rattle.solv_writing.specs.Inner.ByIds.{disable_text, disabled_texts};
 
 use solv_base::Pool;

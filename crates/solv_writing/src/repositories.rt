@@ -1,7 +1,6 @@
 //! Repositories as lines.
 ghost use Rattle.std.specs.Prelude.{◌≡◌, ◌++◌, ◌∷◌, ◌<◌, [], map, length, IfOk, OnOk, Some, slice_get, ◌==◌};
-ghost use Rattle.solv_pool.specs.Belonging.{IsOver};
-ghost use Rattle.solv_pool.specs.Written.{written_package};
+ghost use Rattle.solv_pool.specs.Prelude.{IsOver, written_package};
 ghost use Rattle.solv_writing.specs.Inner.TagParts.{tag_lines};
 ghost use Rattle.solv_writing.specs.Inner.ScriptParts.{packages_of};
 ghost use Rattle.solv_writing.specs.Inner.PackageLines.{HasNames, HasRelations};

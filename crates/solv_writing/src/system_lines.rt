@@ -2,7 +2,7 @@
 ghost use Rattle.std.specs.Prelude.{◌≡◌, ◌++◌, ◌∷◌, [], codes, flat_map, OnOk};
 ghost use Rattle.solv_io.specs.JoinedWords.{joined};
 ghost use Rattle.solv_io.specs.Lines.{ended_lines};
-ghost use Rattle.solv_pool.specs.Belonging.{IsOver};
+ghost use Rattle.solv_pool.specs.Prelude.{IsOver};
 ghost use Rattle.solv_pool.specs.PackageText.{repo_text};
 ghost use Rattle.solv_writing.specs.Inner.ByIds.{installed_texts, system_text};
 ghost use Rattle.solv_script.specs.Rows.{arch_text};

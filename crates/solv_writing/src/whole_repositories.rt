@@ -1,8 +1,7 @@
 //! Repositories with their packages.
 ghost use Rattle.std.specs.Prelude.{◌≡◌, ◌++◌, ◌∷◌, [], ◌<◌, map, length, slice_get, Some, OnOk};
 ghost use Rattle.solv_io.specs.Lines.{ended_lines};
-ghost use Rattle.solv_pool.specs.Belonging.{IsOver};
-ghost use Rattle.solv_pool.specs.Written.{written_package, written_repo};
+ghost use Rattle.solv_pool.specs.Prelude.{IsOver, written_package, written_repo};
 ghost use Rattle.solv_pool.specs.declared.packages.Repo.{Repo};
 ghost use Rattle.solv_writing.specs.Inner.PackageLines.{HasNames, HasRelations};
 ghost use Rattle.solv_writing.specs.Inner.Spans.{IsSpan};

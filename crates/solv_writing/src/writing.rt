@@ -2,9 +2,7 @@
 ghost use Rattle.std.specs.Prelude.{◌≡◌, ◌≤◌, ◌++◌, true, length, IfOk, OnOk};
 ghost use Rattle.std.specs.List.{All, list_all};
 ghost use Rattle.solv_io.specs.Lines.{ended_lines};
-ghost use Rattle.solv_pool.specs.Belonging.{IsOver};
-ghost use Rattle.solv_pool.specs.TaskBelonging.{IsClosed, line_fits};
-ghost use Rattle.solv_pool.specs.Written.{written_task};
+ghost use Rattle.solv_pool.specs.Prelude.{IsOver, IsClosed, line_fits, written_task};
 ghost use Rattle.solv_script.specs.Reads.{written_script};
 ghost use Rattle.solv_script.specs.Rounds.{tasks};
 ghost use Rattle.solv_script.specs.Grammar.{most_file};

@@ -1,8 +1,6 @@
 -- What the rounds of a script share. Inner contracts alone speak of it.
 use Rattle.std.specs.Prelude.{ℕ, ◌≡◌, ◌≤◌, List, ◌++◌, None, IfSome, length, map, take}
-use Rattle.solv_pool.specs.Catalog.{Catalog}
-use Rattle.solv_pool.specs.HardRules.{package_rules, infarch_rules}
-use Rattle.solv_pool.specs.RuleMeaning.{HardRule, rule_with}
+use Rattle.solv_pool.specs.Prelude.{Catalog, package_rules, infarch_rules, HardRule, rule_with}
 use Rattle.solv_pool.specs.declared.hard_rules.Rules.{Rules}
 use Rattle.solv_pool.specs.declared.job_marks.Marks.{Marks}
 use Rattle.solv_pool.specs.declared.tasks.Flags.{Flags}

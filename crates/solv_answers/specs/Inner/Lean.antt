@@ -1,9 +1,7 @@
 -- A task with packages that are left out. Inner contracts alone speak of it.
 use Rattle.std.specs.Prelude.{◌≡◌, ◌+◌, ◌==◌, true, None, length}
 use Rattle.std.specs.List.{list_all}
-use Rattle.solv_pool.specs.Catalog.{catalog_of}
-use Rattle.solv_pool.specs.HardRules.{hard_rules}
-use Rattle.solv_pool.specs.JobMarks.{marks_of}
+use Rattle.solv_pool.specs.Prelude.{catalog_of, hard_rules, marks_of}
 use Rattle.solv_pool.specs.declared.job_marks.Marks.{Marks}
 use Rattle.solv_pool.specs.declared.tasks.Task.{Task}
 use Rattle.solv_jobs.specs.Marking.{HasMarks}

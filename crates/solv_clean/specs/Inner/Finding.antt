@@ -1,7 +1,7 @@
 -- Members of a set that are marked and listed, for inner contracts alone.
 use Rattle.std.specs.Prelude.{◌≡◌, ℕ, ◌<◌, ◌≤◌, Bool, true, ◌&&◌, ◌||◌, ◌==◌, List, length, slice_index, sum_by, ◌⊎◌}
 use Rattle.std.specs.List.{list_any}
-use Rattle.solv_pool.specs.Catalog.{Catalog, dependency}
+use Rattle.solv_pool.specs.Prelude.{Catalog, dependency}
 use Rattle.solv_pool.specs.Needs.{serves, serves_package}
 use Rattle.solv_pool.specs.declared.packages.Need.{Need}
 use Rattle.solv_graph.specs.Inner.Graphs.{edge_to}

@@ -1,7 +1,6 @@
 -- What is known of relations in a set, for inner contracts alone.
 use Rattle.std.specs.Prelude.{◌≡◌, ℕ, Bool, List, Option, Some, None, slice_index_or}
-use Rattle.solv_pool.specs.Catalog.{Catalog, dependency}
-use Rattle.solv_pool.specs.Holding.{holds}
+use Rattle.solv_pool.specs.Prelude.{Catalog, dependency, holds}
 use Rattle.solv_clean.specs.Inner.Tables.{is_marked}
 
 -- what is noted of a relation is whether it holds

@@ -1,9 +1,7 @@
 -- Supplements that are put into a graph, for inner contracts alone. Its vertices are the members by number, and behind them the relations by id: walks lead over relations from what serves a supplement to the members that have it.
 use Rattle.std.specs.Prelude.{◌≡◌, ℕ, ◌<◌, ◌+◌, Bool, true, ◌&&◌, ◌||◌, ◌==◌, List, length}
 use Rattle.std.specs.List.{list_any}
-use Rattle.solv_pool.specs.Words.{is_among, passes}
-use Rattle.solv_pool.specs.Catalog.{Catalog, package_at, dependency}
-use Rattle.solv_pool.specs.Holding.{holds}
+use Rattle.solv_pool.specs.Prelude.{is_among, passes, Catalog, package_at, dependency, holds}
 use Rattle.solv_pool.specs.Needs.{supplements}
 use Rattle.solv_graph.specs.Walks.{Leads}
 use Rattle.solv_graph.specs.Inner.Graphs.{edge_to}

@@ -1,7 +1,7 @@
 -- What the user asked for by name.
 use Rattle.std.specs.Prelude.{ℕ, Bool, ◌&&◌, List}
 use Rattle.std.specs.List.{list_any}
-use Rattle.solv_pool.specs.Catalog.{Catalog, packages, same_name}
+use Rattle.solv_pool.specs.Prelude.{Catalog, packages, same_name}
 use Rattle.solv_pool.specs.JobKinds.{acts, job_selects_installed}
 use Rattle.solv_pool.specs.declared.jobs.Job.{Job}
 use Rattle.solv_pool.specs.declared.jobs.Action.TheVariants.{UserInstalled}

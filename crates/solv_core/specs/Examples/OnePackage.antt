@@ -3,8 +3,7 @@ use Rattle.std.proofs.Common.{◌≡◌, ◌⊎◌, ℕ, suc, ◌<◌, ◌≤◌
 use Rattle.std.specs.Prelude.{ℤ, pos, negsuc, neg_ℤ, is_none, filter}
 use Rattle.std.specs.List.{list_all, list_any}
 use Rattle.std.proofs.lemmas.Bool.{and_parts, and_from, ne_eqb, cases_Bool, cases_eq, false≢true}
-use Rattle.solv_pool.specs.Clauses.{literal_true, clause_true}
-use Rattle.solv_pool.specs.Propagation.{only}
+use Rattle.solv_pool.specs.Prelude.{literal_true, clause_true, only}
 use Rattle.solv_pool.specs.Inner.Propagation.{forced_by}
 use Rattle.solv_trail.specs.Inner.Asked.{AreApart, KeepsLaw, is_quiet}
 use Rattle.solv_trail.specs.Asked.{enabled_clauses, is_enabled, set_of}

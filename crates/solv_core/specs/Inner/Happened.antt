@@ -1,6 +1,6 @@
 -- The events of what is held: a literal at a choice was taken, each other is known.
 use Rattle.std.specs.Prelude.{◌≡◌, ◌<◌, ◌==◌, ◌&&◌, ℕ, pos, nat_abs, nat_lt, Bool, false, List, length, take, slice_get, slice_index, slice_index_or, Some}
-use Rattle.solv_pool.specs.Propagation.{is_fact}
+use Rattle.solv_pool.specs.Prelude.{is_fact}
 use Rattle.solv_trail.specs.Inner.Held.{Held}
 use Rattle.solv_trail.specs.declared.questions.Question.{Question}
 use Rattle.solv_core.specs.declared.verdicts.Event.{Event}

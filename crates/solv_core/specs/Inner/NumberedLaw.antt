@@ -3,9 +3,8 @@ use Rattle.std.proofs.Common.{◌≡◌, ◌⊎◌, ℕ, zero, suc, ◌+◌, ◌
 use Rattle.std.specs.Prelude.{ℤ, pos, negsuc, neg_ℤ, nat_lt, nat_le, is_none}
 use Rattle.std.specs.List.{list_all}
 use Rattle.std.proofs.lemmas.Bool.{and_parts, and_from, or_left, or_right, or_from, ne_eqb, cases_Bool, false≢true, leb-true, ltb-true}
-use Rattle.solv_pool.specs.Clauses.{literal_true, clause_true}
+use Rattle.solv_pool.specs.Prelude.{literal_true, clause_true, names_package, is_over, are_over}
 use Rattle.solv_pool.specs.Inner.Propagation.{forced_by}
-use Rattle.solv_pool.specs.Range.{names_package, is_over, are_over}
 use Rattle.solv_trail.specs.Inner.Asked.{KeepsLaw, is_quiet}
 use Rattle.solv_trail.specs.Asked.{enabled_clauses, is_enabled, set_of}
 use Rattle.solv_trail.specs.declared.questions.Ask.{Ask}

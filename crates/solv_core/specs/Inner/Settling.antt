@@ -1,6 +1,6 @@
 -- How a run over conflicts ends.
 use Rattle.std.specs.Prelude.{◌≡◌, ℕ, ℤ, ◌+◌, ◌<◌, ◌≤◌, Bool, List, ◌++◌, map, length, Option, None}
-use Rattle.solv_pool.specs.Propagation.{is_fact}
+use Rattle.solv_pool.specs.Prelude.{is_fact}
 use Rattle.solv_derive.specs.declared.logs.Hint.{Hint}
 use Rattle.solv_trail.specs.Inner.Descends.{IsKept}
 use Rattle.solv_trail.specs.Descends.{asked_pack}

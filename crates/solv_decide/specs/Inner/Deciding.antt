@@ -5,9 +5,7 @@ use Rattle.solv_trail.specs.Inner.Asked.{KeepsLaw}
 use Rattle.solv_trail.specs.Asked.{enabled_clauses}
 use Rattle.solv_plan.specs.Inner.Plans.{plan_asks}
 use Rattle.solv_decide.specs.Deciding.{rules_on, IsSolution, IsRefuted}
-use Rattle.solv_base.specs.Dependency.{IsWellFounded}
-use Rattle.solv_pool.specs.Clauses.{rule_clauses}
-use Rattle.solv_pool.specs.Range.{are_over}
+use Rattle.solv_pool.specs.Prelude.{IsWellFounded, rule_clauses, are_over}
 use Rattle.solv_core.specs.Cores.{CoreOf}
 use Rattle.solv_core.specs.declared.verdicts.Verdict.{Verdict}
 use Rattle.solv_rules.specs.Books.{owners_from}

@@ -1,6 +1,6 @@
 -- What a decision leaves for the next one.
 use Rattle.std.specs.Prelude.{◌≡◌}
-use Rattle.solv_pool.specs.Catalog.{Catalog}
+use Rattle.solv_pool.specs.Prelude.{Catalog}
 use Rattle.solv_pool.specs.declared.job_marks.Marks.{Marks}
 use Rattle.solv_pool.specs.declared.tasks.Flags.{Flags}
 use Rattle.solv_plan.specs.Inner.Behind.{rest_by}

@@ -3,7 +3,7 @@ use Rattle.std.specs.Prelude.{◌≡◌, ℤ, pos, true, List, length, take, Opt
 use Rattle.std.specs.Option.{IfSome}
 use Rattle.std.proofs.Common.{ap, ◌∙◌}
 use Rattle.std.proofs.lemmas.Option.{IfSome_then}
-use Rattle.solv_pool.specs.Propagation.{is_fact}
+use Rattle.solv_pool.specs.Prelude.{is_fact}
 use Rattle.solv_trail.proofs.Walk.{take_known}
 use Rattle.solv_plan.specs.Inner.Settling.{AreFit}
 use Rattle.solv_plan.specs.declared.memory.Memory.{Memory}

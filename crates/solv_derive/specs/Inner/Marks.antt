@@ -1,8 +1,7 @@
 -- What the checker's table of marks says. No public contract names it.
 use Rattle.std.specs.Prelude.{◌≡◌, ℕ, ◌+◌, ◌*◌, ◌≤◌, ◌==◌, ℤ, Bool, true, List, slice_index, length}
 use Rattle.solv_pack.specs.Inner.Literals.{place_of}
-use Rattle.solv_pool.specs.Propagation.{is_fact}
-use Rattle.solv_pool.specs.Range.{names_package}
+use Rattle.solv_pool.specs.Prelude.{is_fact, names_package}
 
 -- the mark of the literal is that of now
 abbrev pub is_marked : List ℕ → ℕ → ℤ → Bool

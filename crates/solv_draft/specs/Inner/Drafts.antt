@@ -1,8 +1,7 @@
 -- What holds of a task that is built by calls. Contracts between functions alone speak of it.
 use Rattle.std.specs.Prelude.{◌≡◌, Result, Ok}
 use Rattle.solv_base.specs.Pool.{Grows}
-use Rattle.solv_pool.specs.TaskBelonging.{IsClosed}
-use Rattle.solv_pool.specs.Written.{written_task}
+use Rattle.solv_pool.specs.Prelude.{IsClosed, written_task}
 use Rattle.solv_pool.specs.declared.jobs.Choice.{Choice}
 use Rattle.solv_pool.specs.declared.jobs.Job.{Job}
 use Rattle.solv_pool.specs.declared.tasks.Task.{Task}

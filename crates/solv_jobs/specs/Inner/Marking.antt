@@ -1,7 +1,7 @@
 -- Tables of packages that jobs are written into, one job after another.
 use Rattle.std.specs.Prelude.{ℕ, ℤ, pos, negsuc, Bool, true, false, not, ◌||◌, List, [], ◌∷◌, filter, slice_set, Option, Some, None, if◌then◌else◌}
 use Rattle.std.specs.Option.{option_map_or}
-use Rattle.solv_pool.specs.Catalog.{Catalog, is_installed}
+use Rattle.solv_pool.specs.Prelude.{Catalog, is_installed}
 use Rattle.solv_pool.specs.Selections.{selection}
 use Rattle.solv_pool.specs.JobKinds.{job_selects, job_selects_installed}
 use Rattle.solv_pool.specs.Inner.JobKinds.{is_install, is_user_installed, is_cleaning, is_update, is_distupgrade, is_verify, is_multiversion, is_allow_uninstall, is_erase}

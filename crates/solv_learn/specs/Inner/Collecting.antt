@@ -1,6 +1,6 @@
 -- What a search through the literals that are known collects.
 use Rattle.std.specs.Prelude.{◌≡◌, ℕ, ℤ, neg_ℤ, ◌<◌, ◌≤◌, nat_lt, Bool, true, false, List, map, take, length}
-use Rattle.solv_pool.specs.Propagation.{is_fact, is_refuted}
+use Rattle.solv_pool.specs.Prelude.{is_fact, is_refuted}
 use Rattle.solv_learn.specs.Collecting.{is_plain}
 
 -- T: the literals in their order, of which those before `first` were known without a choice, and those before `last` before the last one.

@@ -2,7 +2,7 @@
 use Rattle.std.specs.Prelude.{◌≡◌, ℕ, ℤ, neg_ℤ, ◌<◌, ◌≤◌, ◌-◌, Bool, true, List, [], map, take, length, slice_index, Option}
 use Rattle.std.specs.List.{list_all}
 use Rattle.solv_derive.specs.Logs.{ends_in_conflict}
-use Rattle.solv_pool.specs.Range.{is_over}
+use Rattle.solv_pool.specs.Prelude.{is_over}
 use Rattle.solv_derive.specs.declared.logs.Hint.{Hint}
 use Rattle.solv_trail.specs.Inner.Derivation.{IsQuiet}
 use Rattle.solv_trail.specs.Inner.Held.{Held}

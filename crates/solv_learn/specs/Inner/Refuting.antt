@@ -1,6 +1,6 @@
 -- Going back over the literals that are known, from a falsified clause: what the hints so far show.
 use Rattle.std.specs.Prelude.{◌≡◌, ℕ, ℤ, ◌+◌, ◌-◌, ◌<◌, nat_lt, nat_le, Bool, true, ◌&&◌, List, take, length, slice_get, ◌⊎◌, Option, if◌then◌else◌}
-use Rattle.solv_pool.specs.Propagation.{is_fact}
+use Rattle.solv_pool.specs.Prelude.{is_fact}
 use Rattle.solv_derive.specs.Logs.{ends_in_conflict}
 use Rattle.solv_derive.specs.declared.logs.Hint.{Hint}
 use Rattle.solv_derive.specs.declared.logs.Hint.TheVariants as hint

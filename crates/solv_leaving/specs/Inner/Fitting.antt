@@ -1,11 +1,7 @@
 -- That the rules which are not made would not pass a limit either.
 use Rattle.std.specs.Prelude.{ℕ, ◌≡◌, ◌≤◌, ◌+◌, Bool, true, false, not, nat_lt, List, [], Option, Some, None, flat_map, length, sum_by, filter, if◌then◌else◌}
 use Rattle.std.specs.Option.{option_map_or}
-use Rattle.solv_pool.specs.Words.{passes}
-use Rattle.solv_pool.specs.Catalog.{Catalog, packages, package_at, dependency}
-use Rattle.solv_pool.specs.Clauses.{all_meeting, rule_clauses, words_of_all}
-use Rattle.solv_pool.specs.HardRules.{hard_rules_by}
-use Rattle.solv_pool.specs.JobMarks.{marked}
+use Rattle.solv_pool.specs.Prelude.{passes, Catalog, packages, package_at, dependency, all_meeting, rule_clauses, words_of_all, hard_rules_by, marked}
 use Rattle.solv_pool.specs.declared.jobs.Job.{Job}
 use Rattle.solv_pool.specs.declared.job_marks.Marks.{Marks}
 use Rattle.solv_pool.specs.declared.packages.Need.{Need}

@@ -1,10 +1,7 @@
 -- From where it is asked: the packages that may be taken by themselves, for inner contracts alone.
 use Rattle.std.specs.Prelude.{◌≡◌, ℕ, ◌<◌, ◌+◌, Bool, true, not, ◌&&◌, ◌||◌, ◌==◌, List, length}
 use Rattle.std.specs.List.{list_all, list_any}
-use Rattle.solv_base.specs.Dependency.{package_wise}
-use Rattle.solv_pool.specs.Words.{is_among, passes}
-use Rattle.solv_pool.specs.Catalog.{Catalog, package_at, dependency, is_installed}
-use Rattle.solv_pool.specs.HardRules.{feature_candidates}
+use Rattle.solv_pool.specs.Prelude.{package_wise, is_among, passes, Catalog, package_at, dependency, is_installed, feature_candidates}
 use Rattle.solv_pool.specs.JobKinds.{job_selects}
 use Rattle.solv_pool.specs.Inner.JobKinds.{is_install}
 use Rattle.solv_pool.specs.declared.jobs.Job.{Job}

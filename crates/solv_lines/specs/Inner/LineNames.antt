@@ -1,15 +1,13 @@
 -- Names for parts of lines.
 use Rattle.std.specs.Prelude.{ℕ, List, [], ◌∷◌, ◌++◌, Option, Some, None, codes, filter, filter_map, fold, map, option_and_then, slice_get, if◌then◌else◌}
 use Rattle.std.specs.List.{enumerate_from}
-use Rattle.solv_pool.specs.Catalog.{Catalog, catalog_of, is_installed}
-use Rattle.solv_pool.specs.RuleMeaning.{HardRule}
+use Rattle.solv_pool.specs.Prelude.{Catalog, catalog_of, is_installed, HardRule, when, is_among}
 use Rattle.solv_pool.specs.declared.tasks.Task.{Task}
 use Rattle.solv_core.specs.declared.verdicts.Event.{Event}
 use Rattle.solv_lines.specs.ResultLines.{order_line, reason_line}
 use Rattle.solv_lines.specs.RuleTexts.{dependency_of, named, packs_text}
 use Rattle.solv_lines.specs.SolutionTexts.{candidates_in, going_text}
 use Rattle.solv_clean.specs.Unneeded.{users, unneeded}
-use Rattle.solv_pool.specs.Words.{when, is_among}
 use Rattle.solv_pool.specs.declared.jobs.Job.{Job}
 use Rattle.solv_script.specs.declared.scripts.Kinds.{Kinds}
 use Rattle.solv_trans.specs.Moving.{comes}

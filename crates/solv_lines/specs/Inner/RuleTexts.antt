@@ -1,7 +1,7 @@
 -- What is said of a rule.
 use Rattle.std.specs.Prelude.{ℕ, List, [], slice_get}
 use Rattle.std.specs.Option.{option_map_or}
-use Rattle.solv_pool.specs.RuleMeaning.{rule_with}
+use Rattle.solv_pool.specs.Prelude.{rule_with}
 use Rattle.solv_pool.specs.declared.hard_rules.Rules.{Rules}
 use Rattle.solv_pool.specs.declared.tasks.Task.{Task}
 use Rattle.solv_lines.specs.RuleTexts.{text_of_rule}

@@ -1,6 +1,6 @@
 -- What stands in a plan behind its demands and its installed packages.
 use Rattle.std.specs.Prelude.{[]}
-use Rattle.solv_pool.specs.Catalog.{Catalog}
+use Rattle.solv_pool.specs.Prelude.{Catalog}
 use Rattle.solv_pool.specs.declared.tasks.Flags.{Flags}
 use Rattle.solv_pool.specs.declared.job_marks.Marks.{Marks}
 use Rattle.solv_plan.specs.Inner.PlanOf.{plan_of}

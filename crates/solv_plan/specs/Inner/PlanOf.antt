@@ -2,17 +2,10 @@
 use Rattle.std.specs.Prelude.{ℕ, Bool, true, false, not, ◌&&◌, List, [], ◌∷◌, ◌++◌, length, map, filter, flat_map, slice_get, ◌==◌, nat_lt, if◌then◌else◌}
 use Rattle.std.specs.List.{list_any, enumerate_from, range_with_len}
 use Rattle.std.specs.Option.{option_map_or}
-use Rattle.solv_base.specs.Dependency.{Dep, and, or, joined, under, under_else, package_wise, operands}
-use Rattle.solv_base.specs.declared.relation.DepNode.{DepNode}
-use Rattle.solv_pool.specs.Words.{when, is_among}
-use Rattle.solv_pool.specs.Catalog.{Catalog, packages, members, package_at, dependency, is_installed, same_name}
-use Rattle.solv_pool.specs.Holding.{package_meets}
+use Rattle.solv_pool.specs.Prelude.{Dep, and, or, joined, under, under_else, package_wise, operands, DepNode, when, is_among, Catalog, packages, members, package_at, dependency, is_installed, same_name, package_meets, marked, is_to_move, HardRule, install, best_job, best_update, counted_requirements, counted_rich_conflicts}
 use Rattle.solv_pool.specs.Best.{evr_of}
 use Rattle.solv_pool.specs.Installable.{is_installable}
 use Rattle.solv_pool.specs.Providing.{obsoletes}
-use Rattle.solv_pool.specs.JobMarks.{marked, is_to_move}
-use Rattle.solv_pool.specs.RuleMeaning.{HardRule, install, best_job, best_update}
-use Rattle.solv_pool.specs.HardRules.{counted_requirements, counted_rich_conflicts}
 use Rattle.solv_pool.specs.Inner.HardRules.{numbered_jobs}
 use Rattle.solv_policy.specs.Policy.{by_policy}
 use Rattle.solv_policy.specs.Inner.Differences.{key_alone}

@@ -1,9 +1,6 @@
 -- What rules add to the rows of jobs and of packages.
 use Rattle.std.specs.Prelude.{ℕ, Bool, not, ◌&&◌, List, [], ◌∷◌, ◌++◌}
-use Rattle.solv_pool.specs.Words.{when}
-use Rattle.solv_pool.specs.Catalog.{Catalog, is_installed}
-use Rattle.solv_pool.specs.JobMarks.{marked, is_to_move}
-use Rattle.solv_pool.specs.RuleMeaning.{HardRule, req, rich_con}
+use Rattle.solv_pool.specs.Prelude.{when, Catalog, is_installed, marked, is_to_move, HardRule, req, rich_con}
 use Rattle.solv_questions.specs.Questions.{Request, is_update_of, is_feature_of, far_candidates}
 use Rattle.solv_questions.specs.Inner.Questions.{close_candidates}
 use Rattle.solv_plan.specs.Inner.PlanOf.{want_of, conflict_of, best_job_demand, job_demand, best_update_demand}

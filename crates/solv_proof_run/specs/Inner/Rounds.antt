@@ -1,9 +1,7 @@
 -- Proofs judged against the rounds of a script. Contracts between layers alone speak of it.
 use Rattle.std.specs.Prelude.{ℕ, ◌≡◌, ◌≤◌, List, None, length, slice_get}
 use Rattle.std.specs.List.{All}
-use Rattle.solv_pool.specs.Catalog.{catalog_of}
-use Rattle.solv_pool.specs.HardRules.{hard_rules}
-use Rattle.solv_pool.specs.TaskBelonging.{IsClosed}
+use Rattle.solv_pool.specs.Prelude.{catalog_of, hard_rules, IsClosed}
 use Rattle.solv_pool.specs.TaskForms.{HasForms}
 use Rattle.solv_pool.specs.declared.tasks.Task.{Task}
 use Rattle.solv_proof.specs.declared.kinds.Proof.{Proof}

@@ -1,11 +1,9 @@
 -- Values gathered by packages from the last to the first, and the packages that are read of them.
 use Rattle.std.specs.Prelude.{ℕ, ◌≡◌, ◌<◌, ◌+◌, Bool, true, not, ◌&&◌, ◌==◌, nat_eq, List, [], ◌∷◌, length, map, filter, flat_map, Option, Some, None, if◌then◌else◌}
 use Rattle.std.specs.Option.{option_map_or, option_eq}
-use Rattle.solv_base.specs.Pool.{Held}
-use Rattle.solv_base.specs.Dependency.{Capability, plain}
+use Rattle.solv_pool.specs.Prelude.{Held, Capability, plain, Catalog, packages, members, package_at}
 use Rattle.solv_pool.specs.Contents.{Contents}
 use Rattle.solv_pool.specs.Inner.Contents.{package_in}
-use Rattle.solv_pool.specs.Catalog.{Catalog, packages, members, package_at}
 use Rattle.solv_pool.specs.Providing.{name_of, has, has_namespace, is_named}
 use Rattle.solv_prov.specs.declared.capability.Version.{Version}
 use Rattle.solv_prov.specs.declared.capability.Provide.{Provide}

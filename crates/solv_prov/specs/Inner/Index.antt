@@ -1,7 +1,7 @@
 -- The ids of a catalog.
 use Rattle.std.specs.Prelude.{ℕ, List, length}
 use Rattle.std.specs.List.{range_with_len}
-use Rattle.solv_pool.specs.Catalog.{Catalog}
+use Rattle.solv_pool.specs.Prelude.{Catalog}
 
 -- the ids of the relations
 abbrev pub relations : Catalog → List ℕ

@@ -1,7 +1,6 @@
 -- The parts of a dependency by its operands.
 use Rattle.std.specs.Prelude.{ℕ, ◌≡◌, ◌<◌, List, [], ◌∷◌, ◌++◌}
-use Rattle.solv_base.specs.Dependency.{tree}
-use Rattle.solv_base.specs.declared.relation.DepNode.{DepNode}
+use Rattle.solv_pool.specs.Prelude.{tree, DepNode}
 use Rattle.solv_pool.specs.Parts.{parts}
 use Rattle.solv_prov.specs.declared.parts.Parts.{Parts}
 use Rattle.solv_prov.specs.declared.parts.Parts.TheVariants.{Itself, Of, OfBoth}

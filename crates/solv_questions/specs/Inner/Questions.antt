@@ -1,12 +1,7 @@
 -- Questions kind by kind.
 use Rattle.std.specs.Prelude.{ℕ, ℤ, Bool, true, false, not, ◌&&◌, List, ◌++◌, Option, Some, None, filter, find, nat_lt}
 use Rattle.std.specs.List.{list_any}
-use Rattle.solv_base.specs.Dependency.{Dep}
-use Rattle.solv_pool.specs.Words.{passes, is_among}
-use Rattle.solv_pool.specs.Catalog.{Catalog, packages, package_at, dependency, same_name}
-use Rattle.solv_pool.specs.Holding.{holds}
-use Rattle.solv_pool.specs.HardRules.{successors}
-use Rattle.solv_pool.specs.RuleMeaning.{HardRule}
+use Rattle.solv_pool.specs.Prelude.{Dep, passes, is_among, Catalog, packages, package_at, dependency, same_name, holds, successors, HardRule}
 use Rattle.solv_pool.specs.declared.tasks.Flags.{Flags}
 use Rattle.solv_pool.specs.declared.job_marks.Marks.{Marks}
 use Rattle.solv_trail.specs.Asked.{set_of}

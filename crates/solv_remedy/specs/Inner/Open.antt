@@ -1,7 +1,7 @@
 -- A conflict whose ways out are looked for.
 use Rattle.std.specs.Prelude.{◌≡◌, ℕ, true, false}
 use Rattle.std.specs.List.{list_all}
-use Rattle.solv_pool.specs.Words.{is_among}
+use Rattle.solv_pool.specs.Prelude.{is_among}
 use Rattle.solv_core.specs.Cores.{CoreOf}
 use Rattle.solv_questions.specs.Questions.{Request}
 use Rattle.solv_remedy.specs.Inner.Conflicts.{IsSettled}

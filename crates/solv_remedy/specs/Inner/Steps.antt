@@ -1,6 +1,6 @@
 -- Rules that are dropped until a set is found.
 use Rattle.std.specs.Prelude.{◌≡◌, ◌≤◌, ℕ, Bool, true, false, not, List, [], ◌∷◌, length, filter}
-use Rattle.solv_pool.specs.Words.{is_among}
+use Rattle.solv_pool.specs.Prelude.{is_among}
 use Rattle.solv_core.specs.Cores.{CoreOf}
 use Rattle.solv_questions.specs.Questions.{Request}
 use Rattle.solv_remedy.specs.Inner.Dropping.{IsFoundOver}

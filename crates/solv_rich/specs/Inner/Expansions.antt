@@ -1,6 +1,6 @@
 -- The clauses of a dependency by their numbers, so that each is made by itself.
 use Rattle.std.specs.Prelude.{ℕ, ◌≡◌, ◌≤◌, ◌<◌, Bool, true, false, ◌&&◌, ◌==◌, List, [], ◌∷◌, ◌++◌, length, map, slice_get, Some}
-use Rattle.solv_pool.specs.Clauses.{Literal, Clause, is_in, is_out, times}
+use Rattle.solv_pool.specs.Prelude.{Literal, Clause, is_in, is_out, times}
 use Rattle.solv_rich.specs.Counts.{saturated}
 use Rattle.solv_rich.specs.declared.expansion.Said.{Said}
 use Rattle.solv_rich.specs.declared.expansion.Said.TheVariants.{In, Out}

@@ -2,7 +2,7 @@
 use Rattle.std.specs.Prelude.{◌≡◌, Bool}
 use Rattle.std.specs.BTreeSet.{contains}
 use Rattle.std.specs.Ordering.{nat_cmp}
-use Rattle.solv_pool.specs.Clauses.{Literal, Clause, is_in, is_out, contains_literal}
+use Rattle.solv_pool.specs.Prelude.{Literal, Clause, is_in, is_out, contains_literal}
 use Rattle.solv_rich.specs.declared.long_clauses.LiteralSet.{LiteralSet}
 
 -- the literal is one of them

@@ -1,8 +1,6 @@
 -- The clauses of a relation by those of its operands.
 use Rattle.std.specs.Prelude.{ℕ, ◌+◌, ◌*◌, Bool, true, false, not, ◌&&◌, nat_lt, List, [], ◌++◌, length, Option}
-use Rattle.solv_base.specs.Dependency.{Dep}
-use Rattle.solv_pool.specs.Catalog.{Catalog, dependency}
-use Rattle.solv_pool.specs.Clauses.{Clause, times, all_meeting, clauses_package_wise, clauses_of, clause_count}
+use Rattle.solv_pool.specs.Prelude.{Dep, Catalog, dependency, Clause, times, all_meeting, clauses_package_wise, clauses_of, clause_count}
 use Rattle.solv_rich.specs.declared.operators.Parts.{Parts}
 use Rattle.solv_rich.specs.declared.operators.Parts.TheVariants.{Packages, Joined, Crossed, Chosen, Nothing}
 

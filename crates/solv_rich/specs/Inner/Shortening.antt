@@ -1,6 +1,6 @@
 -- The literals of a clause, each at its first place.
 use Rattle.std.specs.Prelude.{ℕ, Bool, not, ◌&&◌, nat_lt, nat_le, [], ◌∷◌, ◌++◌, if◌then◌else◌}
-use Rattle.solv_pool.specs.Clauses.{Literal, Clause, is_in, is_out, contains_literal}
+use Rattle.solv_pool.specs.Prelude.{Literal, Clause, is_in, is_out, contains_literal}
 
 -- the package of a literal
 abbrev pub package_of : Literal → ℕ

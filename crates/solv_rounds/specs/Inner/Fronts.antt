@@ -1,7 +1,6 @@
 -- The rounds of a script by their place, which counts from the first one.
 use Rattle.std.specs.Prelude.{ℕ, zero, suc, ◌≡◌, IsSomeAnd, List, Option, slice_get}
-use Rattle.solv_pool.specs.Catalog.{catalog_of}
-use Rattle.solv_pool.specs.HardRules.{hard_rules}
+use Rattle.solv_pool.specs.Prelude.{catalog_of, hard_rules}
 use Rattle.solv_pool.specs.declared.tasks.Task.{Task}
 use Rattle.solv_answers.specs.Answers.{IsPrepared}
 use Rattle.solv_answers.specs.declared.preparing.Prepared.{Prepared}

@@ -2,7 +2,7 @@
 use Rattle.std.specs.Prelude.{Bool}
 use Rattle.std.specs.declared.cmp.Ordering.{Ordering}
 use Rattle.std.specs.declared.cmp.Ordering.TheVariants.{Less, Equal, Greater}
-use Rattle.solv_base.specs.declared.comparison.Cmp.{Cmp}
+use Rattle.solv_pool.specs.Prelude.{Cmp}
 
 -- the comparison allows this order
 abbrev pub allows : Cmp → Ordering → Bool

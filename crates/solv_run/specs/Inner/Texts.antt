@@ -2,8 +2,7 @@
 use Rattle.std.specs.Prelude.{ℕ, Bool, ◌==◌, List, [], flat_map, length, slice_get}
 use Rattle.std.specs.List.{enumerate_from}
 use Rattle.std.specs.Option.{option_map_or}
-use Rattle.solv_pool.specs.RuleMeaning.{HardRule}
-use Rattle.solv_pool.specs.Words.{when}
+use Rattle.solv_pool.specs.Prelude.{HardRule, when}
 use Rattle.solv_pool.specs.declared.tasks.Task.{Task}
 use Rattle.solv_script.specs.Rounds.{Turn}
 use Rattle.solv_script.specs.declared.scripts.Kinds.{Kinds}

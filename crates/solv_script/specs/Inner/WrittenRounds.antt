@@ -1,7 +1,7 @@
 -- Rounds with each id replaced by its text.
 use Rattle.std.specs.Prelude.{map}
 use Rattle.solv_base.specs.Pool.{Held}
-use Rattle.solv_pool.specs.Written.{written_job}
+use Rattle.solv_pool.specs.Prelude.{written_job}
 use Rattle.solv_script.specs.Reads.{WrittenRound}
 use Rattle.solv_script.specs.declared.scripts.Round.{Round}
 

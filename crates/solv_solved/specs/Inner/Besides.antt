@@ -1,7 +1,6 @@
 -- What an answer has besides its task. Contracts between functions alone speak of it.
 use Rattle.std.specs.Prelude.{◌≡◌, true, None}
-use Rattle.solv_pool.specs.Catalog.{catalog_of}
-use Rattle.solv_pool.specs.HardRules.{hard_rules}
+use Rattle.solv_pool.specs.Prelude.{catalog_of, hard_rules}
 use Rattle.solv_pool.specs.declared.tasks.Task.{Task}
 use Rattle.solv_prov.specs.Index.{IsIndexOf}
 use Rattle.solv_rules.specs.Books.{first_fault, read_rules}

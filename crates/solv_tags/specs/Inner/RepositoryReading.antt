@@ -2,7 +2,7 @@
 use Rattle.std.specs.Prelude.{◌≡◌, false, List, ◌++◌, map, Result, Err}
 use Rattle.solv_base.specs.Pool.{Held}
 use Rattle.solv_pool.specs.Contents.{Contents}
-use Rattle.solv_pool.specs.Written.{WrittenPackage, written_package}
+use Rattle.solv_pool.specs.Prelude.{WrittenPackage, written_package}
 use Rattle.solv_pool.specs.declared.packages.Package.{Package}
 use Rattle.solv_tags.specs.declared.tag_fault.TagFault.{TagFault}
 use Rattle.solv_tags.specs.declared.tag_fault.TagCause.{TagCause}

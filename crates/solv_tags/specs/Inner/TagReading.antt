@@ -4,9 +4,8 @@ use Rattle.std.specs.Option.{option_map}
 use Rattle.std.specs.List.{list_any, list_all}
 use Rattle.solv_base.specs.Pool.{Held, text_at}
 use Rattle.solv_deps.specs.Inner.Recent.{AreRead}
-use Rattle.solv_pool.specs.Belonging.{IsOver}
+use Rattle.solv_pool.specs.Prelude.{IsOver, WrittenPackage, written_package}
 use Rattle.solv_pool.specs.Contents.{Contents}
-use Rattle.solv_pool.specs.Written.{WrittenPackage, written_package}
 use Rattle.solv_pool.specs.declared.packages.Need.{Need}
 use Rattle.solv_pool.specs.declared.packages.Package.{Package}
 use Rattle.solv_tags.specs.declared.package_words.PackageIds.{PackageIds}

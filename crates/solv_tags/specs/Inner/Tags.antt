@@ -5,7 +5,7 @@ use Rattle.solv_base.specs.Dependency.{Dep}
 use Rattle.solv_base.specs.Pool.{with_name}
 use Rattle.solv_deps.specs.declared.place.Place.{Place}
 use Rattle.solv_deps.specs.declared.place.Place.TheVariants.{Requires, Conflicts, Plain}
-use Rattle.solv_pool.specs.Written.{WrittenPackage, WrittenNeed}
+use Rattle.solv_pool.specs.Prelude.{WrittenPackage, WrittenNeed}
 use Rattle.solv_tags.specs.declared.tag.Tag.{Tag}
 use Rattle.solv_tags.specs.declared.tag.Tag.TheVariants.{Pkg, Prv, Req, Prq, Con, Obs, Rec, Sug, Sup, Enh, Vnd, Fls}
 use Rattle.solv_tags.specs.Entries.{is_same, with_dependency, with_need}

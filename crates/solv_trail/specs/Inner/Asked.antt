@@ -1,7 +1,7 @@
 -- What a guide owes.
 use Rattle.std.specs.Prelude.{◌≡◌, ℕ, ℤ, pos, neg_ℤ, ◌<◌, ◌≤◌, Bool, true, false, not, ◌&&◌, List, is_none, Option, Some, None}
 use Rattle.std.specs.List.{list_all}
-use Rattle.solv_pool.specs.Clauses.{clause_true}
+use Rattle.solv_pool.specs.Prelude.{clause_true}
 use Rattle.solv_pool.specs.Inner.Propagation.{forced_by}
 use Rattle.solv_trail.specs.declared.questions.Ask.{Ask}
 use Rattle.solv_trail.specs.Asked.{set_of}

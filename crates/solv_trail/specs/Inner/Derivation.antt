@@ -1,6 +1,6 @@
 -- Literals derived from choices and clauses, one after another. Unit propagation stands in no invariant: what is derived and at rest is what it gives.
 use Rattle.std.specs.Prelude.{ℕ, ℤ, pos, nat_abs, ◌≡◌, ◌<◌, Bool, true, false, List, [], ◌∷◌, take, length, slice_index, slice_index_or, Option, Some, None}
-use Rattle.solv_pool.specs.Propagation.{is_fact, is_refuted}
+use Rattle.solv_pool.specs.Prelude.{is_fact, is_refuted}
 use Rattle.solv_derive.specs.Forced.{is_falsified, forced}
 
 -- a clause of a list of clauses

@@ -1,6 +1,6 @@
 -- What a run of choices and propagation ends with.
 use Rattle.std.specs.Prelude.{◌≡◌, ℕ, ℤ, pos, ◌<◌, ◌≤◌, Bool, true, false, List, length, take, slice_index, slice_index_or, Option, Some, None}
-use Rattle.solv_pool.specs.Propagation.{is_fact, is_refuted}
+use Rattle.solv_pool.specs.Prelude.{is_fact, is_refuted}
 use Rattle.solv_derive.specs.Forced.{is_falsified}
 use Rattle.solv_trail.specs.Inner.Asked.{AreApart}
 use Rattle.solv_trail.specs.Inner.Derivation.{IsTrail}

@@ -2,8 +2,7 @@
 use Rattle.std.specs.Prelude.{◌≡◌, ℕ, ℤ, pos, negsuc, ◌+◌, ◌<◌, ◌≤◌, ◌==◌, nat_abs, true, List, length, slice_index, slice_index_or, if◌then◌else◌}
 use Rattle.std.specs.List.{sum_by, list_all}
 use Rattle.solv_trail.specs.declared.questions.Question.{Question}
-use Rattle.solv_pool.specs.Propagation.{is_fact}
-use Rattle.solv_pool.specs.Range.{names_package}
+use Rattle.solv_pool.specs.Prelude.{is_fact, names_package}
 use Rattle.solv_trail.specs.Inner.Numbers.{has, room}
 
 -- the number of packages, the literals in their order, the rule of each, the places of the choices, and what was asked at each

@@ -1,6 +1,6 @@
 -- Choices one after another.
 use Rattle.std.specs.Prelude.{ℕ, ℤ, Bool, List, length, take, ◌-◌, Option, None, if◌then◌else◌}
-use Rattle.solv_pool.specs.Propagation.{is_fact, clashes}
+use Rattle.solv_pool.specs.Prelude.{is_fact, clashes}
 use Rattle.solv_trail.specs.Walk.{known_after}
 
 -- what is asked for where these packages are taken, unless there is a conflict

@@ -4,7 +4,7 @@ use Rattle.std.specs.List.{list_any}
 use Rattle.std.specs.Option.{option_eq}
 use Rattle.std.specs.Ordering.{is_gt}
 use Rattle.solv_pool.specs.Best.{compare_evrs}
-use Rattle.solv_pool.specs.Catalog.{Catalog, packages, is_installed, same_name}
+use Rattle.solv_pool.specs.Prelude.{Catalog, packages, is_installed, same_name}
 use Rattle.solv_pool.specs.declared.packages.Package.{Package}
 use Rattle.solv_trans.specs.Changes.{change_by, lines_of_leaving}
 use Rattle.solv_trans.specs.Effects.{is_brought}

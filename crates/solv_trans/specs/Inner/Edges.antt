@@ -1,6 +1,6 @@
 -- Edges between packages that come, and between packages that go.
 use Rattle.std.specs.Prelude.{ℕ, Bool, ◌&&◌}
-use Rattle.solv_pool.specs.Catalog.{Catalog, is_installed}
+use Rattle.solv_pool.specs.Prelude.{Catalog, is_installed}
 use Rattle.solv_pool.specs.Needs.{serves}
 use Rattle.solv_pool.specs.declared.packages.Need.{Need}
 use Rattle.solv_trans.specs.Edges.{brings, requires_some}

@@ -1,6 +1,6 @@
 -- What one change takes away and brings.
 use Rattle.std.specs.Prelude.{ℕ, Bool, ◌==◌}
-use Rattle.solv_pool.specs.Words.{passes}
+use Rattle.solv_pool.specs.Prelude.{passes}
 use Rattle.solv_trans.specs.Effects.{ends}
 use Rattle.solv_trans.specs.declared.kinds.Change.{Change}
 

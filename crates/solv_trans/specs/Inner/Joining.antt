@@ -1,8 +1,7 @@
 -- Edges that are put into graphs, for inner contracts alone.
 use Rattle.std.specs.Prelude.{ℕ, ◌≡◌, ◌≤◌, Bool, true, false, not, ◌&&◌, ◌||◌, ◌==◌, List, [], length, slice_index, slice_index_or, if◌then◌else◌, ◌+◌}
 use Rattle.std.specs.List.{list_any}
-use Rattle.solv_pool.specs.Catalog.{Catalog, package_at, dependency}
-use Rattle.solv_pool.specs.Words.{passes}
+use Rattle.solv_pool.specs.Prelude.{Catalog, package_at, dependency, passes}
 use Rattle.solv_pool.specs.declared.packages.Need.{Need}
 use Rattle.solv_pool.specs.Needs.{serves}
 use Rattle.solv_graph.specs.Inner.Graphs.{edge_to}

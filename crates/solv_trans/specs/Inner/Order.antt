@@ -4,7 +4,7 @@ use Rattle.std.specs.List.{list_any}
 use Rattle.std.specs.Option.{option_map_or}
 use Rattle.std.specs.Ordering.{is_gt}
 use Rattle.solv_pool.specs.Best.{compare_evrs}
-use Rattle.solv_pool.specs.Catalog.{Catalog}
+use Rattle.solv_pool.specs.Prelude.{Catalog}
 
 module _ (catalog : Catalog) where
   -- the first of a list with the greatest EVR: no other has a greater one

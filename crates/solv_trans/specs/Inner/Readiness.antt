@@ -1,6 +1,5 @@
 -- What a task has to be for an order.
-use Rattle.solv_pool.specs.Belonging.{IsOver}
-use Rattle.solv_pool.specs.Catalog.{catalog_of}
+use Rattle.solv_pool.specs.Prelude.{IsOver, catalog_of}
 use Rattle.solv_pool.specs.declared.tasks.Task.{Task}
 use Rattle.solv_prov.specs.Index.{Index, IsIndexOf}
 

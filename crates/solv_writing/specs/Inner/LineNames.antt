@@ -1,7 +1,7 @@
 -- Names for parts of a written script.
 use Rattle.std.specs.Prelude.{ℕ, List, [], ◌∷◌, ◌++◌, map, flat_map, codes, ◌&&◌, nat_lt, Bool, length, if◌then◌else◌}
 use Rattle.solv_deps.specs.Canonical.{comparison_text}
-use Rattle.solv_pool.specs.Written.{WrittenTask, WrittenJob, WrittenPackage, WrittenNeed}
+use Rattle.solv_pool.specs.Prelude.{WrittenTask, WrittenJob, WrittenPackage, WrittenNeed}
 use Rattle.solv_script.specs.Reads.{WrittenCheck, WrittenRound}
 use Rattle.solv_script.specs.States.{text_of, text_of_number}
 use Rattle.solv_io.specs.JoinedWords.{joined}

@@ -8,7 +8,7 @@ use Rattle.solv_deps.specs.Canonical.{text}
 use Rattle.solv_deps.specs.Reading.{dependency}
 use Rattle.solv_deps.specs.declared.place.Place.{Place}
 use Rattle.solv_deps.specs.declared.place.Place.TheVariants.{Requires, Conflicts, Plain}
-use Rattle.solv_pool.specs.Written.{WrittenPackage}
+use Rattle.solv_pool.specs.Prelude.{WrittenPackage}
 use Rattle.solv_tags.specs.Entries.{is_same}
 use Rattle.solv_tags.specs.Headings.{trimmed}
 use Rattle.solv_io.specs.JoinedWords.{is_word, is_line}

@@ -10,7 +10,7 @@ use Rattle.solv_deps.specs.Grammar.{comparison, is_namespace}
 use Rattle.solv_deps.specs.Reading.{dependency}
 use Rattle.solv_deps.specs.declared.place.Place.TheVariants.{Plain}
 use Rattle.solv_pool.specs.Contents.{most_packages}
-use Rattle.solv_pool.specs.Written.{WrittenTask, WrittenRepo, WrittenPackage, WrittenJob, WrittenChoice}
+use Rattle.solv_pool.specs.Prelude.{WrittenTask, WrittenRepo, WrittenPackage, WrittenJob, WrittenChoice}
 use Rattle.solv_pool.specs.Written as written
 use Rattle.solv_io.specs.JoinedWords.{joined, is_word}
 use Rattle.solv_commands.specs.Commands.{Asked, pkg, by_name, by_provides, one_of, all, nothing, job, command}

@@ -3,7 +3,7 @@ use Rattle.std.specs.Prelude.{ℕ, ◌+◌, ◌==◌, Bool, true, false, List, [
 use Rattle.std.specs.Fmt.{signed_decimal}
 use Rattle.solv_io.specs.Lines.{ended_lines}
 use Rattle.solv_deps.specs.Canonical.{comparison_text}
-use Rattle.solv_pool.specs.Written.{WrittenTask, WrittenRepo, WrittenPackage}
+use Rattle.solv_pool.specs.Prelude.{WrittenTask, WrittenRepo, WrittenPackage}
 use Rattle.solv_pool.specs.declared.tasks.Flags.{Flags}
 use Rattle.solv_pool.specs.declared.universes.Arch.{Arch}
 use Rattle.solv_script.specs.Grammar.{inline}

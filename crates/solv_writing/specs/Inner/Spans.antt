@@ -1,6 +1,6 @@
 -- Where the packages of each repository stand among all packages.
 use Rattle.std.specs.Prelude.{ℕ, ◌≡◌, ◌==◌, ◌<◌, ◌≤◌, ◌||◌, true, List, Some, slice_get}
-use Rattle.solv_pool.specs.Words.{passes}
+use Rattle.solv_pool.specs.Prelude.{passes}
 use Rattle.solv_pool.specs.declared.packages.Package.{Package}
 use Rattle.solv_writing.specs.declared.spans.Span.{Span}
 

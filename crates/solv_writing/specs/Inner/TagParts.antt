@@ -2,7 +2,7 @@
 use Rattle.std.specs.Prelude.{ℕ, List, [], ◌∷◌, ◌++◌, map, flat_map, codes, option_to_list, if◌then◌else◌}
 use Rattle.solv_base.specs.Dependency.{Dep}
 use Rattle.solv_deps.specs.Canonical.{text}
-use Rattle.solv_pool.specs.Written.{WrittenPackage}
+use Rattle.solv_pool.specs.Prelude.{WrittenPackage}
 use Rattle.solv_tags.specs.declared.tag.Tag.{Tag}
 use Rattle.solv_tags.specs.declared.tag.Tag.TheVariants.{Pkg, Prv, Req, Prq, Con, Obs, Rec, Sug, Sup, Enh, Vnd, Fls}
 use Rattle.solv_io.specs.JoinedWords.{joined}

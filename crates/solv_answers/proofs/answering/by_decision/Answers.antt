@@ -1,8 +1,7 @@
 use Rattle.std.proofs.Common.{◌+◌, ◌∙◌, ℕ, ap, length, subst, sym}
 use Rattle.std.specs.Prelude.{◌==◌, IfOk}
 use Rattle.solv_pool.specs.declared.job_marks.Marks.{Marks}
-use Rattle.solv_pool.specs.Catalog.{catalog_of}
-use Rattle.solv_pool.specs.JobMarks.{marks_of}
+use Rattle.solv_pool.specs.Prelude.{catalog_of, marks_of}
 use Rattle.solv_leaving.proofs.NoneOut.{none_left_out}
 use Rattle.solv_core.specs.Inner.Running.{is_spent_verdict}
 use Rattle.solv_questions.specs.Questions.{request_of}

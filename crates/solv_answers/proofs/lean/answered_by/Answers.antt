@@ -1,6 +1,5 @@
 use Rattle.std.proofs.Common.{Bool, List, subst, sym}
-use Rattle.solv_pool.specs.Catalog.{catalog_of}
-use Rattle.solv_pool.specs.JobMarks.{marks_of}
+use Rattle.solv_pool.specs.Prelude.{catalog_of, marks_of}
 use Rattle.solv_decide.specs.Deciding.{IsRefuted, IsSolution}
 use Rattle.solv_leaving.specs.Leaving.{LeavesOut}
 use Rattle.solv_remedy.specs.Inner.Remedies.{IsMadeFor}

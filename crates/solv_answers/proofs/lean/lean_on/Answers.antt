@@ -1,7 +1,6 @@
 use Rattle.std.proofs.Common.{◌≡◌, ◌+◌, rules, true}
 use Rattle.std.specs.Prelude.{nat_le}
-use Rattle.solv_pool.specs.Catalog.{catalog_of}
-use Rattle.solv_pool.specs.Clauses.{words_of_all}
+use Rattle.solv_pool.specs.Prelude.{catalog_of, words_of_all}
 use Rattle.solv_rules.specs.Books.{most_words}
 use Rattle.solv_leaving.specs.Inner.Fitting.{words_left_out}
 use Rattle.solv_answers.proofs.LeanMade.{is_lean}

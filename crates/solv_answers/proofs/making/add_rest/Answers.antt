@@ -1,8 +1,6 @@
 use Rattle.std.proofs.Common.{◌≡◌, true, List, ◌++◌, sym, subst}
 use Rattle.std.specs.List.{list_all}
-use Rattle.solv_pool.specs.Catalog.{Catalog, catalog_of}
-use Rattle.solv_pool.specs.RuleMeaning.{HardRule}
-use Rattle.solv_pool.specs.HardRules.{package_rules, infarch_rules, update_rules, feature_rules, job_rules, best_job_rules, best_update_rules, hard_rules_by}
+use Rattle.solv_pool.specs.Prelude.{Catalog, catalog_of, HardRule, package_rules, infarch_rules, update_rules, feature_rules, job_rules, best_job_rules, best_update_rules, hard_rules_by}
 use Rattle.solv_rules.specs.Books.{read_rules, is_bookable}
 use Rattle.solv_rules.specs.Inner.Making.{IsReady}
 use Rattle.solv_answers.proofs.Reading.{all_read, stays_first}

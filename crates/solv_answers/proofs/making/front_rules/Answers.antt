@@ -1,6 +1,5 @@
 use Rattle.std.proofs.Common.{◌++◌, ◌∙◌, ap}
-use Rattle.solv_pool.specs.Catalog.{catalog_of}
-use Rattle.solv_pool.specs.HardRules.{package_rules, infarch_rules}
+use Rattle.solv_pool.specs.Prelude.{catalog_of, package_rules, infarch_rules}
 use Rattle.solv_answers.proofs.Reading.{first_reads, put_reads}
 use Rattle.solv_answers.proofs.making.front_rules.Goals as goal
 

@@ -1,4 +1,4 @@
-use Rattle.solv_pool.specs.Catalog.{catalog_of}
+use Rattle.solv_pool.specs.Prelude.{catalog_of}
 use Rattle.solv_answers.specs.Inner.Fronts.{front_rules}
 use Rattle.solv_answers.proofs.Shared.{has_front}
 use Rattle.solv_answers.proofs.preparing.made.Goals as goal

@@ -1,5 +1,5 @@
 use Rattle.std.proofs.Common.{refl}
-use Rattle.solv_pool.specs.Catalog.{catalog_of}
+use Rattle.solv_pool.specs.Prelude.{catalog_of}
 use Rattle.solv_answers.specs.Inner.Fronts.{front_rules}
 use Rattle.solv_answers.proofs.Shared.{is_prepared, may_go_on, same_front}
 use Rattle.solv_answers.proofs.preparing.prepare_marked.Goals as goal

@@ -1,6 +1,5 @@
 use Rattle.std.proofs.Common.{◌∙◌, List, ap, subst, sym}
-use Rattle.solv_pool.specs.Catalog.{catalog_of}
-use Rattle.solv_pool.specs.RuleMeaning.{HardRule}
+use Rattle.solv_pool.specs.Prelude.{catalog_of, HardRule}
 use Rattle.solv_rules.specs.Books.{IsBook, Written, first_fault, read_rules}
 use Rattle.solv_answers.specs.Inner.Fronts.{HasFront, front_rules}
 use Rattle.solv_answers.proofs.Shared.{front_alike, left_serves}

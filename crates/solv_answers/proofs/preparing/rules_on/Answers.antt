@@ -1,5 +1,5 @@
 use Rattle.std.proofs.Common.{◌∙◌}
-use Rattle.solv_pool.specs.Catalog.{catalog_of}
+use Rattle.solv_pool.specs.Prelude.{catalog_of}
 use Rattle.solv_rules.specs.Books.{read_rules}
 use Rattle.solv_answers.specs.Inner.Fronts.{front_rules}
 use Rattle.solv_answers.proofs.Shared.{begun_by, front_again, front_first, front_read, other_rules, reads_first}

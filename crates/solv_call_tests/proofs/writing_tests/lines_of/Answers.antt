@@ -1,5 +1,5 @@
 use Rattle.std.proofs.Common.{arith}
-use Rattle.solv_pool.specs.TaskBelonging.{IsClosed}
+use Rattle.solv_pool.specs.Prelude.{IsClosed}
 use Rattle.solv_rounds.proofs.Turned.{front_all}
 use Rattle.solv_call_tests.proofs.writing_tests.lines_of.Goals as goal
 

@@ -1,6 +1,5 @@
 use Rattle.std.proofs.Common.{◌≡◌, ◌<◌, ◌∷◌, ◌++◌, [], filter, ◌∙◌, sym}
-use Rattle.solv_pool.specs.Catalog.{Catalog, catalog_of, dependency, members}
-use Rattle.solv_pool.specs.Holding.{package_meets}
+use Rattle.solv_pool.specs.Prelude.{Catalog, catalog_of, dependency, members, package_meets}
 use Rattle.solv_pool.specs.Parts.{parts}
 use Rattle.solv_clean.specs.Inner.Finding.{Finds, itself, serving}
 use Rattle.solv_clean.proofs.Found.{finds_same, finds_more}

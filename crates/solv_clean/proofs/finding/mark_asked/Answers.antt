@@ -1,6 +1,6 @@
 use Rattle.std.proofs.Common.{◌<◌, ◌-◌, ◌∷◌, [], arith}
 use Rattle.std.proofs.lemmas.Bool.Decides.{nat_tests}
-use Rattle.solv_pool.specs.Catalog.{Catalog, catalog_of}
+use Rattle.solv_pool.specs.Prelude.{Catalog, catalog_of}
 use Rattle.solv_clean.specs.Inner.Finding.{Finds, serving, serving_need, serving_package}
 use Rattle.solv_clean.proofs.Below.{requires_below, recommends_below}
 use Rattle.solv_clean.proofs.Found.{finds_both}

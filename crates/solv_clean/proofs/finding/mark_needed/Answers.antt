@@ -1,5 +1,5 @@
 use Rattle.std.proofs.Common.{◌≡◌, ◌∷◌, ◌∙◌, ◌||◌, ◌&&◌, [], ap, sym, true, ℕ}
-use Rattle.solv_pool.specs.Catalog.{Catalog, catalog_of}
+use Rattle.solv_pool.specs.Prelude.{Catalog, catalog_of}
 use Rattle.solv_graph.specs.Graphs.{row}
 use Rattle.solv_graph.specs.Inner.Graphs.{edge_to}
 use Rattle.solv_list.proofs.Booleans.{or_false}

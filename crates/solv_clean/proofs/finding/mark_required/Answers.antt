@@ -1,6 +1,6 @@
 use Rattle.std.proofs.Common.{◌<◌, ◌∷◌, [], take, length, refl, arith}
 use Rattle.std.proofs.lemmas.Bool.{ltb-true}
-use Rattle.solv_pool.specs.Catalog.{Catalog, catalog_of}
+use Rattle.solv_pool.specs.Prelude.{Catalog, catalog_of}
 use Rattle.solv_clean.specs.Inner.Finding.{serving, serving_need}
 use Rattle.solv_clean.specs.Inner.Readiness.{need_below}
 use Rattle.solv_clean.proofs.Found.{finds_same, finds_more}

@@ -1,5 +1,5 @@
 use Rattle.std.proofs.Common.{take}
-use Rattle.solv_pool.specs.Catalog.{catalog_of}
+use Rattle.solv_pool.specs.Prelude.{catalog_of}
 use Rattle.solv_clean.specs.Inner.Finding.{Finds, ArePassed, serving, serving_need}
 use Rattle.solv_clean.proofs.finding.mark_required.Given as goal
 

@@ -1,7 +1,6 @@
 use Rattle.std.proofs.Common.{◌≡◌, ◌+◌, ◌∷◌, ◌∙◌, true, replicate, filter, length, ap, sym}
 use Rattle.std.specs.List.{range_with_len}
-use Rattle.solv_pool.specs.Catalog.{catalog_of}
-use Rattle.solv_pool.specs.Words.{is_among}
+use Rattle.solv_pool.specs.Prelude.{catalog_of, is_among}
 use Rattle.solv_clean.specs.Inner.Tables.{is_marked, table_of, but_not}
 use Rattle.solv_clean.proofs.Reached.{all_entries, begun, begun_inside, IsUnreached, unreached_is}
 use Rattle.solv_clean.proofs.leaving.unreached.Goals as goal

@@ -1,7 +1,7 @@
 use Rattle.std.proofs.Common.{◌≡◌, ◌<◌, ◌∷◌, [], length, arith}
 use Rattle.std.specs.Prelude.{slice_index}
 use Rattle.std.proofs.lemmas.List.{get_or_read}
-use Rattle.solv_pool.specs.Catalog.{catalog_of}
+use Rattle.solv_pool.specs.Prelude.{catalog_of}
 use Rattle.solv_clean.specs.Inner.Finding.{Finds, next_to}
 use Rattle.solv_clean.proofs.Walked.{going_start, going_visit, going_done, going_end}
 use Rattle.solv_clean.proofs.searching.go_on.Goals as goal

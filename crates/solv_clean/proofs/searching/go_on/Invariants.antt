@@ -1,4 +1,4 @@
-use Rattle.solv_pool.specs.Catalog.{catalog_of}
+use Rattle.solv_pool.specs.Prelude.{catalog_of}
 use Rattle.solv_clean.specs.Inner.Finding.{ArePassed, serving, next_to}
 use Rattle.solv_clean.proofs.Walked.{Going}
 use Rattle.solv_clean.proofs.searching.go_on.Given as goal

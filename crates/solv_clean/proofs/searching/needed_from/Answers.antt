@@ -1,5 +1,5 @@
 use Rattle.std.proofs.Common.{◌∙◌, ap}
-use Rattle.solv_pool.specs.Catalog.{catalog_of}
+use Rattle.solv_pool.specs.Prelude.{catalog_of}
 use Rattle.solv_clean.specs.Inner.Tables.{is_marked}
 use Rattle.solv_clean.proofs.Walked.{cut_are}
 use Rattle.solv_clean.proofs.searching.needed_from.Goals as goal

@@ -1,4 +1,4 @@
-use Rattle.solv_pool.specs.Catalog.{catalog_of}
+use Rattle.solv_pool.specs.Prelude.{catalog_of}
 use Rattle.solv_clean.proofs.Walked.{needed_are}
 use Rattle.solv_clean.proofs.searching.search.Goals as goal
 

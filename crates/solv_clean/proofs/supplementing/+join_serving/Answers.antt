@@ -1,7 +1,6 @@
 use Rattle.std.proofs.Common.{◌≡◌, ◌<◌, ◌∷◌, ◌++◌, [], ◌∙◌, ap, sym, ℕ}
 use Rattle.std.specs.List.{list_any}
-use Rattle.solv_pool.specs.Catalog.{Catalog, catalog_of, dependency}
-use Rattle.solv_pool.specs.Holding.{package_meets}
+use Rattle.solv_pool.specs.Prelude.{Catalog, catalog_of, dependency, package_meets}
 use Rattle.solv_pool.specs.Parts.{parts}
 use Rattle.solv_clean.specs.Inner.Finding.{serving}
 use Rattle.solv_clean.specs.Inner.Joining.{LeadFromServing}

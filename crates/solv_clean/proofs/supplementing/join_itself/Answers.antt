@@ -1,4 +1,4 @@
-use Rattle.solv_pool.specs.Catalog.{catalog_of}
+use Rattle.solv_pool.specs.Prelude.{catalog_of}
 use Rattle.solv_clean.proofs.supplementing.join_itself.Goals as goal
 
 pub returns : goal.returns

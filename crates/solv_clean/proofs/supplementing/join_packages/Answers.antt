@@ -1,5 +1,5 @@
 use Rattle.std.proofs.Common.{◌≡◌, ◌+◌, inl, inr, length, arith}
-use Rattle.solv_pool.specs.Catalog.{Catalog, catalog_of}
+use Rattle.solv_pool.specs.Prelude.{Catalog, catalog_of}
 use Rattle.solv_clean.proofs.Joined.{to_more}
 use Rattle.solv_clean.proofs.supplementing.join_packages.Goals as goal
 use Rattle.std.proofs.lemmas.Bool.{cases_lt}

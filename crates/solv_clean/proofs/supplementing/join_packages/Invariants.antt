@@ -1,5 +1,5 @@
 use Rattle.std.proofs.Common.{ℕ, ◌<◌, ◌+◌}
-use Rattle.solv_pool.specs.Catalog.{catalog_of}
+use Rattle.solv_pool.specs.Prelude.{catalog_of}
 use Rattle.solv_clean.specs.Inner.Holding.{AreKnown}
 use Rattle.solv_clean.specs.Inner.Joining.{AreJoined, LeadTo}
 use Rattle.solv_clean.proofs.supplementing.join_packages.Given as goal

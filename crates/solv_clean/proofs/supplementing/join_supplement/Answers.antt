@@ -1,6 +1,5 @@
 use Rattle.std.proofs.Common.{◌≡◌, ℕ, ◌+◌, ◌∙◌, ◌||◌, ◌&&◌, true, length, eqb, sym}
-use Rattle.solv_pool.specs.Catalog.{Catalog, catalog_of, dependency}
-use Rattle.solv_pool.specs.Holding.{holds}
+use Rattle.solv_pool.specs.Prelude.{Catalog, catalog_of, dependency, holds}
 use Rattle.solv_graph.specs.Inner.Graphs.{edge_to}
 use Rattle.solv_clean.specs.Inner.Tables.{is_marked}
 use Rattle.solv_clean.proofs.Joined.{joined_supplement, leads_supplement}

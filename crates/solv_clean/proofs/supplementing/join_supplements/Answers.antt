@@ -2,8 +2,7 @@ use Rattle.std.proofs.Common.{◌≡◌, ◌<◌, ◌∷◌, ◌∙◌, [], ap, 
 use Rattle.std.proofs.lemmas.Bool.{ltb-true, false≢true, eqb-true}
 use Rattle.std.proofs.lemmas.List.Folds.{list_any-append}
 use Rattle.solv_list.proofs.Booleans.{or_cases, or_false}
-use Rattle.solv_pool.specs.Words.{is_among}
-use Rattle.solv_pool.specs.Catalog.{Catalog, catalog_of}
+use Rattle.solv_pool.specs.Prelude.{is_among, Catalog, catalog_of}
 use Rattle.solv_clean.specs.Inner.Readiness.{dep_below}
 use Rattle.solv_clean.proofs.Joined.{grows_none, grows_more, by_more}
 use Rattle.solv_clean.proofs.Lists.{among_get}

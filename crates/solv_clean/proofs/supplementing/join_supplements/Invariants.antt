@@ -1,6 +1,5 @@
 use Rattle.std.proofs.Common.{◌≡◌, ℕ, true, take}
-use Rattle.solv_pool.specs.Words.{is_among}
-use Rattle.solv_pool.specs.Catalog.{catalog_of}
+use Rattle.solv_pool.specs.Prelude.{is_among, catalog_of}
 use Rattle.solv_clean.specs.Inner.Holding.{AreKnown}
 use Rattle.solv_clean.specs.Inner.Joining.{Grows, AreJoined, LeadByOne}
 use Rattle.solv_clean.proofs.supplementing.join_supplements.Given as goal

@@ -1,6 +1,5 @@
 use Rattle.std.proofs.Common.{◌-◌, ◌∙◌, ap, sym}
-use Rattle.solv_pool.specs.Words.{is_among, passes}
-use Rattle.solv_pool.specs.Catalog.{catalog_of}
+use Rattle.solv_pool.specs.Prelude.{is_among, passes, catalog_of}
 use Rattle.solv_pool.specs.declared.packages.Package.{Package}
 use Rattle.solv_clean.proofs.Below.{supplements_below}
 use Rattle.solv_clean.proofs.Joined.{leads_all, leads_out}

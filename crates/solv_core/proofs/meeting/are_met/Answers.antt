@@ -1,7 +1,7 @@
 use Rattle.std.proofs.Common.{◌≡◌, ◌<◌, ℕ, true, false, Some, sym, ◌∙◌, length, rules, arith, get_or}
 use Rattle.std.specs.Prelude.{slice_get}
 use Rattle.std.proofs.lemmas.Option.{slice_get-get_or}
-use Rattle.solv_pool.specs.Clauses.{clause_true}
+use Rattle.solv_pool.specs.Prelude.{clause_true}
 use Rattle.solv_trail.specs.Asked.{is_enabled}
 use Rattle.solv_core.specs.Inner.Meeting.{set_by}
 use Rattle.solv_core.proofs.MetFrom.{off, met, unmet}

@@ -1,5 +1,5 @@
 use Rattle.std.proofs.Common.{◌≡◌, drop}
-use Rattle.solv_pool.specs.Clauses.{all_true}
+use Rattle.solv_pool.specs.Prelude.{all_true}
 use Rattle.solv_trail.specs.Asked.{enabled_clauses}
 use Rattle.solv_core.specs.Inner.Meeting.{set_by}
 use Rattle.solv_core.proofs.meeting.are_met.Given as goal

@@ -1,5 +1,5 @@
 use Rattle.std.proofs.Common.{◌≡◌, drop}
-use Rattle.solv_pool.specs.Clauses.{clause_true}
+use Rattle.solv_pool.specs.Prelude.{clause_true}
 use Rattle.solv_core.specs.Inner.Meeting.{set_by}
 use Rattle.solv_core.proofs.meeting.is_met.Given as goal
 

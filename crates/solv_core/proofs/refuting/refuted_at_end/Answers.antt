@@ -1,6 +1,6 @@
 use Rattle.std.proofs.Common.{◌∙◌, ℕ, ap, subst}
 use Rattle.std.specs.Prelude.{IfOk}
-use Rattle.solv_pool.specs.Range.{are_over}
+use Rattle.solv_pool.specs.Prelude.{are_over}
 use Rattle.solv_core.specs.Inner.Contradictions.{AreRefuted}
 use Rattle.solv_core.proofs.Bottom.{founded_front}
 use Rattle.solv_core.proofs.refuting.refuted_at_end.Goals as goal

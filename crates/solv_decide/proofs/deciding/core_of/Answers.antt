@@ -1,5 +1,5 @@
 use Rattle.std.proofs.Common.{◌∙◌}
-use Rattle.solv_pool.specs.Catalog.{catalog_of}
+use Rattle.solv_pool.specs.Prelude.{catalog_of}
 use Rattle.solv_rules.specs.Books.{read_rules}
 use Rattle.solv_decide.proofs.Whole.{owner_each, few_are, all_over}
 use Rattle.solv_decide.proofs.deciding.core_of.Goals as goal

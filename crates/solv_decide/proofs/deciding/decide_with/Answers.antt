@@ -1,9 +1,7 @@
 use Rattle.std.proofs.Common.{◌≡◌, Bool, true, List, [], ◌∷◌, ◌++◌, length, sym, ap, ◌∙◌, subst}
 use Rattle.std.specs.Prelude.{replicate}
 use Rattle.std.proofs.lemmas.List.{length-replicate}
-use Rattle.solv_pool.specs.Catalog.{Catalog, catalog_of}
-use Rattle.solv_pool.specs.RuleMeaning.{HardRule}
-use Rattle.solv_pool.specs.Range.{are_over}
+use Rattle.solv_pool.specs.Prelude.{Catalog, catalog_of, HardRule, are_over}
 use Rattle.solv_core.specs.Cores.{CoreOf}
 use Rattle.solv_core.specs.Ledgers.{IsGoodLedger}
 use Rattle.solv_core.specs.Inner.Ledgers.{run_of}

@@ -1,5 +1,5 @@
 use Rattle.std.proofs.Common.{◌≡◌, drop}
-use Rattle.solv_pool.specs.Range.{is_over}
+use Rattle.solv_pool.specs.Prelude.{is_over}
 use Rattle.solv_derive.proofs.checker.clause_within.Given as goal
 
 abbrev pub invariant-loop-lit : goal.invariant-loop-lit

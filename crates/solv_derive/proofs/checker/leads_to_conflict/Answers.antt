@@ -1,7 +1,7 @@
 use Rattle.std.proofs.Common.{◌≡◌, ◌∷◌, Some, None, map, take, get_or, sym, ap, ◌∙◌, arith, add-one, true}
 use Rattle.solv_derive.specs.Forced.{forced}
 use Rattle.solv_derive.specs.Inner.Marks.{is_marked}
-use Rattle.solv_pool.specs.Range.{is_over}
+use Rattle.solv_pool.specs.Prelude.{is_over}
 use Rattle.solv_derive.specs.Logs.{hint_clause}
 use Rattle.solv_derive.proofs.Tables.{seen_forced, seen_false}
 use Rattle.solv_derive.proofs.Hints.{run_next, run_last, run_lost, run_stuck, run_over, found_over, forced_over}

@@ -1,5 +1,5 @@
 use Rattle.std.proofs.Common.{◌+◌, ◌∙◌, sym, ap, ◌&&◌, drop}
-use Rattle.solv_pool.specs.Range.{are_over}
+use Rattle.solv_pool.specs.Prelude.{are_over}
 use Rattle.solv_derive.proofs.Hints.{over_next}
 use Rattle.solv_derive.proofs.checker.rules_within.Goals as goal
 

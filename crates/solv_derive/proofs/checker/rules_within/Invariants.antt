@@ -1,5 +1,5 @@
 use Rattle.std.proofs.Common.{◌≡◌, drop}
-use Rattle.solv_pool.specs.Range.{are_over}
+use Rattle.solv_pool.specs.Prelude.{are_over}
 use Rattle.solv_derive.proofs.checker.rules_within.Given as goal
 
 abbrev pub invariant-loop-rule : goal.invariant-loop-rule

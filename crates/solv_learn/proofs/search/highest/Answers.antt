@@ -1,7 +1,7 @@
 use Rattle.std.proofs.Common.{◌≡◌, ◌∙◌, ◌+◌, ℕ, sym, ap, subst, take, get_or, arith, true}
 use Rattle.std.specs.Prelude.{pos, neg_ℤ}
 use Rattle.std.proofs.lemmas.List.{get_or_read, take_all}
-use Rattle.solv_pool.specs.Propagation.{is_fact}
+use Rattle.solv_pool.specs.Prelude.{is_fact}
 use Rattle.solv_trail.proofs.Walk.{known_at}
 use Rattle.solv_learn.proofs.Levels.{IsHighest, highest_none, highest_next}
 use Rattle.solv_learn.proofs.search.highest.Goals as goal

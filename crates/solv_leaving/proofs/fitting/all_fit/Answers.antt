@@ -1,5 +1,5 @@
 use Rattle.std.proofs.Common.{◌≤◌, ◌+◌, sym, subst, arith}
-use Rattle.solv_pool.specs.Catalog.{Catalog, catalog_of}
+use Rattle.solv_pool.specs.Prelude.{Catalog, catalog_of}
 use Rattle.solv_rules.specs.Books.{most_words}
 use Rattle.solv_leaving.specs.Inner.Fitting.{words_at, words_left_out}
 use Rattle.solv_leaving.proofs.Bounds.{within_some, within_none, few_enough, too_many, next_of, none_of, left_words}

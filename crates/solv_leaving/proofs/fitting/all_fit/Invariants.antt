@@ -1,6 +1,6 @@
 use Rattle.std.proofs.Common.{◌≡◌, ◌≤◌, ◌+◌, ◌-◌}
 use Rattle.std.specs.List.{range_with_len}
-use Rattle.solv_pool.specs.Catalog.{catalog_of, packages}
+use Rattle.solv_pool.specs.Prelude.{catalog_of, packages}
 use Rattle.solv_rules.specs.Books.{most_words}
 use Rattle.solv_leaving.proofs.Totals.{total}
 use Rattle.solv_leaving.specs.Inner.Fitting.{words_at}

@@ -1,5 +1,5 @@
 use Rattle.std.proofs.Common.{◌≡◌, ◌≤◌, ◌+◌, sum_by, drop}
-use Rattle.solv_pool.specs.Catalog.{Catalog}
+use Rattle.solv_pool.specs.Prelude.{Catalog}
 use Rattle.solv_prov.specs.Index.{IsIndexOf}
 use Rattle.solv_rules.specs.Books.{most_words}
 use Rattle.solv_leaving.specs.Inner.Fitting.{need_words}

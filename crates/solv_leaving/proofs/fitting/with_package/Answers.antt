@@ -1,5 +1,5 @@
 use Rattle.std.proofs.Common.{◌≡◌, ◌+◌, ◌-◌, ◌∙◌, sum_by, sym, ap}
-use Rattle.solv_pool.specs.Catalog.{Catalog, catalog_of}
+use Rattle.solv_pool.specs.Prelude.{Catalog, catalog_of}
 use Rattle.solv_leaving.specs.Inner.Fitting.{within, need_words, words_at}
 use Rattle.solv_leaving.proofs.Bounds.{nothing_added, words_there, no_words_there, needs_held}
 use Rattle.solv_leaving.proofs.fitting.with_package.Goals as goal

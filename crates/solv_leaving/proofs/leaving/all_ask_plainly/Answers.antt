@@ -1,8 +1,7 @@
 use Rattle.std.proofs.Common.{◌≡◌, ◌+◌, ◌<◌, ◌&&◌, ◌∙◌, true, false, length, ap, sym, arith, add-one, drop}
 use Rattle.std.specs.Prelude.{slice_get}
 use Rattle.std.specs.List.{list_all}
-use Rattle.solv_pool.specs.Catalog.{Catalog, catalog_of, package_at}
-use Rattle.solv_pool.specs.Words.{passes}
+use Rattle.solv_pool.specs.Prelude.{Catalog, catalog_of, package_at, passes}
 use Rattle.solv_leaving.specs.Leaving.{asks_plainly}
 use Rattle.solv_leaving.proofs.Plain.{all_step}
 use Rattle.solv_leaving.proofs.leaving.all_ask_plainly.Goals as goal

@@ -1,6 +1,6 @@
 use Rattle.std.proofs.Common.{◌≡◌, drop}
 use Rattle.std.specs.List.{list_all}
-use Rattle.solv_pool.specs.Catalog.{catalog_of}
+use Rattle.solv_pool.specs.Prelude.{catalog_of}
 use Rattle.solv_leaving.specs.Leaving.{asks_plainly}
 use Rattle.solv_leaving.proofs.leaving.all_ask_plainly.Given as goal
 

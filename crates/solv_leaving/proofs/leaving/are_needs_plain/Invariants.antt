@@ -1,6 +1,6 @@
 use Rattle.std.proofs.Common.{◌≡◌, true, drop, length}
 use Rattle.std.specs.List.{list_all}
-use Rattle.solv_base.specs.Dependency.{tree}
+use Rattle.solv_pool.specs.Prelude.{tree}
 use Rattle.solv_clean.specs.Inner.Readiness.{need_below}
 use Rattle.solv_leaving.specs.Leaving.{is_plainly_met}
 use Rattle.solv_leaving.proofs.leaving.are_needs_plain.Given as goal

@@ -1,6 +1,6 @@
 use Rattle.std.proofs.Common.{◌≡◌, true, drop, length}
 use Rattle.std.specs.List.{list_all}
-use Rattle.solv_base.specs.Dependency.{tree, package_wise}
+use Rattle.solv_pool.specs.Prelude.{tree, package_wise}
 use Rattle.solv_clean.specs.Inner.Readiness.{dep_below}
 use Rattle.solv_leaving.proofs.leaving.are_package_wise.Given as goal
 

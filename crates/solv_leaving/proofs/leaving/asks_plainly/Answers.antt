@@ -1,7 +1,6 @@
 use Rattle.std.proofs.Common.{◌≡◌, ◌-◌, ◌&&◌, ◌∙◌, ap, sym}
 use Rattle.std.specs.List.{list_all}
-use Rattle.solv_base.specs.Dependency.{package_wise}
-use Rattle.solv_pool.specs.Catalog.{Catalog, catalog_of, dependency}
+use Rattle.solv_pool.specs.Prelude.{package_wise, Catalog, catalog_of, dependency}
 use Rattle.solv_pool.specs.declared.packages.Need.{Need}
 use Rattle.solv_clean.proofs.Below.{requires_below, recommends_below, conflicts_below}
 use Rattle.solv_clean.proofs.Served.{package_is}

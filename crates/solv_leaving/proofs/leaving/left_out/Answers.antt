@@ -1,6 +1,5 @@
 use Rattle.std.proofs.Common.{◌∙◌, ap, sym}
-use Rattle.solv_pool.specs.Catalog.{catalog_of}
-use Rattle.solv_pool.specs.JobMarks.{marked}
+use Rattle.solv_pool.specs.Prelude.{catalog_of, marked}
 use Rattle.solv_leaving.proofs.Left.{leaves_out}
 use Rattle.solv_leaving.proofs.leaving.left_out.Goals as goal
 

@@ -1,4 +1,4 @@
-use Rattle.solv_pool.specs.Catalog.{catalog_of}
+use Rattle.solv_pool.specs.Prelude.{catalog_of}
 use Rattle.solv_leaving.specs.Inner.Starting.{AreStarted}
 use Rattle.solv_leaving.proofs.starting.mark_each_started.Given as goal
 

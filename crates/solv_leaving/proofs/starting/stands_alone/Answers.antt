@@ -2,8 +2,7 @@ use Rattle.std.proofs.Common.{◌≡◌, ◌-◌, ◌∙◌, ◌<◌, ◌||◌, 
 use Rattle.std.specs.Prelude.{◌==◌, slice_get}
 use Rattle.std.specs.List.{list_any}
 use Rattle.std.proofs.lemmas.Bool.{false≢true}
-use Rattle.solv_pool.specs.Catalog.{Catalog, catalog_of, package_at}
-use Rattle.solv_pool.specs.Words.{passes}
+use Rattle.solv_pool.specs.Prelude.{Catalog, catalog_of, package_at, passes}
 use Rattle.solv_leaving.specs.Inner.Starting.{is_met_alone, stands_alone}
 use Rattle.solv_clean.proofs.Below.{requires_below}
 use Rattle.solv_leaving.proofs.starting.stands_alone.Goals as goal

@@ -1,5 +1,5 @@
 use Rattle.std.proofs.Common.{◌∙◌, length}
-use Rattle.solv_pool.specs.Catalog.{Catalog, catalog_of}
+use Rattle.solv_pool.specs.Prelude.{Catalog, catalog_of}
 use Rattle.solv_list.proofs.Lists.{whole_write}
 use Rattle.solv_leaving.specs.Inner.Starting.{AreStarted}
 use Rattle.solv_leaving.proofs.Begun.{are_starts}

@@ -1,5 +1,5 @@
 use Rattle.std.proofs.Common.{◌≡◌, map, drop}
-use Rattle.solv_pool.specs.Catalog.{catalog_of}
+use Rattle.solv_pool.specs.Prelude.{catalog_of}
 use Rattle.solv_lines.specs.Inner.LineNames.{with_lines, pack_line}
 use Rattle.solv_lines.proofs.needing.put_packs.Given as goal
 

@@ -1,6 +1,6 @@
 use Rattle.std.proofs.Common.{◌≡◌, ℕ, List, subst}
 use Rattle.std.specs.Prelude.{OnOk}
-use Rattle.solv_pool.specs.Catalog.{catalog_of}
+use Rattle.solv_pool.specs.Prelude.{catalog_of}
 use Rattle.solv_lines.specs.Inner.LineNames.{with_lines}
 use Rattle.solv_lines.proofs.Coming.{reasons_same}
 use Rattle.solv_lines.proofs.reasons.put_reasons.Goals as goal

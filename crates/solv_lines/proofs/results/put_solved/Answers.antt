@@ -1,6 +1,5 @@
 use Rattle.std.proofs.Common.{ℕ, List, map, ap, ◌∙◌}
-use Rattle.solv_pool.specs.Catalog.{catalog_of}
-use Rattle.solv_pool.specs.Words.{when}
+use Rattle.solv_pool.specs.Prelude.{catalog_of, when}
 use Rattle.solv_lines.specs.Inner.LineNames.{with_lines, need_lines, reason_lines}
 use Rattle.solv_lines.specs.ResultLines.{change_line, order_lines}
 use Rattle.solv_lines.proofs.InTurn.{four_in_turn}

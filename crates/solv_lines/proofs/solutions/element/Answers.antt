@@ -1,6 +1,6 @@
 use Rattle.std.proofs.Common.{List, ◌≡◌, map, sym, subst}
 use Rattle.std.specs.Prelude.{IfOk}
-use Rattle.solv_pool.specs.RuleMeaning.{HardRule, rule_with}
+use Rattle.solv_pool.specs.Prelude.{HardRule, rule_with}
 use Rattle.solv_pool.specs.declared.hard_rules.Rule.{Rule}
 use Rattle.solv_lines.specs.SolutionTexts.{element}
 use Rattle.solv_lines.proofs.solutions.element.Goals as goal

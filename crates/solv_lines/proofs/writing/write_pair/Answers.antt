@@ -1,4 +1,4 @@
-use Rattle.solv_pool.specs.Catalog.{catalog_of}
+use Rattle.solv_pool.specs.Prelude.{catalog_of}
 use Rattle.solv_lines.proofs.Joining.{pair_behind}
 use Rattle.solv_lines.proofs.writing.write_pair.Goals as goal
 

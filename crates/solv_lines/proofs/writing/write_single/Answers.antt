@@ -1,4 +1,4 @@
-use Rattle.solv_pool.specs.Catalog.{catalog_of}
+use Rattle.solv_pool.specs.Prelude.{catalog_of}
 use Rattle.solv_lines.proofs.Joining.{single_behind}
 use Rattle.solv_lines.proofs.writing.write_single.Goals as goal
 

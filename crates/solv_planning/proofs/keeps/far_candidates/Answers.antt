@@ -1,10 +1,8 @@
 use Rattle.std.proofs.Common.{◌∙◌, ◌||◌, not, length, ap}
 use Rattle.std.specs.Prelude.{◌==◌}
 use Rattle.std.specs.List.{list_all}
-use Rattle.solv_pool.specs.Catalog.{catalog_of}
-use Rattle.solv_pool.specs.TaskBelonging.{is_pack}
+use Rattle.solv_pool.specs.Prelude.{catalog_of, is_pack, is_among}
 use Rattle.solv_pool.specs.Updates.{is_feature}
-use Rattle.solv_pool.specs.Words.{is_among}
 use Rattle.solv_planning.proofs.keeps.far_candidates.Goals as goal
 use Rattle.solv_list.proofs.Lists.{list_all_filter}
 use Rattle.solv_pool.proofs.Placed.{packs_of}

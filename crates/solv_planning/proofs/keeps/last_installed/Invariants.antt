@@ -1,5 +1,5 @@
 use Rattle.std.proofs.Common.{◌≡◌, ◌<◌, ◌≤◌, ℕ, false, length}
-use Rattle.solv_pool.specs.Catalog.{catalog_of, is_installed}
+use Rattle.solv_pool.specs.Prelude.{catalog_of, is_installed}
 use Rattle.solv_planning.proofs.keeps.last_installed.Given as goal
 
 abbrev pub invariant-loop-last : goal.invariant-loop-last

@@ -1,6 +1,6 @@
 use Rattle.std.proofs.Common.{◌≡◌, ◌++◌, not, drop}
 use Rattle.std.specs.Prelude.{filter}
-use Rattle.solv_pool.specs.Words.{is_among}
+use Rattle.solv_pool.specs.Prelude.{is_among}
 use Rattle.solv_planning.proofs.keeps.without_few.Given as goal
 
 abbrev pub invariant-loop-pack : goal.invariant-loop-pack

@@ -1,6 +1,6 @@
 use Rattle.std.proofs.Common.{◌∙◌, ap, not, refl}
 use Rattle.std.specs.Prelude.{flat_map}
-use Rattle.solv_pool.specs.Catalog.{catalog_of}
+use Rattle.solv_pool.specs.Prelude.{catalog_of}
 use Rattle.solv_questions.specs.Questions.{request_of}
 use Rattle.solv_plan.specs.Inner.Wanting.{is_rising}
 use Rattle.solv_planning.specs.Inner.Rows.{wants_of}

@@ -1,6 +1,6 @@
 use Rattle.std.proofs.Common.{◌≡◌, ◌∙◌, length, ap, arith, subst}
 use Rattle.solv_list.proofs.Answers.{ok_map}
-use Rattle.solv_pool.specs.Catalog.{Catalog}
+use Rattle.solv_pool.specs.Prelude.{Catalog}
 use Rattle.solv_script.specs.declared.scripts.Script.{Script}
 use Rattle.solv_rounds.proofs.Turned.{at_place, front_back, front_catalog, front_later}
 use Rattle.solv_rounds.specs.Inner.Fronts.{in_front}

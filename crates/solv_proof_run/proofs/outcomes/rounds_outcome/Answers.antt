@@ -1,5 +1,5 @@
 use Rattle.std.proofs.Common.{◌≡◌, Some, length, refl, rules, sym, subst}
-use Rattle.solv_pool.specs.Catalog.{catalog_of}
+use Rattle.solv_pool.specs.Prelude.{catalog_of}
 use Rattle.solv_list.proofs.Answers.{if_err, ok_map}
 use Rattle.solv_answers.specs.Answers.{first_limit}
 use Rattle.solv_answers.specs.Inner.Fronts.{MayGoOn}

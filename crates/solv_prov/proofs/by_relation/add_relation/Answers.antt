@@ -1,8 +1,6 @@
 use Rattle.std.proofs.Common.{refl, length, arith, ◌<◌}
-use Rattle.solv_pool.specs.Catalog.{Catalog}
+use Rattle.solv_pool.specs.Prelude.{Catalog, plain, versioned, catalog_of}
 use Rattle.std.proofs.lemmas.List.{append-nil}
-use Rattle.solv_base.specs.Dependency.{plain, versioned}
-use Rattle.solv_pool.specs.Catalog.{catalog_of}
 use Rattle.solv_prov.specs.Index.{providers_of}
 use Rattle.solv_prov.proofs.Relations.{first_list, second_list, closed_many, or_list, with_list, without_list, first_below, second_below, IsOther, capability_providers, capability_named, capability_is, simple_within, versioned_within, other_providers, other_named, named_by-none}
 use Rattle.solv_prov.proofs.by_relation.add_relation.Goals as goal

@@ -1,7 +1,7 @@
 use Rattle.std.proofs.Common.{◌≡◌, true, false, sym, ap, ◌∙◌, length}
 use Rattle.std.specs.Prelude.{◌==◌}
 use Rattle.std.proofs.lemmas.Bool.{true≢false}
-use Rattle.solv_pool.specs.Words.{when}
+use Rattle.solv_pool.specs.Prelude.{when}
 use Rattle.solv_prov.specs.Inner.Merging.{is_kept, merged}
 use Rattle.solv_prov.proofs.Merged.{second_empty}
 use Rattle.solv_prov.proofs.merging.put_rest.Goals as goal

@@ -1,5 +1,5 @@
 use Rattle.std.proofs.Common.{◌≡◌, ◌<◌, ◌+◌, ◌∙◌, ℕ, true, false, sym, ap, subst, arith, length}
-use Rattle.solv_pool.specs.Words.{is_among}
+use Rattle.solv_pool.specs.Prelude.{is_among}
 use Rattle.solv_core.specs.Cores.{CoreOf}
 use Rattle.solv_questions.specs.Questions.{Request}
 use Rattle.solv_remedy.specs.Inner.Runs.{is_spent, IsOf}

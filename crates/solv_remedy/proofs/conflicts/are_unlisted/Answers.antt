@@ -1,6 +1,6 @@
 use Rattle.std.proofs.Common.{◌∙◌, ◌&&◌, not, ap}
 use Rattle.std.specs.Prelude.{nat_lt}
-use Rattle.solv_pool.specs.Words.{is_among}
+use Rattle.solv_pool.specs.Prelude.{is_among}
 use Rattle.solv_trail.specs.Asked.{is_enabled}
 use Rattle.solv_pool.proofs.Tests.{list_all_ext}
 use Rattle.solv_remedy.specs.Inner.Conflicts.{listed_of}

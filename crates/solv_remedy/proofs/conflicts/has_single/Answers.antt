@@ -1,6 +1,6 @@
 use Rattle.std.proofs.Common.{◌≡◌, ◌-◌, ◌∙◌, sym, ap, arith, get_or}
 use Rattle.std.specs.Prelude.{◌==◌}
-use Rattle.solv_pool.specs.Words.{is_among}
+use Rattle.solv_pool.specs.Prelude.{is_among}
 use Rattle.solv_remedy.specs.Inner.Conflicts.{first_of, place_in}
 use Rattle.solv_remedy.proofs.ByHalves.{listed_are, none_at, one_at}
 use Rattle.solv_remedy.proofs.conflicts.has_single.Goals as goal

@@ -1,5 +1,5 @@
 use Rattle.std.proofs.Common.{◌≡◌, ◌∙◌, true, sym, ap, subst}
-use Rattle.solv_pool.specs.Words.{is_among}
+use Rattle.solv_pool.specs.Prelude.{is_among}
 use Rattle.solv_remedy.specs.Inner.Steps.{is_spent_step, IsStep}
 use Rattle.solv_remedy.specs.declared.dropping.Dropping.{Dropping}
 use Rattle.solv_remedy.proofs.Dropped.{one_run}

@@ -1,6 +1,6 @@
 use Rattle.std.proofs.Common.{◌≡◌, ◌&&◌, drop, not}
 use Rattle.std.specs.Prelude.{find}
-use Rattle.solv_pool.specs.Words.{is_among}
+use Rattle.solv_pool.specs.Prelude.{is_among}
 use Rattle.solv_trail.specs.Asked.{is_enabled}
 use Rattle.solv_remedy.proofs.dropping.first_guessed.Given as goal
 

@@ -1,6 +1,6 @@
 use Rattle.std.proofs.Common.{◌∙◌, not, ◌&&◌, sym}
 use Rattle.std.proofs.lemmas.Bool.{and_parts}
-use Rattle.solv_pool.specs.Words.{is_among}
+use Rattle.solv_pool.specs.Prelude.{is_among}
 use Rattle.solv_trail.specs.Asked.{is_enabled}
 use Rattle.solv_remedy.proofs.Dropped.{other_found}
 use Rattle.solv_remedy.proofs.dropping.one_other.Goals as goal

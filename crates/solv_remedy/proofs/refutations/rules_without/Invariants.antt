@@ -1,6 +1,6 @@
 use Rattle.std.proofs.Common.{◌≡◌, ◌++◌, drop, not}
 use Rattle.std.specs.Prelude.{filter}
-use Rattle.solv_pool.specs.Words.{is_among}
+use Rattle.solv_pool.specs.Prelude.{is_among}
 use Rattle.solv_remedy.proofs.refutations.rules_without.Given as goal
 
 abbrev pub invariant-loop-rule : goal.invariant-loop-rule

@@ -1,6 +1,6 @@
 use Rattle.std.proofs.Common.{◌≡◌, ◌∙◌, not, ap, arith, length, rules}
 use Rattle.std.specs.Prelude.{filter}
-use Rattle.solv_pool.specs.Words.{is_among}
+use Rattle.solv_pool.specs.Prelude.{is_among}
 use Rattle.solv_remedy.specs.Inner.GivingBack.{kept_rules}
 use Rattle.solv_remedy.proofs.Dropped.{no_longer}
 use Rattle.solv_remedy.proofs.Regained.{looked_among}

@@ -1,6 +1,6 @@
 use Rattle.std.proofs.Common.{◌≡◌, ℕ, List, true, false, length}
 use Rattle.std.specs.Vec.Iter.{into_iter_items, into_iter_len}
-use Rattle.solv_pool.specs.Words.{is_among}
+use Rattle.solv_pool.specs.Prelude.{is_among}
 use Rattle.solv_trail.specs.Asked.{is_enabled}
 use Rattle.solv_core.specs.Inner.Contradictions.{AreRefuted}
 use Rattle.solv_core.specs.Cores.{CoreOf}

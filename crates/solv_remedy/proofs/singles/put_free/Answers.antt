@@ -1,7 +1,7 @@
 use Rattle.std.proofs.Common.{◌≡◌, ◌<◌, ◌∙◌, ◌||◌, ◌&&◌, ℕ, List, not, true, false, sym, ap, arith, length}
 use Rattle.std.specs.List.{list_all}
 use Rattle.std.proofs.lemmas.Bool.{and_parts, eqb-false}
-use Rattle.solv_pool.specs.Words.{is_among}
+use Rattle.solv_pool.specs.Prelude.{is_among}
 use Rattle.solv_pool.proofs.Members.{all_at, among_has}
 use Rattle.solv_list.proofs.Booleans.{false_of_not}
 use Rattle.solv_trail.specs.Asked.{is_enabled}

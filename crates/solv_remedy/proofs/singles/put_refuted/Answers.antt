@@ -1,7 +1,7 @@
 use Rattle.std.proofs.Common.{◌∙◌, not, sym, ap, length}
 use Rattle.std.specs.Prelude.{nat_lt}
 use Rattle.std.proofs.lemmas.Bool.{and_parts}
-use Rattle.solv_pool.specs.Words.{is_among}
+use Rattle.solv_pool.specs.Prelude.{is_among}
 use Rattle.solv_list.proofs.Booleans.{false_of_not}
 use Rattle.solv_trail.specs.Asked.{is_enabled}
 use Rattle.solv_remedy.specs.Inner.Conflicts.{listed_of}

@@ -1,6 +1,6 @@
 use Rattle.std.proofs.Common.{◌≡◌, ◌∙◌, ℕ, List, Bool, not, true, false, sym, ap, arith, length, rules, eq-eqb}
 use Rattle.std.specs.List.{list_all}
-use Rattle.solv_pool.specs.Words.{is_among}
+use Rattle.solv_pool.specs.Prelude.{is_among}
 use Rattle.solv_rules.specs.Books.{rises}
 use Rattle.solv_remedy.specs.Inner.Conflicts.{listed_of, first_rules, is_single, AreApart, AreSettled}
 use Rattle.solv_remedy.specs.declared.smallest.Conflict.{Conflict}

@@ -1,5 +1,5 @@
 use Rattle.std.proofs.Common.{◌≡◌, ◌∙◌, ◌+◌, ◌<◌, ◌++◌, ◌∷◌, [], ap, length, drop, sym}
-use Rattle.solv_pool.specs.Clauses.{kept, in_numbers}
+use Rattle.solv_pool.specs.Prelude.{kept, in_numbers}
 use Rattle.std.specs.Prelude.{flat_map}
 use Rattle.solv_rich.specs.Inner.Counts.{ends_behind, HasAppended}
 use Rattle.solv_rich.specs.Inner.Expansions.{clauses_in}

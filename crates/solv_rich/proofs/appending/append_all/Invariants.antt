@@ -1,6 +1,6 @@
 use Rattle.std.proofs.Common.{◌≡◌, ◌++◌, drop, take, length}
 use Rattle.std.specs.Prelude.{flat_map}
-use Rattle.solv_pool.specs.Clauses.{kept, in_numbers}
+use Rattle.solv_pool.specs.Prelude.{kept, in_numbers}
 use Rattle.solv_rich.specs.Inner.Counts.{ends_behind}
 use Rattle.solv_rich.specs.Inner.Expansions.{clauses_in}
 use Rattle.solv_rich.proofs.appending.append_all.Given as goal

@@ -1,6 +1,6 @@
 use Rattle.std.proofs.Common.{◌∙◌, ap, length}
 use Rattle.std.specs.List.{list_all}
-use Rattle.solv_pool.specs.Catalog.{Catalog, catalog_of, dependency}
+use Rattle.solv_pool.specs.Prelude.{Catalog, catalog_of, dependency}
 use Rattle.solv_rich.specs.Inner.Shortening.{has_number}
 use Rattle.solv_rich.proofs.Appended.{numbered}
 use Rattle.solv_rich.proofs.appending.append_rich.Goals as goal

@@ -1,6 +1,5 @@
 use Rattle.std.proofs.Common.{◌∙◌, sym, rules}
-use Rattle.solv_pool.specs.Catalog.{catalog_of, dependency}
-use Rattle.solv_pool.specs.Holding.{package_meets}
+use Rattle.solv_pool.specs.Prelude.{catalog_of, dependency, package_meets}
 use Rattle.solv_rich.proofs.Rising.{numbers_of}
 use Rattle.solv_rich.proofs.SingleClauses.{clauses_are}
 use Rattle.solv_rich.proofs.counting.append_counted.Goals as goal

@@ -1,8 +1,6 @@
 use Rattle.std.proofs.Common.{◌≡◌, ◌∙◌, ◌++◌, ap, subst, take, List}
 use Rattle.std.specs.Prelude.{filter}
-use Rattle.solv_pool.specs.Catalog.{Catalog, catalog_of, dependency, members}
-use Rattle.solv_pool.specs.Clauses.{Clause}
-use Rattle.solv_pool.specs.Holding.{package_meets}
+use Rattle.solv_pool.specs.Prelude.{Catalog, catalog_of, dependency, members, Clause, package_meets}
 use Rattle.solv_rich.specs.Inner.Expansions.{IsExpansion}
 use Rattle.solv_rich.specs.Inner.Singles.{without}
 use Rattle.solv_rich.proofs.Around.{leaf_is}

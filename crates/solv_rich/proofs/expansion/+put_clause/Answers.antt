@@ -2,7 +2,7 @@ use Rattle.std.proofs.Common.{◌≡◌, ◌≤◌, ◌∙◌, ◌-◌, ◌++◌
 use Rattle.std.specs.Prelude.{◌==◌, slice_get, unwrap_or}
 use Rattle.std.proofs.lemmas.List.{map_push}
 use Rattle.std.proofs.lemmas.Option.{slice_get-map}
-use Rattle.solv_pool.specs.Clauses.{Clause, times, is_out}
+use Rattle.solv_pool.specs.Prelude.{Clause, times, is_out}
 use Rattle.solv_rich.specs.Counts.{saturated}
 use Rattle.solv_rich.specs.Inner.Expansions.{clauses_in, are_counted, literal_of}
 use Rattle.solv_rich.proofs.Numbered.{joined_front, joined_back, there_is}

@@ -1,5 +1,5 @@
 use Rattle.std.proofs.Common.{◌≡◌, ◌++◌, drop, map}
-use Rattle.solv_pool.specs.Clauses.{is_in}
+use Rattle.solv_pool.specs.Prelude.{is_in}
 use Rattle.solv_rich.specs.Inner.Expansions.{literal_of}
 use Rattle.solv_rich.proofs.expansion.put_ins.Given as goal
 

@@ -1,6 +1,6 @@
 use Rattle.std.proofs.Common.{◌≡◌, ◌||◌, drop, map}
 use Rattle.std.specs.List.{list_any}
-use Rattle.solv_pool.specs.Clauses.{is_in, same_literal, negation}
+use Rattle.solv_pool.specs.Prelude.{is_in, same_literal, negation}
 use Rattle.solv_rich.specs.Inner.Expansions.{literal_of}
 use Rattle.solv_rich.specs.Inner.LongClauses.{has_literal}
 use Rattle.solv_rich.proofs.long_clauses.is_any_met.Given as goal

@@ -1,6 +1,6 @@
 use Rattle.std.proofs.Common.{◌≡◌, ◌++◌, [], true, drop, take, map, length}
 use Rattle.std.specs.List.{list_all}
-use Rattle.solv_pool.specs.Clauses.{number_of}
+use Rattle.solv_pool.specs.Prelude.{number_of}
 use Rattle.solv_rich.specs.Inner.Expansions.{literal_of}
 use Rattle.solv_rich.specs.Inner.LongClauses.{IsSetOf}
 use Rattle.solv_rich.specs.Inner.Shortening.{has_number, each_first}

@@ -1,5 +1,5 @@
 use Rattle.std.proofs.Common.{◌∙◌, ap, length}
-use Rattle.solv_pool.specs.Catalog.{catalog_of}
+use Rattle.solv_pool.specs.Prelude.{catalog_of}
 use Rattle.solv_rich.proofs.Lengths.{length-clauses_by}
 use Rattle.solv_rich.proofs.operators.parts_of.Goals as goal
 

@@ -1,7 +1,6 @@
 use Rattle.std.proofs.Common.{◌≡◌, ◌∙◌, ap, length, refl}
 use Rattle.std.specs.Prelude.{filter}
-use Rattle.solv_pool.specs.Catalog.{Catalog, catalog_of, dependency, members}
-use Rattle.solv_pool.specs.Holding.{package_meets}
+use Rattle.solv_pool.specs.Prelude.{Catalog, catalog_of, dependency, members, package_meets}
 use Rattle.solv_rich.specs.Inner.Singles.{without}
 use Rattle.solv_rich.proofs.Rising.{left_out}
 use Rattle.solv_rich.proofs.relations.leaf_count.Goals as goal

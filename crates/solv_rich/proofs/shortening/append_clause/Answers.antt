@@ -1,5 +1,5 @@
 use Rattle.std.proofs.Common.{◌≡◌, ◌∙◌, sym, map, length, false, [], rules}
-use Rattle.solv_pool.specs.Clauses.{is_always_true, number_of}
+use Rattle.solv_pool.specs.Prelude.{is_always_true, number_of}
 use Rattle.solv_rich.specs.Inner.Expansions.{literal_of}
 use Rattle.solv_rich.specs.Inner.Shortening.{each_first}
 use Rattle.solv_rich.proofs.Appended.{kept_one, one_appended}

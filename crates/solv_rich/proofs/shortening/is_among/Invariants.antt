@@ -1,5 +1,5 @@
 use Rattle.std.proofs.Common.{◌≡◌, drop, map}
-use Rattle.solv_pool.specs.Clauses.{contains_literal}
+use Rattle.solv_pool.specs.Prelude.{contains_literal}
 use Rattle.solv_rich.specs.Inner.Expansions.{literal_of}
 use Rattle.solv_rich.proofs.shortening.is_among.Given as goal
 

@@ -1,5 +1,5 @@
 use Rattle.std.proofs.Common.{◌≡◌, ◌∙◌, ◌+◌, ℕ, length, rules, subst}
-use Rattle.solv_pool.specs.Catalog.{catalog_of}
+use Rattle.solv_pool.specs.Prelude.{catalog_of}
 use Rattle.solv_answers.specs.Inner.Fronts.{MayGoOn}
 use Rattle.solv_script.specs.Rounds.{tasks}
 use Rattle.solv_script.specs.declared.scripts.Script.{Script}

@@ -2,9 +2,7 @@ use Rattle.std.proofs.Common.{◌≡◌, ◌∙◌, length, ap, sym, arith, subs
 use Rattle.solv_list.proofs.Answers.{if_err, ok_map}
 use Rattle.solv_answers.specs.Answers.{IsPrepared}
 use Rattle.solv_answers.specs.Inner.Fronts.{MayGoOn}
-use Rattle.solv_pool.specs.Catalog.{Catalog, catalog_of}
-use Rattle.solv_pool.specs.HardRules.{hard_rules}
-use Rattle.solv_pool.specs.TaskBelonging.{IsClosed}
+use Rattle.solv_pool.specs.Prelude.{Catalog, catalog_of, hard_rules, IsClosed}
 use Rattle.solv_pool.specs.TaskForms.{HasForms}
 use Rattle.solv_rules.specs.Books.{IsDue, first_fault}
 use Rattle.solv_said.proofs.Forming.{asks_formed}

@@ -1,5 +1,5 @@
 use Rattle.std.proofs.Common.{◌≡◌, take, ap, arith}
-use Rattle.solv_pool.specs.Clauses.{words_of_all}
+use Rattle.solv_pool.specs.Prelude.{words_of_all}
 use Rattle.solv_rules.proofs.Fronts.{words_parts}
 use Rattle.solv_rules.proofs.drafts.keep_first.Goals as goal
 

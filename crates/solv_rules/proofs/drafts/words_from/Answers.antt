@@ -1,7 +1,7 @@
 use Rattle.std.proofs.Common.{◌≡◌, ◌+◌, ◌∙◌, drop, ap, arith}
 use Rattle.std.proofs.lemmas.List.Sums.{sum_by-cons}
 use Rattle.solv_list.proofs.Lists.{drop_get}
-use Rattle.solv_pool.specs.Clauses.{words, words_of_all}
+use Rattle.solv_pool.specs.Prelude.{words, words_of_all}
 use Rattle.solv_rules.proofs.drafts.words_from.Goals as goal
 
 pub loop-rule-preserved : goal.loop-rule-preserved

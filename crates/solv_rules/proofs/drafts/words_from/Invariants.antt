@@ -1,5 +1,5 @@
 use Rattle.std.proofs.Common.{◌≡◌, ◌≤◌, ◌+◌, ◌*◌, drop}
-use Rattle.solv_pool.specs.Clauses.{words_of_all}
+use Rattle.solv_pool.specs.Prelude.{words_of_all}
 use Rattle.solv_rules.proofs.drafts.words_from.Given as goal
 
 abbrev pub invariant-loop-rule : goal.invariant-loop-rule

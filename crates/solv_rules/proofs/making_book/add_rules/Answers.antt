@@ -1,8 +1,7 @@
 use Rattle.std.proofs.Common.{◌≡◌, ◌∙◌, true, List, map, subst}
 use Rattle.std.specs.List.{list_all}
 use Rattle.std.proofs.lemmas.List.{drop-map}
-use Rattle.solv_pool.specs.Catalog.{catalog_of}
-use Rattle.solv_pool.specs.RuleMeaning.{HardRule, rule_with}
+use Rattle.solv_pool.specs.Prelude.{catalog_of, HardRule, rule_with}
 use Rattle.solv_rules.specs.Books.{is_bookable}
 use Rattle.solv_rules.proofs.Fronts.{begun_left}
 use Rattle.solv_rules.proofs.making_book.add_rules.Goals as goal

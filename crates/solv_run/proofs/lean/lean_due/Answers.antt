@@ -1,5 +1,5 @@
 use Rattle.std.proofs.Common.{arith}
-use Rattle.solv_pool.specs.TaskBelonging.{IsClosed}
+use Rattle.solv_pool.specs.Prelude.{IsClosed}
 use Rattle.solv_pool.specs.TaskForms.{HasForms}
 use Rattle.solv_rounds.proofs.Turned.{front_all}
 use Rattle.solv_said.proofs.Forming.{asks_formed}

@@ -1,7 +1,7 @@
 use Rattle.std.proofs.Common.{◌≡◌, ◌++◌, ◌||◌, Bool, List, ℕ, sym, ap, ◌∙◌}
 use Rattle.std.specs.Prelude.{is_none}
 use Rattle.solv_io.specs.Lines.{ended_lines}
-use Rattle.solv_pool.specs.Words.{when}
+use Rattle.solv_pool.specs.Prelude.{when}
 use Rattle.solv_script.specs.Inner.Turns.{first_turn}
 use Rattle.solv_run.specs.Texts.{told_lines, differences}
 use Rattle.solv_run.proofs.printing.round_said.Goals as goal

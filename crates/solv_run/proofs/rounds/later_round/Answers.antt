@@ -1,6 +1,5 @@
 use Rattle.std.proofs.Common.{◌∙◌, suc, ap, sym, subst}
-use Rattle.solv_pool.specs.Catalog.{Catalog, catalog_of}
-use Rattle.solv_pool.specs.TaskBelonging.{IsClosed}
+use Rattle.solv_pool.specs.Prelude.{Catalog, catalog_of, IsClosed}
 use Rattle.solv_pool.specs.TaskForms.{HasForms}
 use Rattle.solv_answers.specs.Inner.Fronts.{MayGoOn}
 use Rattle.solv_list.proofs.Answers.{ok_map}

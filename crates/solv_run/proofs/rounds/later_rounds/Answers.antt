@@ -1,6 +1,6 @@
 use Rattle.std.proofs.Common.{◌∙◌, ◌+◌, ◌<◌, ◌≤◌, None, length, map, refl, rules, sym, subst}
 use Rattle.std.specs.Prelude.{slice_get, IfSome}
-use Rattle.solv_pool.specs.Catalog.{catalog_of}
+use Rattle.solv_pool.specs.Prelude.{catalog_of}
 use Rattle.solv_answers.specs.Inner.Fronts.{MayGoOn}
 use Rattle.solv_rounds.proofs.FirstLimits.{due_of, next_limit, no_limit}
 use Rattle.solv_rounds.specs.Inner.Fronts.{IsDueAt, IsLimitAt}

@@ -1,5 +1,5 @@
 use Rattle.std.proofs.Common.{◌≡◌, ◌≤◌, drop, false, map, true}
-use Rattle.solv_pool.specs.Catalog.{catalog_of}
+use Rattle.solv_pool.specs.Prelude.{catalog_of}
 use Rattle.solv_answers.specs.Answers.{first_limit}
 use Rattle.solv_answers.specs.Inner.Fronts.{MayGoOn}
 use Rattle.solv_rounds.proofs.FirstLimits.{later_tasks}

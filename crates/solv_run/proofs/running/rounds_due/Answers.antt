@@ -1,5 +1,5 @@
 use Rattle.std.proofs.Common.{◌≡◌, arith, None, Some, ap, map, rules, sym, subst}
-use Rattle.solv_pool.specs.TaskBelonging.{IsClosed}
+use Rattle.solv_pool.specs.Prelude.{IsClosed}
 use Rattle.solv_pool.specs.TaskForms.{HasForms}
 use Rattle.solv_answers.specs.Answers.{first_limit}
 use Rattle.solv_rounds.proofs.FirstLimits.{all_fit, later_passed, later_tasks}

@@ -1,5 +1,5 @@
 use Rattle.solv_list.proofs.Answers.{ok_map}
-use Rattle.solv_pool.specs.TaskBelonging.{IsClosed}
+use Rattle.solv_pool.specs.Prelude.{IsClosed}
 use Rattle.solv_pool.specs.TaskForms.{HasForms}
 use Rattle.solv_solved.specs.Solvings.{was_read}
 use Rattle.solv_script.proofs.FinishedRounds.{first_of}

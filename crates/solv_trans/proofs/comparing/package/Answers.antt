@@ -1,5 +1,5 @@
 use Rattle.std.proofs.Common.{◌-◌, length}
-use Rattle.solv_pool.specs.Belonging.{fits}
+use Rattle.solv_pool.specs.Prelude.{fits}
 use Rattle.solv_trans.proofs.Pairs.{name_below, evr_below}
 use Rattle.solv_trans.proofs.comparing.package.Goals as goal
 use Rattle.solv_list.proofs.Lists.{all_at}

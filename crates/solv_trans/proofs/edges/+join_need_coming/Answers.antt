@@ -1,8 +1,7 @@
 use Rattle.std.proofs.Common.{◌≡◌, ◌<◌, ◌∷◌, ◌++◌, [], ℕ, List, length, filter, true, sym, subst}
 use Rattle.std.specs.Prelude.{nat_lt}
 use Rattle.std.specs.List.{list_all}
-use Rattle.solv_pool.specs.Catalog.{Catalog, catalog_of, dependency, members}
-use Rattle.solv_pool.specs.Holding.{package_meets}
+use Rattle.solv_pool.specs.Prelude.{Catalog, catalog_of, dependency, members, package_meets}
 use Rattle.solv_pool.specs.Parts.{parts}
 use Rattle.solv_trans.specs.Inner.Joining.{is_marked, Joins, from_one, to_coming, unsettled}
 use Rattle.solv_trans.proofs.Joined.{joins_same}

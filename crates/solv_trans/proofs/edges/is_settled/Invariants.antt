@@ -1,6 +1,6 @@
 use Rattle.std.proofs.Common.{◌≡◌, false, take}
 use Rattle.std.specs.List.{list_any}
-use Rattle.solv_pool.specs.Catalog.{catalog_of}
+use Rattle.solv_pool.specs.Prelude.{catalog_of}
 use Rattle.solv_trans.specs.Inner.Joining.{is_marked, settles}
 use Rattle.solv_trans.proofs.edges.is_settled.Given as goal
 

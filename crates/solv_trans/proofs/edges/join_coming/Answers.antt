@@ -1,6 +1,6 @@
 use Rattle.std.proofs.Common.{◌≡◌, ◌<◌, ◌-◌, ◌∙◌, ◌∷◌, [], length, take, get_or, ap, arith}
 use Rattle.std.proofs.lemmas.List.{take_all}
-use Rattle.solv_pool.specs.Catalog.{catalog_of}
+use Rattle.solv_pool.specs.Prelude.{catalog_of}
 use Rattle.solv_trans.specs.Inner.Joining.{is_marked, to_coming, owned_by}
 use Rattle.solv_trans.proofs.Joined.{joins_more, joins_same}
 use Rattle.solv_trans.proofs.Asking.{package_is}

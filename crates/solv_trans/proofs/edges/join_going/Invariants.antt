@@ -1,5 +1,5 @@
 use Rattle.std.proofs.Common.{take, ℕ, Bool}
-use Rattle.solv_pool.specs.Catalog.{catalog_of}
+use Rattle.solv_pool.specs.Prelude.{catalog_of}
 use Rattle.solv_trans.specs.Inner.Joining.{AreTurns, Joins, from_going}
 use Rattle.solv_trans.proofs.edges.join_going.Given as goal
 

@@ -1,5 +1,5 @@
 use Rattle.std.proofs.Common.{◌≡◌, ◌∙◌, ◌∷◌, [], sym, rules}
-use Rattle.solv_pool.specs.Catalog.{catalog_of}
+use Rattle.solv_pool.specs.Prelude.{catalog_of}
 use Rattle.solv_graph.specs.Inner.Orders.{turn_at}
 use Rattle.solv_graph.specs.declared.orders.Turn.TheVariants.{Never}
 use Rattle.solv_trans.specs.Inner.Joining.{is_marked, owned_by}

@@ -1,6 +1,6 @@
 use Rattle.std.proofs.Common.{◌≡◌, ◌+◌, ◌++◌, ◌∷◌, [], ◌∙◌, ap, length, arith, add-one}
 use Rattle.std.specs.List.{range_with_len}
-use Rattle.solv_pool.specs.Catalog.{catalog_of}
+use Rattle.solv_pool.specs.Prelude.{catalog_of}
 use Rattle.solv_trans.specs.Inner.Joining.{is_marked, owned_by}
 use Rattle.solv_trans.proofs.Joined.{joins_none, joins_more}
 use Rattle.solv_trans.proofs.edges.join_packages.Goals as goal

@@ -1,5 +1,5 @@
 use Rattle.std.specs.List.{range_with_len}
-use Rattle.solv_pool.specs.Catalog.{catalog_of}
+use Rattle.solv_pool.specs.Prelude.{catalog_of}
 use Rattle.solv_trans.specs.Inner.Joining.{is_marked, Joins, owned_by}
 use Rattle.solv_trans.proofs.edges.join_packages.Given as goal
 

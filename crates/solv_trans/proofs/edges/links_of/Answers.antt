@@ -1,6 +1,6 @@
 use Rattle.std.proofs.Common.{◌∙◌, ◌||◌, ap, true}
 use Rattle.std.specs.List.{list_any}
-use Rattle.solv_pool.specs.Catalog.{catalog_of, packages}
+use Rattle.solv_pool.specs.Prelude.{catalog_of, packages}
 use Rattle.solv_trans.specs.Inner.Joining.{is_marked, linked, pre_linked, owned_by}
 use Rattle.solv_trans.proofs.Owned.{all_owned}
 use Rattle.solv_trans.proofs.edges.links_of.Goals as goal

@@ -1,8 +1,7 @@
 use Rattle.std.proofs.Common.{◌≡◌, true, None, length, drop}
 use Rattle.std.specs.Prelude.{IfSome}
 use Rattle.std.specs.List.{list_all}
-use Rattle.solv_pool.specs.Catalog.{catalog_of}
-use Rattle.solv_pool.specs.TaskBelonging.{is_pack}
+use Rattle.solv_pool.specs.Prelude.{catalog_of, is_pack}
 use Rattle.solv_trans.specs.Moving.{comes}
 use Rattle.solv_trans.specs.Inner.Order.{greatest_from}
 use Rattle.solv_trans.specs.Inner.Joining.{is_marked}

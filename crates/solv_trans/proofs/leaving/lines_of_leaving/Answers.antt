@@ -1,4 +1,4 @@
-use Rattle.solv_pool.specs.Catalog.{catalog_of}
+use Rattle.solv_pool.specs.Prelude.{catalog_of}
 use Rattle.solv_trans.specs.Changes.{line_of}
 use Rattle.solv_trans.specs.Inner.Changes.{leaves}
 use Rattle.solv_trans.specs.Inner.Joining.{is_marked}

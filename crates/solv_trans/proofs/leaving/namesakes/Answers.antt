@@ -1,5 +1,5 @@
 use Rattle.std.proofs.Common.{◌∙◌}
-use Rattle.solv_pool.specs.Catalog.{catalog_of, same_name}
+use Rattle.solv_pool.specs.Prelude.{catalog_of, same_name}
 use Rattle.solv_trans.proofs.Listing.{named_are}
 use Rattle.solv_trans.proofs.leaving.namesakes.Goals as goal
 use Rattle.solv_pool.proofs.Placed.{packs_of}

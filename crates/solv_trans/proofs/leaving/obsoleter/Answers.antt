@@ -1,6 +1,6 @@
 use Rattle.std.proofs.Common.{◌∙◌, ap, length}
 use Rattle.std.specs.Prelude.{find}
-use Rattle.solv_pool.specs.Catalog.{catalog_of, packages}
+use Rattle.solv_pool.specs.Prelude.{catalog_of, packages}
 use Rattle.solv_pool.specs.Providing.{obsoletes}
 use Rattle.solv_trans.specs.Inner.Joining.{is_marked}
 use Rattle.solv_trans.proofs.Listing.{below_of, find_filter}

@@ -1,5 +1,5 @@
 use Rattle.std.proofs.Common.{◌<◌, length, arith}
-use Rattle.solv_pool.specs.Catalog.{catalog_of}
+use Rattle.solv_pool.specs.Prelude.{catalog_of}
 use Rattle.solv_trans.specs.Inner.Joining.{is_marked}
 use Rattle.solv_trans.proofs.Marked.{marked_more}
 use Rattle.solv_trans.proofs.moving.mark_names.Goals as goal

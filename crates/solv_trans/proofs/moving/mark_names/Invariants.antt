@@ -1,6 +1,6 @@
 use Rattle.std.proofs.Common.{◌≡◌, ◌||◌, ◌-◌, ◌+◌, ℕ, length}
 use Rattle.std.specs.List.{list_any, range_with_len}
-use Rattle.solv_pool.specs.Catalog.{catalog_of, packages}
+use Rattle.solv_pool.specs.Prelude.{catalog_of, packages}
 use Rattle.solv_trans.specs.Inner.Joining.{is_marked, comes_named}
 use Rattle.solv_trans.proofs.moving.mark_names.Given as goal
 

@@ -1,5 +1,5 @@
 use Rattle.std.proofs.Common.{arith}
-use Rattle.solv_pool.specs.Catalog.{catalog_of}
+use Rattle.solv_pool.specs.Prelude.{catalog_of}
 use Rattle.solv_trans.specs.Inner.Joining.{is_marked, turn_of}
 use Rattle.solv_trans.proofs.Marked.{turns_more}
 use Rattle.solv_trans.proofs.moving.turns_by_names.Goals as goal

@@ -1,6 +1,6 @@
 use Rattle.std.proofs.Common.{◌≡◌, ◌<◌, ℕ, length}
 use Rattle.solv_graph.specs.Inner.Orders.{turn_at}
-use Rattle.solv_pool.specs.Catalog.{catalog_of}
+use Rattle.solv_pool.specs.Prelude.{catalog_of}
 use Rattle.solv_trans.specs.Inner.Joining.{is_marked, turn_of}
 use Rattle.solv_trans.proofs.moving.turns_by_names.Given as goal
 

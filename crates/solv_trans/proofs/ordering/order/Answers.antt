@@ -1,6 +1,5 @@
 use Rattle.std.proofs.Common.{◌≡◌, ◌<◌, ◌+◌, ℕ, Bool, length, subst, arith}
-use Rattle.solv_pool.specs.Catalog.{catalog_of}
-use Rattle.solv_pool.specs.Words.{is_among}
+use Rattle.solv_pool.specs.Prelude.{catalog_of, is_among}
 use Rattle.solv_trans.specs.Moving.{goes, is_part}
 use Rattle.solv_trans.specs.Edges.{edge, pre_edge}
 use Rattle.solv_trans.specs.Orders.{IsOrdered}

@@ -1,5 +1,5 @@
 use Rattle.std.proofs.Common.{◌≡◌, ◌++◌, ◌&&◌, not}
-use Rattle.solv_pool.specs.Catalog.{catalog_of}
+use Rattle.solv_pool.specs.Prelude.{catalog_of}
 use Rattle.solv_trans.specs.declared.kinds.Change.TheVariants.{Install}
 use Rattle.solv_trans.specs.Moving.{comes}
 use Rattle.solv_trans.specs.Inner.Joining.{is_marked}

@@ -1,7 +1,6 @@
 use Rattle.std.proofs.Common.{◌≡◌, ◌<◌, ◌+◌, ◌∙◌, ◌&&◌, ◌++◌, not, map, ℕ, length, ap, arith}
 use Rattle.std.specs.Prelude.{filter}
-use Rattle.solv_pool.specs.Catalog.{catalog_of, packages}
-use Rattle.solv_pool.specs.Words.{is_among}
+use Rattle.solv_pool.specs.Prelude.{catalog_of, packages, is_among}
 use Rattle.solv_trans.specs.declared.kinds.Change.TheVariants.{Install}
 use Rattle.solv_trans.specs.Changes.{lines_of_leaving}
 use Rattle.solv_trans.specs.Moving.{comes}

@@ -1,7 +1,6 @@
 use Rattle.std.proofs.Common.{◌∙◌, ap, length}
 use Rattle.std.specs.List.{list_all}
-use Rattle.solv_pool.specs.Catalog.{catalog_of}
-use Rattle.solv_pool.specs.TaskBelonging.{is_pack}
+use Rattle.solv_pool.specs.Prelude.{catalog_of, is_pack}
 use Rattle.solv_pool.specs.Updates.{is_feature}
 use Rattle.solv_updates.proofs.replacing.dup.Goals as goal
 use Rattle.solv_pool.proofs.Placed.{packs_of}

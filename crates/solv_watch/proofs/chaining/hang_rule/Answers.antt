@@ -1,9 +1,8 @@
 use Rattle.std.proofs.Common.{◌≡◌, ◌<◌, ◌≤◌, ◌+◌, ◌*◌, true, arith, length}
 use Rattle.std.specs.Prelude.{ℤ, pos}
 use Rattle.std.proofs.lemmas.List.{get_or_read}
-use Rattle.solv_pool.specs.Propagation.{is_fact}
+use Rattle.solv_pool.specs.Prelude.{is_fact, names_package, is_over}
 use Rattle.solv_pack.specs.Inner.Literals.{place_of}
-use Rattle.solv_pool.specs.Range.{names_package, is_over}
 use Rattle.solv_derive.proofs.Facts.{all_member}
 use Rattle.solv_watch.specs.Inner.Spares.{AreTwoOf}
 use Rattle.solv_watch.proofs.Pairs.{of_others}

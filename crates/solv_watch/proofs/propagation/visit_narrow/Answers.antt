@@ -2,9 +2,8 @@ use Rattle.std.proofs.Common.{◌≡◌, ℕ, true, List, [], ◌∷◌, Some, s
 use Rattle.std.specs.Prelude.{ℤ, pos}
 use Rattle.std.proofs.lemmas.List.{get_or_read}
 use Rattle.std.proofs.lemmas.Bool.{eqb-false}
-use Rattle.solv_pool.specs.Propagation.{is_fact}
+use Rattle.solv_pool.specs.Prelude.{is_fact, names_package, is_over}
 use Rattle.solv_derive.specs.Forced.{forced}
-use Rattle.solv_pool.specs.Range.{names_package, is_over}
 use Rattle.solv_derive.proofs.Facts.{all_member, known_here}
 use Rattle.solv_derive.proofs.Tables.{names_neg}
 use Rattle.solv_trail.specs.Inner.Held.{Held}

@@ -1,7 +1,6 @@
 use Rattle.std.proofs.Common.{◌≡◌, true, false, sym, ap, ◌∙◌}
-use Rattle.solv_pool.specs.Propagation.{is_fact, is_refuted}
+use Rattle.solv_pool.specs.Prelude.{is_fact, is_refuted, names_package, is_over}
 use Rattle.std.proofs.lemmas.Bool.{false≢true}
-use Rattle.solv_pool.specs.Range.{names_package, is_over}
 use Rattle.solv_derive.proofs.Facts.{all_member}
 use Rattle.solv_derive.proofs.Tables.{names_neg}
 use Rattle.solv_watch.specs.Inner.Watching.{stays, falsified, forces, moves}

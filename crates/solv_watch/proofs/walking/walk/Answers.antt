@@ -1,9 +1,8 @@
 use Rattle.std.proofs.Common.{◌≡◌, ℕ, Bool, true, List, [], ◌∷◌, ◌++◌, Some, refl, sym, ap, ◌∙◌, subst, arith, length, set, get_or, ◌<◌, ◌+◌, ◌*◌, ◌/◌}
 use Rattle.std.specs.Prelude.{ℤ, pos, neg_ℤ, slice_get}
 use Rattle.std.proofs.lemmas.List.{get_or_read, length_push}
-use Rattle.solv_pool.specs.Propagation.{is_fact}
+use Rattle.solv_pool.specs.Prelude.{is_fact, names_package, is_over}
 use Rattle.solv_pack.specs.Inner.Literals.{place_of}
-use Rattle.solv_pool.specs.Range.{names_package, is_over}
 use Rattle.solv_derive.proofs.Facts.{neg-neg, all_member, forces_from, forced_member, open_parts}
 use Rattle.solv_derive.proofs.Tables.{names_neg, place_within}
 use Rattle.solv_derive.proofs.Hints.{forced_over, clause_over}

@@ -1,7 +1,7 @@
 use Rattle.std.proofs.Common.{◌≡◌, ◌++◌, map, drop, length, true}
 use Rattle.std.specs.List.{list_all}
 use Rattle.solv_io.specs.Lines.{ended_lines}
-use Rattle.solv_pool.specs.TaskBelonging.{line_fits}
+use Rattle.solv_pool.specs.Prelude.{line_fits}
 use Rattle.solv_writing.specs.Inner.ByIds.{namespace_text}
 use Rattle.solv_writing.proofs.namespace_lines.put_namespaces.Given as goal
 

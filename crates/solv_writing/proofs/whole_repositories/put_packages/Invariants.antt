@@ -1,6 +1,6 @@
 use Rattle.std.proofs.Common.{◌≡◌, ◌++◌, map, drop}
 use Rattle.solv_io.specs.Lines.{ended_lines}
-use Rattle.solv_pool.specs.Written.{written_package}
+use Rattle.solv_pool.specs.Prelude.{written_package}
 use Rattle.solv_writing.specs.ScriptTexts.{inlined}
 use Rattle.solv_writing.specs.Inner.ScriptParts.{packages_of}
 use Rattle.solv_writing.specs.Inner.TagParts.{tag_lines}

@@ -1,6 +1,6 @@
 use Rattle.std.proofs.Common.{◌≡◌, ◌<◌, ◌∙◌, map, length, subst}
 use Rattle.std.proofs.lemmas.Option.{slice_get_read}
-use Rattle.solv_pool.specs.Written.{written_package}
+use Rattle.solv_pool.specs.Prelude.{written_package}
 use Rattle.solv_writing.proofs.RepositoryLines.{repository_turn}
 use Rattle.solv_writing.proofs.whole_repositories.put_repositories.Goals as goal
 

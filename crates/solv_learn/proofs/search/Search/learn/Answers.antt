@@ -1,6 +1,6 @@
 use Rattle.std.proofs.Common.{◌≡◌, ◌≤◌, ◌-◌, ◌∙◌, ◌++◌, ◌∷◌, ℕ, List, false, length, take, map, get_or, refl, sym, ap, subst}
 use Rattle.std.specs.Prelude.{ℤ, neg_ℤ, reverse}
-use Rattle.solv_pool.specs.Propagation.{is_fact}
+use Rattle.solv_pool.specs.Prelude.{is_fact}
 use Rattle.solv_derive.specs.Forced.{is_falsified}
 use Rattle.solv_learn.specs.Inner.Learning.{IsLearnt}
 use Rattle.solv_learn.specs.Inner.Marks.{has}

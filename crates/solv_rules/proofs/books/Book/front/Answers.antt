@@ -1,5 +1,5 @@
 use Rattle.std.proofs.Common.{◌≤◌, ◌∙◌, ℕ, length, ap, sym, subst}
-use Rattle.solv_pool.specs.RuleMeaning.{rule_with}
+use Rattle.solv_pool.specs.Prelude.{rule_with}
 use Rattle.solv_rules.specs.Books.{Written, read_rules}
 use Rattle.solv_rules.proofs.Fronts.{cut_front}
 use Rattle.std.proofs.lemmas.List.{length-map}

@@ -1,6 +1,5 @@
 use Rattle.std.proofs.Common.{◌≡◌, map}
-use Rattle.solv_pool.specs.Catalog.{catalog_of}
-use Rattle.solv_pool.specs.RuleMeaning.{rule_with}
+use Rattle.solv_pool.specs.Prelude.{catalog_of, rule_with}
 use Rattle.solv_rules.specs.Books.{spans_from}
 use Rattle.solv_rules.proofs.Bookkeeping.{spans_each}
 use Rattle.solv_rules.proofs.books.Book.make_on.Goals as goal

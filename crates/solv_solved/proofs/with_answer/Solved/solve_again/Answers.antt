@@ -1,6 +1,5 @@
 use Rattle.std.proofs.Common.{◌≡◌, length, true, false, Some, rules}
-use Rattle.solv_pool.specs.Catalog.{catalog_of}
-use Rattle.solv_pool.specs.HardRules.{hard_rules}
+use Rattle.solv_pool.specs.Prelude.{catalog_of, hard_rules}
 use Rattle.solv_pool.specs.declared.tasks.Task.{Task}
 use Rattle.solv_rules.specs.Books.{first_fault}
 use Rattle.solv_solved.specs.Anew.{again_answered, again_misused, again_passes}

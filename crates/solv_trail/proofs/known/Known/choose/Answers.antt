@@ -2,8 +2,7 @@ use Rattle.std.proofs.Common.{◌≤◌, ◌<◌, ◌≡◌, ◌∙◌, ◌++◌
 use Rattle.std.proofs.lemmas.Bool.{cond-true}
 use Rattle.std.proofs.lemmas.List.{length_push}
 use Rattle.std.specs.Prelude.{nat_abs, is_ok}
-use Rattle.solv_pool.specs.Propagation.{is_fact, is_refuted}
-use Rattle.solv_pool.specs.Range.{names_package}
+use Rattle.solv_pool.specs.Prelude.{is_fact, is_refuted, names_package}
 use Rattle.solv_trail.proofs.Holding.{held_room, held_choose}
 use Rattle.solv_trail.proofs.Ins.{one_more_in, fits_in}
 use Rattle.solv_trail.proofs.known.Known.choose.Goals as goal

@@ -1,7 +1,7 @@
 use Rattle.std.proofs.Common.{◌≡◌, ◌<◌, ◌∙◌, ap, get_or, length, true}
 use Rattle.std.specs.Prelude.{pos, nat_lt}
 use Rattle.std.proofs.lemmas.List.{get_or_read}
-use Rattle.solv_pool.specs.Propagation.{is_fact}
+use Rattle.solv_pool.specs.Prelude.{is_fact}
 use Rattle.solv_trail.proofs.Holding.{placed_before}
 use Rattle.solv_trail.proofs.Walk.{known_at}
 use Rattle.solv_trail.proofs.known.Known.lit_at.Goals as goal

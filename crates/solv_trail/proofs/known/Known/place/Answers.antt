@@ -1,7 +1,7 @@
 use Rattle.std.proofs.Common.{◌≡◌, ◌<◌, ◌∙◌, true, ap, vec_len, length, get_or, arith}
 use Rattle.std.specs.Prelude.{nat_abs}
 use Rattle.std.proofs.lemmas.List.{get_or_read}
-use Rattle.solv_pool.specs.Propagation.{is_fact}
+use Rattle.solv_pool.specs.Prelude.{is_fact}
 use Rattle.solv_trail.proofs.Holding.{placed, package_placed, placed_before}
 use Rattle.solv_trail.proofs.known.Known.place.Goals as goal
 use Rattle.solv_trail.proofs.known.Known.place.Goals.{After-package}

@@ -1,8 +1,7 @@
 use Rattle.std.proofs.Common.{◌≤◌, ◌<◌, ◌≡◌, ◌∙◌, ◌++◌, ◌∷◌, [], arith, vec_len, length, refl, ℕ, true, false, rules}
 use Rattle.std.proofs.lemmas.Bool.{cond-true}
 use Rattle.std.specs.Prelude.{nat_abs, is_ok}
-use Rattle.solv_pool.specs.Propagation.{is_fact, is_refuted}
-use Rattle.solv_pool.specs.Range.{names_package}
+use Rattle.solv_pool.specs.Prelude.{is_fact, is_refuted, names_package}
 use Rattle.solv_trail.proofs.Holding.{held_room, held_push}
 use Rattle.solv_trail.proofs.Ins.{one_more_in, fits_in}
 use Rattle.solv_trail.proofs.known.Known.push.Goals as goal
