@@ -9,7 +9,7 @@ use Rattle.std.proofs.lemmas.List.{length-map}
 use Rattle.solv_pool.specs.declared.tasks.Task.{Task}
 use Rattle.solv_pool.specs.Selections.{selects, selection}
 use Rattle.solv_pool.specs.JobKinds.{job_selects, job_selects_installed}
-use Rattle.solv_pool.specs.Inner.JobKinds.{is_update, is_distupgrade, is_verify, is_multiversion, is_allow_uninstall, is_erase}
+use Rattle.solv_pool.specs.JobKinds.{acts}
 use Rattle.solv_pool.specs.Inner.JobMarks.{marks_by}
 use Rattle.solv_pool.specs.declared.jobs.Job.{Job}
 use Rattle.solv_pool.specs.declared.jobs.Action.{Action}
@@ -191,12 +191,12 @@ favours_are catalog jobs = ap (λ t. with_favours catalog jobs t) (fresh (pos 0)
 -- the marks of all jobs have an entry for each package and for the system
 pub marks_each : (task : Task) → HasMarks (length task.universe.packages) (marks_by (catalog_of task) task.jobs)
 marks_each task = record {
-  update = each false (job_selects_installed (catalog_of task) task.jobs is_update);
-  dup = each false (job_selects_installed (catalog_of task) task.jobs is_distupgrade);
-  verify = each false (job_selects_installed (catalog_of task) task.jobs is_verify);
-  multiversion = each false (job_selects (catalog_of task) task.jobs is_multiversion);
-  allow_uninstall = each false (job_selects_installed (catalog_of task) task.jobs is_allow_uninstall);
-  erased = each false (job_selects (catalog_of task) task.jobs is_erase);
+  update = each false (job_selects_installed (catalog_of task) task.jobs (acts Update));
+  dup = each false (job_selects_installed (catalog_of task) task.jobs (acts Distupgrade));
+  verify = each false (job_selects_installed (catalog_of task) task.jobs (acts Verify));
+  multiversion = each false (job_selects (catalog_of task) task.jobs (acts Multiversion));
+  allow_uninstall = each false (job_selects_installed (catalog_of task) task.jobs (acts AllowUninstall));
+  erased = each false (job_selects (catalog_of task) task.jobs (acts Erase));
   favour = each (pos 0) (favour_of (catalog_of task) task.jobs);
 }
   where

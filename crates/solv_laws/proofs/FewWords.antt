@@ -12,7 +12,8 @@ use Rattle.solv_pool.specs.Prelude.{is_among, when, Catalog, catalog_of, package
 use Rattle.solv_pool.specs.Best.{best}
 use Rattle.solv_pool.specs.Counting.{requirement_counts, rich_conflict_counts}
 use Rattle.solv_pool.specs.Installable.{is_installable}
-use Rattle.solv_pool.specs.Inner.JobKinds.{is_install, is_update}
+use Rattle.solv_pool.specs.JobKinds.{acts}
+use Rattle.solv_pool.specs.declared.jobs.Action.TheVariants.{Update}
 use Rattle.solv_pool.specs.Selections.{selects, selection}
 use Rattle.solv_pool.specs.Updates.{is_feature, is_legal, flags_allow, may_stay, feature_set, itself_and, dup_set}
 use Rattle.solv_pool.specs.Inner.HardRules.{not_installable_rules, requirement_rules, package_wise_conflicts, conflicting, rich_conflict_rules, obsoleted, later_namesakes, same_name_rules, rules_of_package, inferior_packages, has_update_rule, numbered_jobs, selected_installed, best_update_rule}
@@ -255,8 +256,8 @@ module _ (task : Task) (modest : IsModest task) where
 
   best_jobs_size : total (size catalog) (best_job_rules catalog task.jobs) ≤ 258464
   best_jobs_size =
-      let each = total_flat (size catalog) (λ job. when (is_install job.1.action && job.1.forcebest) (best_job_rule job.0 (best catalog (selection catalog job.1.choice)))) 6304 (numbered_jobs task.jobs) (λ job there.
-      let some = total_when (size catalog) (is_install job.1.action && job.1.forcebest) (best_job_rule job.0 (best catalog (selection catalog job.1.choice))) in
+      let each = total_flat (size catalog) (λ job. when (acts Install job.1.action && job.1.forcebest) (best_job_rule job.0 (best catalog (selection catalog job.1.choice)))) 6304 (numbered_jobs task.jobs) (λ job there.
+      let some = total_when (size catalog) (acts Install job.1.action && job.1.forcebest) (best_job_rule job.0 (best catalog (selection catalog job.1.choice))) in
       let own = best_job_size job.0 (best catalog (selection catalog job.1.choice)) (fewer_packages _) in
       omega (arith, some, own)) in
       let all = jobs_count in
@@ -274,8 +275,8 @@ module _ (task : Task) (modest : IsModest task) where
 
   best_updates_size : total (size catalog) (best_update_rules catalog task.flags marks task.jobs) ≤ 1808100
   best_updates_size =
-      let each = total_flat (size catalog) (λ job. when (is_update job.1.action && job.1.forcebest) (map (best_update_rule catalog task.flags marks job.0) (selected_installed catalog job.1.choice))) 44100 (numbered_jobs task.jobs) (λ job there.
-      let some = total_when (size catalog) (is_update job.1.action && job.1.forcebest) (map (best_update_rule catalog task.flags marks job.0) (selected_installed catalog job.1.choice)) in
+      let each = total_flat (size catalog) (λ job. when (acts Update job.1.action && job.1.forcebest) (map (best_update_rule catalog task.flags marks job.0) (selected_installed catalog job.1.choice))) 44100 (numbered_jobs task.jobs) (λ job there.
+      let some = total_when (size catalog) (acts Update job.1.action && job.1.forcebest) (map (best_update_rule catalog task.flags marks job.0) (selected_installed catalog job.1.choice)) in
       let own = best_updates_of job in
       omega (arith, some, own)) in
       let all = jobs_count in

@@ -9,7 +9,8 @@ use Rattle.solv_pool.specs.Counting.{requirement_counts}
 use Rattle.solv_pool.specs.Inner.HardRules.{not_installable_rules, requirement_rules, package_wise_conflicts, conflicting, rich_conflict_rules, obsoleted, same_name_rules, later_namesakes, rules_of_package, inferior_packages, has_update_rule, numbered_jobs, selected_installed, best_update_rule}
 use Rattle.solv_pool.specs.Installable.{is_installable}
 use Rattle.solv_pool.specs.JobKinds.{job_selects}
-use Rattle.solv_pool.specs.Inner.JobKinds.{is_install, is_update}
+use Rattle.solv_pool.specs.JobKinds.{acts}
+use Rattle.solv_pool.specs.declared.jobs.Action.TheVariants.{Install, Update}
 use Rattle.solv_pool.specs.Selections.{selects, selection}
 use Rattle.solv_pool.specs.declared.jobs.Action.{Action}
 use Rattle.solv_pool.specs.declared.jobs.Action.TheVariants as action
@@ -30,8 +31,8 @@ of_numbered i (x ∷ jobs) j job (inr k) = inr (of_numbered (i + 1) jobs j job k
 module _ (catalog : Catalog) (flags : Flags) (jobs : List Job) (marks : Marks) where
   -- an install job selects each package that a rule of an install job names
   abbrev pub Selects : HardRule → Type 0
-  Selects (install j xs) = (q : ℕ) → Has xs q → job_selects catalog jobs is_install q ≡ true
-  Selects (best_job j xs) = (q : ℕ) → Has xs q → job_selects catalog jobs is_install q ≡ true
+  Selects (install j xs) = (q : ℕ) → Has xs q → job_selects catalog jobs (acts Install) q ≡ true
+  Selects (best_job j xs) = (q : ℕ) → Has xs q → job_selects catalog jobs (acts Install) q ≡ true
   Selects _ = Unit {0}
 
   of_not_installable : (p : ℕ) (x : HardRule) → Has (not_installable_rules catalog p) x → Selects x
@@ -78,13 +79,13 @@ module _ (catalog : Catalog) (flags : Flags) (jobs : List Job) (marks : Marks) w
       either false p xs = tt
 
   -- a job that an action is of selects what its rule names
-  selected_by : (j : ℕ) (job : Job) → Has (numbered_jobs jobs) (j, job) → is_install job.action ≡ true → (q : ℕ) → selects catalog job.choice q ≡ true → job_selects catalog jobs is_install q ≡ true
+  selected_by : (j : ℕ) (job : Job) → Has (numbered_jobs jobs) (j, job) → acts Install job.action ≡ true → (q : ℕ) → selects catalog job.choice q ≡ true → job_selects catalog jobs (acts Install) q ≡ true
   selected_by j job there is q chosen =
-      any_at (λ (z : Job). is_install z.action && selects catalog z.choice q) jobs job (of_numbered 0 jobs j job there) (and_from (is_install job.action) (selects catalog job.choice q) is chosen)
+      any_at (λ (z : Job). acts Install z.action && selects catalog z.choice q) jobs job (of_numbered 0 jobs j job there) (and_from (acts Install job.action) (selects catalog job.choice q) is chosen)
 
   of_kind : (j : ℕ) (job : Job) → Has (numbered_jobs jobs) (j, job) → (a : Action) → job.action ≡ a → (x : HardRule) → Has (rule_of_job j a (selection catalog job.choice)) x → Selects x
   of_kind j job there action.Install is x (inl e) =
-      let all : Selects (install j (selection catalog job.choice)) = λ q k. selected_by j job there (ap is_install is) q (of_filtered (selects catalog job.choice) (packages catalog) q k).1 in
+      let all : Selects (install j (selection catalog job.choice)) = λ q k. selected_by j job there (ap (acts Install) is) q (of_filtered (selects catalog job.choice) (packages catalog) q k).1 in
       subst Selects e all
   of_kind j job there action.Install is x (inr n) = absurd n
   of_kind j job there action.Erase is x (inl e) = subst Selects e tt
@@ -98,25 +99,25 @@ module _ (catalog : Catalog) (flags : Flags) (jobs : List Job) (marks : Marks) w
       let f = of_flat (λ job. rule_of_job job.0 job.1.action (selection catalog job.1.choice)) (numbered_jobs jobs) x h in
       of_kind (f.0).0 (f.0).1 f.1.0 (f.0).1.action refl x f.1.1
 
-  of_best : (j : ℕ) (ys : List ℕ) → ((q : ℕ) → Has ys q → job_selects catalog jobs is_install q ≡ true) → (x : HardRule) → Has (best_job_rule j ys) x → Selects x
+  of_best : (j : ℕ) (ys : List ℕ) → ((q : ℕ) → Has ys q → job_selects catalog jobs (acts Install) q ≡ true) → (x : HardRule) → Has (best_job_rule j ys) x → Selects x
   of_best j [] all x h = absurd h
   of_best j (y ∷ ys) all x (inl e) = subst Selects e all
   of_best j (y ∷ ys) all x (inr n) = absurd n
 
   of_best_job : (x : HardRule) → Has (best_job_rules catalog jobs) x → Selects x
   of_best_job x h =
-      let f = of_flat (λ job. when (is_install job.1.action && job.1.forcebest) (best_job_rule job.0 (best catalog (selection catalog job.1.choice)))) (numbered_jobs jobs) x h in
+      let f = of_flat (λ job. when (acts Install job.1.action && job.1.forcebest) (best_job_rule job.0 (best catalog (selection catalog job.1.choice)))) (numbered_jobs jobs) x h in
       let own : Job = (f.0).1 in
-      let w = of_when (is_install own.action && own.forcebest) (best_job_rule (f.0).0 (best catalog (selection catalog own.choice))) x f.1.1 in
-      let is : is_install own.action ≡ true = (and_parts (is_install own.action) own.forcebest w.1).0 in
+      let w = of_when (acts Install own.action && own.forcebest) (best_job_rule (f.0).0 (best catalog (selection catalog own.choice))) x f.1.1 in
+      let is : acts Install own.action ≡ true = (and_parts (acts Install own.action) own.forcebest w.1).0 in
       of_best (f.0).0 (best catalog (selection catalog own.choice)) (λ q k.
       let among : is_among (selection catalog own.choice) q ≡ true = (and_parts (is_among (selection catalog own.choice) q) _ (of_filtered _ (packages catalog) q k).1).0 in
       selected_by (f.0).0 own f.1.0 is q (and_parts (is_among (packages catalog) q) (selects catalog own.choice q) (sym (among_filter (selects catalog own.choice) (packages catalog) q) ∙ among)).1) x w.0
 
   of_best_update : (x : HardRule) → Has (best_update_rules catalog flags marks jobs) x → Selects x
   of_best_update x h =
-      let f = of_flat (λ job. when (is_update job.1.action && job.1.forcebest) (map (best_update_rule catalog flags marks job.0) (selected_installed catalog job.1.choice))) (numbered_jobs jobs) x h in
-      let w = of_when (is_update (f.0).1.action && (f.0).1.forcebest) (map (best_update_rule catalog flags marks (f.0).0) (selected_installed catalog (f.0).1.choice)) x f.1.1 in
+      let f = of_flat (λ job. when (acts Update job.1.action && job.1.forcebest) (map (best_update_rule catalog flags marks job.0) (selected_installed catalog job.1.choice))) (numbered_jobs jobs) x h in
+      let w = of_when (acts Update (f.0).1.action && (f.0).1.forcebest) (map (best_update_rule catalog flags marks (f.0).0) (selected_installed catalog (f.0).1.choice)) x f.1.1 in
       subst Selects (of_mapped (best_update_rule catalog flags marks (f.0).0) (selected_installed catalog (f.0).1.choice) x w.0).1.1 tt
 
   -- of all rules

@@ -1,5 +1,5 @@
 -- Why the packages of a set come.
-use Rattle.std.proofs.Common.{◌≡◌, ℕ, Bool, true, false, not, ◌&&◌, ◌||◌, cond, List, [], ◌∷◌, ◌++◌, length, Option, Some, None, refl, ap, ◌∙◌, eq-eqb}
+use Rattle.std.proofs.Common.{◌≡◌, ℕ, Bool, true, false, not, ◌&&◌, cond, List, [], ◌∷◌, ◌++◌, length, Option, Some, None, refl, ap, ◌∙◌}
 use Rattle.std.specs.Prelude.{codes, filter, filter_map, find, int_lt, nat_abs, pos, option_map, ◌==◌, if◌then◌else◌}
 use Rattle.std.specs.BTreeMap.{BTreeMap}
 use Rattle.std.specs.List.{cons_option, list_all}
@@ -7,6 +7,7 @@ use Rattle.std.proofs.lemmas.Bool.{and_parts}
 use Rattle.solv_core.specs.declared.verdicts.Event.{Event}
 use Rattle.solv_core.specs.declared.verdicts.Event.TheVariants.{Known, Took}
 use Rattle.solv_pool.specs.Prelude.{Catalog, is_installed, is_pack, is_among, passes}
+use Rattle.solv_pool.proofs.Lists.{among_itself}
 use Rattle.solv_trans.specs.Moving.{comes}
 use Rattle.solv_lines.specs.Inner.LineNames.{reason_lines}
 use Rattle.solv_lines.specs.Inner.Reasons.{HasReasons, brought, event_word, line_by, reason_word, told_line, word_in}
@@ -68,20 +69,5 @@ module _ (catalog : Catalog) (reasons : BTreeMap ℕ Reason) (events : List Even
   lines_same set [] h = refl
   lines_same set (p ∷ ps) h = let parts = and_parts (set p) (list_all set ps) h in one_line set p ps parts.0 (lines_same set ps parts.1)
 
--- each of a list is among the list
-one_more : (y : ℕ) (ys xs : List ℕ) → list_all (is_among ys) xs ≡ true → list_all (is_among (y ∷ ys)) xs ≡ true
-one_more y ys [] h = refl
-one_more y ys (x ∷ xs) h =
-    let cut = and_parts (is_among ys x) (list_all (is_among ys) xs) h in
-    rw (one_more y ys xs cut.1) (front (y == x) (is_among ys x) cut.0)
-  where
-    front : (a b : Bool) → b ≡ true → ((a || b) && true) ≡ true
-    front true b e = refl
-    front false b e = rw e refl
-
-themselves : (xs : List ℕ) → list_all (is_among xs) xs ≡ true
-themselves [] = refl
-themselves (x ∷ xs) = rw (eq-eqb x x refl, one_more x xs xs (themselves xs)) refl
-
 pub reasons_same : (catalog : Catalog) (reasons : BTreeMap ℕ Reason) (events : List Event) (set : List ℕ) → HasReasons reasons events → filter_map (line_by catalog (word_in reasons)) set ≡ reason_lines catalog set events
-reasons_same catalog reasons events set has = lines_same catalog reasons events has (is_among set) set (themselves set)
+reasons_same catalog reasons events set has = lines_same catalog reasons events has (is_among set) set (among_itself set)

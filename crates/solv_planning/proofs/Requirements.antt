@@ -9,7 +9,8 @@ use Rattle.solv_pool.specs.Best.{best}
 use Rattle.solv_pool.specs.Inner.Best.{is_beaten}
 use Rattle.solv_pool.specs.Installable.{is_installable}
 use Rattle.solv_pool.specs.Selections.{selects, selection}
-use Rattle.solv_pool.specs.Inner.JobKinds.{is_install, is_update}
+use Rattle.solv_pool.specs.JobKinds.{acts}
+use Rattle.solv_pool.specs.declared.jobs.Action.TheVariants.{Install, Update}
 use Rattle.solv_pool.specs.Inner.HardRules.{not_installable_rules, requirement_rules, conflicting, package_wise_conflicts, rich_conflict_rules, obsoleted, later_namesakes, same_name_rules, rules_of_package, inferior_packages, has_update_rule, numbered_jobs, selected_installed, best_update_rule}
 use Rattle.solv_pool.specs.declared.packages.Package.{Package}
 use Rattle.solv_pool.specs.declared.packages.Need.{Need}
@@ -109,10 +110,10 @@ module _ (r : Request) where
       let five : List HardRule = job_rules r.catalog r.jobs in
       let six : List HardRule = best_job_rules r.catalog r.jobs in
       let seven : List HardRule = best_update_rules r.catalog r.flags r.marks r.jobs in
-      none_behind (one ++ two ++ three ++ four ++ five ++ six) seven (no_wants_each (λ job. when (is_update job.1.action && job.1.forcebest) (map (best_update_rule r.catalog r.flags r.marks job.0) (selected_installed r.catalog job.1.choice)))
-      (λ job. no_wants_when (is_update job.1.action && job.1.forcebest) (map (best_update_rule r.catalog r.flags r.marks job.0) (selected_installed r.catalog job.1.choice)) (no_wants (best_update_rule r.catalog r.flags r.marks job.0) (λ p. refl) (selected_installed r.catalog job.1.choice))) (numbered_jobs r.jobs))
-      ∙ none_behind (one ++ two ++ three ++ four ++ five) six (no_wants_each (λ job. when (is_install job.1.action && job.1.forcebest) (best_job_rule job.0 (best r.catalog (selection r.catalog job.1.choice))))
-      (λ job. no_wants_when (is_install job.1.action && job.1.forcebest) (best_job_rule job.0 (best r.catalog (selection r.catalog job.1.choice))) (best_wants job.0 (best r.catalog (selection r.catalog job.1.choice)))) (numbered_jobs r.jobs))
+      none_behind (one ++ two ++ three ++ four ++ five ++ six) seven (no_wants_each (λ job. when (acts Update job.1.action && job.1.forcebest) (map (best_update_rule r.catalog r.flags r.marks job.0) (selected_installed r.catalog job.1.choice)))
+      (λ job. no_wants_when (acts Update job.1.action && job.1.forcebest) (map (best_update_rule r.catalog r.flags r.marks job.0) (selected_installed r.catalog job.1.choice)) (no_wants (best_update_rule r.catalog r.flags r.marks job.0) (λ p. refl) (selected_installed r.catalog job.1.choice))) (numbered_jobs r.jobs))
+      ∙ none_behind (one ++ two ++ three ++ four ++ five) six (no_wants_each (λ job. when (acts Install job.1.action && job.1.forcebest) (best_job_rule job.0 (best r.catalog (selection r.catalog job.1.choice))))
+      (λ job. no_wants_when (acts Install job.1.action && job.1.forcebest) (best_job_rule job.0 (best r.catalog (selection r.catalog job.1.choice))) (best_wants job.0 (best r.catalog (selection r.catalog job.1.choice)))) (numbered_jobs r.jobs))
       ∙ none_behind (one ++ two ++ three ++ four) five (no_wants_each (λ job. rule_of_job job.0 job.1.action (selection r.catalog job.1.choice)) (λ job. job_wants job.0 job.1.action (selection r.catalog job.1.choice)) (numbered_jobs r.jobs))
       ∙ none_behind (one ++ two ++ three) four (no_wants (λ p. feature p (feature_candidates r.catalog r.flags r.marks p)) (λ p. refl) (kept_packages r.catalog r.flags r.marks))
       ∙ none_behind (one ++ two) three (no_wants (successor_rule r.catalog r.flags r.marks) successor_wants (filter (has_update_rule r.catalog r.jobs r.marks) (kept_packages r.catalog r.flags r.marks)))

@@ -6,7 +6,8 @@ use Rattle.solv_pool.specs.Words.{when}
 use Rattle.solv_pool.specs.Catalog.{Catalog, packages, members, package_at, is_installed}
 use Rattle.solv_pool.specs.Installable.{is_installable}
 use Rattle.solv_pool.specs.Selections.{selects, selection}
-use Rattle.solv_pool.specs.Inner.JobKinds.{is_install, is_update}
+use Rattle.solv_pool.specs.JobKinds.{acts}
+use Rattle.solv_pool.specs.declared.jobs.Action.TheVariants.{Install, Update}
 use Rattle.solv_pool.specs.JobMarks.{marked}
 use Rattle.solv_pool.specs.Updates.{is_feature, itself_and, feature_set, may_stay, dup_set}
 use Rattle.solv_pool.specs.RuleMeaning.{HardRule, not_installable, req, con, rich_con, obs, same, infarch, update, dup, feature, install, erase, lock, best_job, best_update, Shape, some_of, none_of, as_installed, shape_of}
@@ -213,14 +214,14 @@ module _ (catalog : Catalog) (flags : Flags) (marks : Marks) (jobs : List Job) w
 
   from_best_job : (x : HardRule) → Has (best_job_rules catalog jobs) x → IsFrom x
   from_best_job x h =
-      let f = of_flat (λ job. when (is_install job.1.action && job.1.forcebest) (best_job_rule job.0 (best catalog (selection catalog job.1.choice)))) (numbered_jobs jobs) x h in
+      let f = of_flat (λ job. when (acts Install job.1.action && job.1.forcebest) (best_job_rule job.0 (best catalog (selection catalog job.1.choice)))) (numbered_jobs jobs) x h in
       let own : List ℕ = best catalog (selection catalog (f.0).1.choice) in
-      of_best (f.0).0 (f.0).1 f.1.0 own refl x (of_when (is_install (f.0).1.action && (f.0).1.forcebest) (best_job_rule (f.0).0 own) x f.1.1).0
+      of_best (f.0).0 (f.0).1 f.1.0 own refl x (of_when (acts Install (f.0).1.action && (f.0).1.forcebest) (best_job_rule (f.0).0 own) x f.1.1).0
 
   from_best_update : (x : HardRule) → Has (best_update_rules catalog flags marks jobs) x → IsFrom x
   from_best_update x h =
-      let f = of_flat (λ job. when (is_update job.1.action && job.1.forcebest) (map (best_update_rule catalog flags marks job.0) (selected_installed catalog job.1.choice))) (numbered_jobs jobs) x h in
-      let w = of_when (is_update (f.0).1.action && (f.0).1.forcebest) (map (best_update_rule catalog flags marks (f.0).0) (selected_installed catalog (f.0).1.choice)) x f.1.1 in
+      let f = of_flat (λ job. when (acts Update job.1.action && job.1.forcebest) (map (best_update_rule catalog flags marks job.0) (selected_installed catalog job.1.choice))) (numbered_jobs jobs) x h in
+      let w = of_when (acts Update (f.0).1.action && (f.0).1.forcebest) (map (best_update_rule catalog flags marks (f.0).0) (selected_installed catalog (f.0).1.choice)) x f.1.1 in
       let m = of_mapped (best_update_rule catalog flags marks (f.0).0) (selected_installed catalog (f.0).1.choice) x w.0 in
       let s = of_filtered (λ p. is_installed catalog p && selects catalog (f.0).1.choice p) (packages catalog) m.0 m.1.0 in
       let own : IsOfUpdate catalog flags marks m.0 (best catalog (update_candidates catalog flags marks m.0)) = record { there = s.0; installed = (and_parts (is_installed catalog m.0) (selects catalog (f.0).1.choice m.0) s.1).0; is = refl } in

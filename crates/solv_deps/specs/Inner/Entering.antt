@@ -26,10 +26,6 @@ is_relation nodes node = list_any (eq-value.it node) nodes
 abbrev pub relation_id : List DepNode → DepNode → ℕ
 relation_id nodes node = position_or_len (eq-value.it node) nodes
 
--- the relations with this one among them
-abbrev pub with_relation : List DepNode → DepNode → List DepNode
-with_relation nodes node = if is_relation nodes node then nodes else nodes ++ node ∷ []
-
 -- a text at a place, read and then entered: every cause of the text comes before the limits of the pool
 abbrev pub text_read : Place → List ℕ → Held → Result Entered DepFault
 text_read place text held = and_then (dependency place text) (λ d. dependency_entered d held)

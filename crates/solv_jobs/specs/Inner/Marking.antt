@@ -4,7 +4,9 @@ use Rattle.std.specs.Option.{option_map_or}
 use Rattle.solv_pool.specs.Prelude.{Catalog, is_installed}
 use Rattle.solv_pool.specs.Selections.{selection}
 use Rattle.solv_pool.specs.JobKinds.{job_selects, job_selects_installed}
-use Rattle.solv_pool.specs.Inner.JobKinds.{is_install, is_user_installed, is_cleaning, is_update, is_distupgrade, is_verify, is_multiversion, is_allow_uninstall, is_erase}
+use Rattle.solv_pool.specs.Inner.JobKinds.{is_cleaning}
+use Rattle.solv_pool.specs.JobKinds.{acts}
+use Rattle.solv_pool.specs.declared.jobs.Action.TheVariants.{Install, UserInstalled, Update, Distupgrade, Verify, Multiversion, AllowUninstall, Erase}
 use Rattle.solv_pool.specs.Cleaning.{is_given_up}
 use Rattle.solv_pool.specs.declared.jobs.Job.{Job}
 use Rattle.solv_pool.specs.declared.jobs.Action.{Action}
@@ -19,14 +21,14 @@ with_values x (p ∷ ps) table = with_values x ps (slice_set table p x)
 
 -- the jobs that make a mark
 abbrev pub makes : Mark → Job → Bool
-makes mark.Update job = is_update job.action
-makes mark.Dup job = is_distupgrade job.action
-makes mark.Verify job = is_verify job.action
-makes mark.Multiversion job = is_multiversion job.action
-makes mark.AllowUninstall job = is_allow_uninstall job.action
-makes mark.Erased job = is_erase job.action
-makes mark.Asked job = is_install job.action
-makes mark.UserInstalled job = is_user_installed job.action
+makes mark.Update job = acts Update job.action
+makes mark.Dup job = acts Distupgrade job.action
+makes mark.Verify job = acts Verify job.action
+makes mark.Multiversion job = acts Multiversion job.action
+makes mark.AllowUninstall job = acts AllowUninstall job.action
+makes mark.Erased job = acts Erase job.action
+makes mark.Asked job = acts Install job.action
+makes mark.UserInstalled job = acts UserInstalled job.action
 makes mark.GivenUp job = is_cleaning job
 
 -- the mark is one of installed packages alone
@@ -57,14 +59,14 @@ module _ (catalog : Catalog) (m : Mark) where
 module _ (catalog : Catalog) (jobs : List Job) where
   -- who bears a mark
   abbrev pub bears : Mark → ℕ → Bool
-  bears mark.Update = job_selects_installed catalog jobs is_update
-  bears mark.Dup = job_selects_installed catalog jobs is_distupgrade
-  bears mark.Verify = job_selects_installed catalog jobs is_verify
-  bears mark.Multiversion = job_selects catalog jobs is_multiversion
-  bears mark.AllowUninstall = job_selects_installed catalog jobs is_allow_uninstall
-  bears mark.Erased = job_selects catalog jobs is_erase
-  bears mark.Asked = job_selects catalog jobs is_install
-  bears mark.UserInstalled = job_selects_installed catalog jobs is_user_installed
+  bears mark.Update = job_selects_installed catalog jobs (acts Update)
+  bears mark.Dup = job_selects_installed catalog jobs (acts Distupgrade)
+  bears mark.Verify = job_selects_installed catalog jobs (acts Verify)
+  bears mark.Multiversion = job_selects catalog jobs (acts Multiversion)
+  bears mark.AllowUninstall = job_selects_installed catalog jobs (acts AllowUninstall)
+  bears mark.Erased = job_selects catalog jobs (acts Erase)
+  bears mark.Asked = job_selects catalog jobs (acts Install)
+  bears mark.UserInstalled = job_selects_installed catalog jobs (acts UserInstalled)
   bears mark.GivenUp = is_given_up catalog jobs
 
 -- the favour that a job gives

@@ -3,7 +3,8 @@ use Rattle.std.specs.Prelude.{◌≡◌, ℕ, ◌<◌, ◌+◌, Bool, true, not,
 use Rattle.std.specs.List.{list_all, list_any}
 use Rattle.solv_pool.specs.Prelude.{package_wise, is_among, passes, Catalog, package_at, dependency, is_installed, feature_candidates}
 use Rattle.solv_pool.specs.JobKinds.{job_selects}
-use Rattle.solv_pool.specs.Inner.JobKinds.{is_install}
+use Rattle.solv_pool.specs.JobKinds.{acts}
+use Rattle.solv_pool.specs.declared.jobs.Action.TheVariants.{Install}
 use Rattle.solv_pool.specs.declared.jobs.Job.{Job}
 use Rattle.solv_pool.specs.declared.job_marks.Marks.{Marks}
 use Rattle.solv_pool.specs.declared.packages.Package.{Package}
@@ -43,5 +44,5 @@ module _ (catalog : Catalog) where
     -- the table of all packages that may be asked for by themselves
     pub record AreStarts (jobs : List Job) (table : List Bool) : Type 0 where
       pub size : length table ≡ length catalog.universe.packages + 1
-      pub selected : (q : ℕ) → 0 < q → q < length table → job_selects catalog jobs is_install q ≡ true → is_marked table q ≡ true
+      pub selected : (q : ℕ) → 0 < q → q < length table → job_selects catalog jobs (acts Install) q ≡ true → is_marked table q ≡ true
       pub starts : (p q : ℕ) → 0 < p → p < length table → q < length table → starts_by p q ≡ true → is_marked table q ≡ true
