@@ -50,13 +50,6 @@ told f g m same most p = elim (cases_lt p m) [
   | inr le ↦ told_past f 0 m p le ∙ sym (false_from_ne_true (g p) (λ h. let b = most p h in omega (arith, le, b)))
 ]
 
--- the same of the members of a list
-pub filter_members : (f g : ℕ → Bool) (xs : List ℕ) → ((q : ℕ) → is_among xs q ≡ true → f q ≡ g q) → filter f xs ≡ filter g xs
-filter_members f g [] h = refl
-filter_members f g (x ∷ xs) h =
-    ap (λ b. if b then x ∷ filter f xs else filter f xs) (h x (here x xs))
-    ∙ ap (λ t. if g x then x ∷ t else t) (filter_members f g xs (λ q i. h q (or_right (eqb x q) (is_among xs q) i)))
-
 pub map_members : (f g : ℕ → Bool) (xs : List ℕ) → ((q : ℕ) → is_among xs q ≡ true → f q ≡ g q) → map f xs ≡ map g xs
 map_members f g [] h = refl
 map_members f g (x ∷ xs) h =
