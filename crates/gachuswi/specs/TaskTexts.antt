@@ -40,8 +40,8 @@ abbrev pub package_found : Option Held → List ℕ → Option ℕ
 package_found None text = None
 package_found (Some kept) text = held.package_found kept text
 
--- A call that gives a text: its first bytes are copied, as many as there is room for, and its length is told; or its numbers name nothing; or memory ran
--- out. The last two write nothing.
+-- A call that gives a text: its first bytes are copied, as many as there is room for, and its length is reported; or its numbers name nothing; or memory
+-- ran out. The last two write nothing.
 pub data IsTextCall (text : Option (List ℕ)) (old new : List ℕ) (before told : ℕ) (code : ℤ) : Type 0 where
   given : (bytes : List ℕ) → text ≡ Some bytes → new ≡ filled bytes old → told ≡ length bytes → code ≡ pos 0 → IsTextCall text old new before told code
   names_none : text ≡ None → new ≡ old → told ≡ before → code ≡ misused → IsTextCall text old new before told code

@@ -12,8 +12,9 @@ use Rattle.gachuswi.specs.Tasks.{number_of}
 abbrev pub refused : ℤ
 refused = pos 2
 
--- A call of `gachuswi_task_solve_again` with these flags and jobs: the task has an answer to them, whose number is told; or its clauses pass a limit; or a job is none
--- that there is, or no answer was kept; or memory ran out; or the budget is too great, or nothing was kept. In all but the first nothing of what was kept has changed.
+-- A call of `gachuswi_task_solve_again` with these flags and jobs: the task has an answer to them, whose number is reported; or its clauses pass a limit; or a job is
+-- none that there is, or no answer was kept; or memory ran out; or the budget is too great, or nothing was kept. In all but the first nothing of what was kept has
+-- changed.
 pub data IsAgainCall (budget : ℕ) (flags : FlagRow) (rows : List JobRow) : Option Held → Option Held → ℤ → Type 0 where
   answered : (old new : Held) → budget ≤ 1000000 → IsHeldAgain budget flags rows old new Answered → IsAgainCall budget flags rows (Some old) (Some new) (number_of (Some new))
   passes : (old new : Held) → budget ≤ 1000000 → IsHeldAgain budget flags rows old new Passes → IsAgainCall budget flags rows (Some old) (Some new) refused

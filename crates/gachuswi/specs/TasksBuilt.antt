@@ -25,8 +25,8 @@ pub data IsOpenCall (old : Option Held) : Option Held → ℤ → Type 0 where
   opened : (new : Held) → IsEmptyHeld new → IsOpenCall old (Some new) done
   ran_out : IsOpenCall old old no_memory
 
--- A call of this name that builds: the task has what was given; or a text is refused, which is told; or a number names nothing, or there is no task; or memory ran out, and
--- what was kept stays, with its answer; or nothing was kept.
+-- A call of this name that builds: the task has what was given; or a text is refused, which is reported; or a number names nothing, or there is no task; or memory ran out,
+-- and what was kept stays, with its answer; or nothing was kept.
 pub data IsBuildCall (name : List ℕ) (call : State → Result State DraftFault) : Option Held → Option Held → ℤ → Type 0 where
   has_built : (old new : Held) → IsBuilt name call old new Done → IsBuildCall name call (Some old) (Some new) done
   refuses : (old new : Held) → IsBuilt name call old new Refuses → IsBuildCall name call (Some old) (Some new) refused
@@ -34,8 +34,8 @@ pub data IsBuildCall (name : List ℕ) (call : State → Result State DraftFault
   ran_out : (old new : Held) → IsStill old new → IsBuildCall name call (Some old) (Some new) no_memory
   nothing : IsBuildCall name call None None misused
 
--- A call of `gachuswi_task_answer`: the task has an answer, whose number is told; or its clauses pass a limit, which is told, and it had no answer before; or there is no task; or
--- memory ran out, and what was kept stays, with its answer; or the budget is too great, or nothing was kept.
+-- A call of `gachuswi_task_answer`: the task has an answer, whose number is reported; or its clauses pass a limit, which is reported, and it had no answer before; or there is no
+-- task; or memory ran out, and what was kept stays, with its answer; or the budget is too great, or nothing was kept.
 pub data IsAnswerCall (budget : ℕ) : Option Held → Option Held → ℤ → Type 0 where
   answered : (old new : Held) → budget ≤ 1000000 → IsTaskSolved budget old new ended.Answered → IsAnswerCall budget (Some old) (Some new) (number_of (Some new))
   passes : (old new : Held) → budget ≤ 1000000 → IsTaskSolved budget old new ended.Passes → IsAnswerCall budget (Some old) (Some new) refused

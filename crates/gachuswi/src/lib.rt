@@ -2,11 +2,11 @@
 //!
 //! - `gachuswi_run`: solves the script in one of the files that a caller lends, and keeps what it comes to as an answer.
 //! - `gachuswi_status`, `gachuswi_out`, `gachuswi_err`: the status of an answer, and copies of its two texts.
-//! - `gachuswi_close`: lets an answer go.
+//! - `gachuswi_close`: frees an answer.
 //! - `gachuswi_task_solve`: solves such a script, and keeps its answer as a task that is read by numbers. `gachuswi_task_status`, `_err`,
 //!   `_changes`, `_order`, `_set`, `_cycles`, `_problems`, `gachuswi_cycle_packages`, `gachuswi_problem_rules`, `_solutions`, `gachuswi_solution_rules` and `_set` read it,
 //!   and `gachuswi_task_rules`, `gachuswi_rule_get` and `_packages` its rules; `gachuswi_task_packages`, `gachuswi_package_find`, `gachuswi_package_text`, `gachuswi_dep_text`,
-//!   `gachuswi_rule_text`, `gachuswi_solution_text` and `gachuswi_problem_proof` give texts; `gachuswi_task_close` lets it go.
+//!   `gachuswi_rule_text`, `gachuswi_solution_text` and `gachuswi_problem_proof` give texts; `gachuswi_task_close` frees the task.
 //! - `gachuswi_task_solve_again`: answers a task that is kept with other jobs, given by numbers.
 //! - `gachuswi_task_open`: opens a task that calls build: `gachuswi_repo_add`, `gachuswi_packages_add`, `gachuswi_system_set`, `gachuswi_package_disable`,
 //!   `gachuswi_namespace_add`, `gachuswi_flags_set`, `gachuswi_job_add` and `_by`, `gachuswi_jobs_clear`. `gachuswi_task_answer` answers it; `gachuswi_task_repos` counts its repositories.

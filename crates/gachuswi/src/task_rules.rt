@@ -50,8 +50,8 @@ pub extern "C" fn gachuswi_rule_get(
     }
 }
 
-/// Copies the first packages that the hard rule of this number carries, as many as there is room for, and tells how many it has. Where the number
-/// names none, nothing is written, and the call was made wrongly.
+/// Copies the first packages that the hard rule of this number carries, as many as there is room for, and reports how many it has. Where the
+/// number names none, nothing is written, and the call was made wrongly.
 #[unsafe(no_mangle)]
 pub extern "C" fn gachuswi_rule_packages(
     alloc: Global,

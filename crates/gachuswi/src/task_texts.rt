@@ -10,7 +10,7 @@ use solv_list::Bytes;
 use solv_solved::fill;
 use std::alloc::{AllocError, Global};
 
-/// Copies the first bytes of a text, as many as there is room for, and tells its length, where there is one.
+/// Copies the first bytes of a text, as many as there is room for, and reports its length, where there is one.
 fn hand_out(made: Result<Option<Bytes>, AllocError>, into: &mut [u8], count: &mut usize) -> i32
     ensures text { (named : Option (List ℕ)) → IfOk made (λ text. text ≡ named) → IsTextCall named into.old into.new count.old count.new result }
     ensures made { result ≡ pos 0 → IsOk made }
@@ -26,7 +26,7 @@ fn hand_out(made: Result<Option<Bytes>, AllocError>, into: &mut [u8], count: &mu
     }
 }
 
-/// Copies the first bytes of the text of a package, as many as there is room for, and tells its length. Where no package has the
+/// Copies the first bytes of the text of a package, as many as there is room for, and reports its length. Where no package has the
 /// number, nothing is written, and the call was made wrongly.
 #[unsafe(no_mangle)]
 pub extern "C" fn gachuswi_package_text(

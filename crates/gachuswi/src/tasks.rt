@@ -180,7 +180,7 @@ pub(crate) fn code(named: bool) -> i32
     if named { DONE } else { MISUSED }
 }
 
-/// Copies the first packages of the cycle of this number, as many as there is room for, and tells how many it has. Where the number names
+/// Copies the first packages of the cycle of this number, as many as there is room for, and reports how many it has. Where the number names
 /// none, nothing is written, and the call was made wrongly.
 #[unsafe(no_mangle)]
 pub extern "C" fn gachuswi_cycle_packages(
@@ -204,7 +204,7 @@ pub extern "C" fn gachuswi_cycle_packages(
     code(named)
 }
 
-/// Copies the first rules of the problem of this number, as many as there is room for, and tells how many it has. Where the number names
+/// Copies the first rules of the problem of this number, as many as there is room for, and reports how many it has. Where the number names
 /// none, nothing is written, and the call was made wrongly.
 #[unsafe(no_mangle)]
 pub extern "C" fn gachuswi_problem_rules(

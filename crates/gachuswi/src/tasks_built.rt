@@ -64,7 +64,7 @@ pub extern "C" fn gachuswi_task_repos(alloc: Global, task: &mut TaskHandle) -> u
     count
 }
 
-/// Adds a repository behind the others, and tells its number, from 0 on, where that is done.
+/// Adds a repository after the others, and reports its number, from 0 on, where that is done.
 #[unsafe(no_mangle)]
 pub extern "C" fn gachuswi_repo_add(
     alloc: Global,
@@ -89,7 +89,7 @@ pub extern "C" fn gachuswi_repo_add(
     code
 }
 
-/// Adds the packages of a repository behind the others, and tells how many there were and how many there are, where that is done.
+/// Adds the packages of a repository after the others, and reports how many there were and how many there are, where that is done.
 #[unsafe(no_mangle)]
 pub extern "C" fn gachuswi_packages_add(
     alloc: Global,
@@ -170,7 +170,7 @@ pub extern "C" fn gachuswi_flags_set(alloc: Global, task: &mut TaskHandle, flags
     build(alloc, task, &Call::Flags(flags))
 }
 
-/// Adds a job behind the others.
+/// Adds a job after the others.
 #[unsafe(no_mangle)]
 pub extern "C" fn gachuswi_job_add(alloc: Global, task: &mut TaskHandle, job: &JobRow) -> i32
     ensures { IsBuildCall (codes "job") (job_given job.now) task.old.value task.new.value result }
@@ -178,7 +178,7 @@ pub extern "C" fn gachuswi_job_add(alloc: Global, task: &mut TaskHandle, job: &J
     build(alloc, task, &Call::Job(job))
 }
 
-/// The same of a job that selects what has the name of a dependency, or what provides it. What the job itself selects is not looked at.
+/// The same of a job that selects what has the name of a dependency, or what provides it. What the job itself selects does not count.
 #[unsafe(no_mangle)]
 pub extern "C" fn gachuswi_job_add_by(
     alloc: Global,

@@ -72,7 +72,7 @@ reads_first made rules first front has list sets =
     subst (λ (l : List Rule). Reads (record { list = l; sets = first.sets }) made) (sym list)
     (subst (λ (s : List (List ℕ)). Reads (record { list = take front.rules rules.list; sets = s }) made) (sym sets) has.reads)
 
--- and with others behind them
+-- and with others after them
 pub front_again : (made : List HardRule) (rules first all : Rules) (front : Front) → HasFront made rules front → first.list ≡ take front.rules rules.list → first.sets ≡ take front.sets rules.sets
     → take (length first.list) all.list ≡ first.list → take (length first.sets) all.sets ≡ first.sets → HasFront made all front
 front_again made rules first all front has list sets stays kept =
@@ -85,7 +85,7 @@ front_read made rules front has =
     ∙ ap (λ (s : List (List ℕ)). map (rule_with s) (take front.rules rules.list)) (sym (both_parts front.sets rules.sets))
     ∙ has.reads (drop front.sets rules.sets)
 
--- the other hard rules stand behind the first ones
+-- the other hard rules come after the first ones
 behind_first : (a b c d e f : List HardRule) → a ++ b ++ c ++ d ++ e ++ f ≡ a ++ (b ++ (c ++ (d ++ (e ++ f))))
 behind_first a b c d e f =
     append_assoc (a ++ b ++ c ++ d) e f ∙ append_assoc (a ++ b ++ c) d (e ++ f) ∙ append_assoc (a ++ b) c (d ++ (e ++ f)) ∙ append_assoc a b (c ++ (d ++ (e ++ f)))

@@ -1,4 +1,4 @@
--- What stands behind the last part of an EVR text lengthens that part.
+-- What comes after the last part of an EVR text lengthens that part.
 use Rattle.std.proofs.Common.{ℕ, ◌≡◌, ◌+◌, ◌-◌, ◌≤◌, List, [], ◌∷◌, ◌++◌, Bool, true, false, length, take, drop, get_or, refl, ap, sym, ◌∙◌, arith, eq-eqb, cond}
 use Rattle.std.proofs.Math.Bool.{or-false}
 use Rattle.std.proofs.lemmas.List.{reverse-append, length-reverse, length-append, take-append-le, drop-append-le}
@@ -13,7 +13,7 @@ use Rattle.solv_base.specs.Tokens.{begins}
 use Rattle.solv_base.proofs.VersionsBetween.{begins-append}
 use Rattle.solv_base.specs.Evr.{Parts, parts, parts_after, is_dash, is_colon}
 
--- the last part, with a text behind it
+-- the last part, with a text after it
 abbrev pub lengthened : Parts → List ℕ → Parts
 lengthened p y = record { epoch = p.epoch; version = if is_some p.release then p.version else p.version ++ y; release = option_map (λ r. r ++ y) p.release }
 

@@ -63,7 +63,7 @@ abbrev release_length : Option (List ℕ) → ℕ
 release_length None = 0
 release_length (Some r) = length (tokens r)
 
--- enough `~` behind a `^` keep the parts below higher ones, unless one side alone lacks a release
+-- enough `~` after a `^` keep the parts below higher ones, unless one side alone lacks a release
 still_lower_parts : (n : ℕ) (epoch version : List ℕ) (release : Option (List ℕ)) (epoch' version' : List ℕ) (release' : Option (List ℕ))
     → length (tokens version') < n → release_length release' < n
     → (let a = made epoch version release in let b = made epoch' version' release' in is_eq (stem_cmp a b) && (lacks_release a b || lacks_release b a)) ≡ false

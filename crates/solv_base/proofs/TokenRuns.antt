@@ -1,4 +1,4 @@
--- A run of digits or of letters is one token, and the tokens behind it are those of a text of its own.
+-- A run of digits or of letters is one token, and the tokens after it are those of a text of its own.
 use Rattle.std.proofs.Common.{ℕ, ◌≡◌, ◌+◌, ◌<◌, List, [], ◌∷◌, Bool, true, false, take, drop, get_or, refl, ap, ◌∙◌, arith, cond, eqb}
 use Rattle.std.proofs.lemmas.Bool.Decides.{nat_tests}
 use Rattle.std.specs.Char.{is_ascii_digit, is_ascii_alphabetic, digit_value}

@@ -1,4 +1,4 @@
--- Between two versions stands the lower one with `^` and enough `~` behind it.
+-- Between two versions stands the lower one with `^` and enough `~` after it.
 use Rattle.std.proofs.Common.{ℕ, zero, suc, ◌≡◌, ◌<◌, List, [], ◌∷◌, ◌++◌, Bool, true, false, length, refl, ap, ◌∙◌, arith}
 use Rattle.std.proofs.lemmas.Cmp.{tied_itself, nat_cmp_total, lists_total}
 use Rattle.std.specs.Char.{is_ascii_digit, is_ascii_alphabetic}
@@ -103,14 +103,14 @@ shorter_above : (ss us : List Token) → tokens_cmp (ss ++ tilde ∷ us) ss ≡ 
 shorter_above [] us = refl
 shorter_above (s ∷ ss) us = rw (token_same s) (shorter_above ss us)
 
--- a version with `^` behind it is higher
+-- a version with `^` after it is higher
 pub higher_version : (v ys : List ℕ) → version_cmp (v ++ 94 ∷ ys) v ≡ Greater
 higher_version v ys = rw (tokens-append 94 caret caret_sign v ys) (longer_above (tokens v) (tokens ys))
 
--- and with `~` behind it lower
+-- and with `~` after it lower
 pub lower_version : (v ys : List ℕ) → version_cmp (v ++ 126 ∷ ys) v ≡ Less
 lower_version v ys = rw (tokens-append 126 tilde tilde_sign v ys) (shorter_above (tokens v) (tokens ys))
 
--- a version with `^` and enough `~` behind it stays below a higher one
+-- a version with `^` and enough `~` after it stays below a higher one
 pub still_lower_version : (v u : List ℕ) (n : ℕ) → length (tokens u) < n → version_cmp v u ≡ Less → version_cmp (v ++ 94 ∷ tildes n) u ≡ Less
 still_lower_version v u n h low = rw (tokens-append 94 caret caret_sign v (tildes n), tokens-tildes n) (still_below (tokens v) (tokens u) n h low)

@@ -58,7 +58,7 @@ impl Pool {
         }
     }
 
-    /// What the pool takes its memory from. What is read beside it takes its own there.
+    /// The allocator of the pool. What is read beside the pool allocates from it too.
     pub fn alloc(&self) -> Global {
         self.alloc
     }
@@ -82,14 +82,14 @@ impl Pool {
         self.intern_any(text)
     }
 
-    /// Whether one more name may be held.
+    /// Whether there is room for one more name.
     fn has_room_for_name(&self) -> bool
         ensures { result ≡ true → length self.now.names < most }
     {
         self.texts.held().len() < MOST
     }
 
-    /// The id of any text. It is looked for before memory is taken for it.
+    /// The id of any text. It is looked up before memory is allocated for it.
     fn intern_any(&mut self, text: &[u8]) -> Result<NameId, PoolFault>
         ensures id { IfOk result (λ id. id ≡ name_id self.old.names text.now) }
         ensures held { OnOk result (self.new ≡ record self.old { names = with_name self.old.names text.now }) }
@@ -118,7 +118,7 @@ impl Pool {
         Ok(NameId(place as u32))
     }
 
-    /// The id of a short text, where there is room for one more. It is looked for once, whether it is new or not.
+    /// The id of a short text, where there is room for one more. It is looked up once, whether it is new or not.
     fn intern_short(&mut self, text: &[u8]) -> Result<NameId, AllocError>
         requires short { length text.now ≤ 30 }
         requires room { length self.old.names < most }
@@ -134,8 +134,8 @@ impl Pool {
         Ok(NameId(place as u32))
     }
 
-    /// Lets the tables go that find texts and relations. What is held stays, and each new text and relation is looked for in
-    /// turn from then on: for a pool to which little or nothing more comes.
+    /// Frees the tables that find texts and relations. What is held stays, and each new text and relation is searched for
+    /// linearly from then on: for a pool to which little or nothing more comes.
     pub fn close(&mut self)
         ensures { self.new ≡ self.old }
     {
@@ -181,14 +181,14 @@ impl Pool {
         self.relation_any(node)
     }
 
-    /// Whether one more relation may be held.
+    /// Whether there is room for one more relation.
     fn has_room_for_relation(&self) -> bool
         ensures { result ≡ true → length self.now.nodes < most }
     {
         self.relations.held().len() < MOST
     }
 
-    /// The id of a relation, where there is room for one more. It is looked for once, whether it is new or not.
+    /// The id of a relation, where there is room for one more. It is looked up once, whether it is new or not.
     fn relation_once(&mut self, node: DepNode) -> Result<DepId, AllocError>
         requires uses { IsTrue (uses_below (length self.old.names) (length self.old.nodes) node) }
         requires room { length self.old.nodes < most }
@@ -206,7 +206,7 @@ impl Pool {
         Ok(DepId(place as u32))
     }
 
-    /// The id of any relation. It is looked for before memory is taken for it.
+    /// The id of any relation. It is looked up before memory is allocated for it.
     fn relation_any(&mut self, node: DepNode) -> Result<DepId, PoolFault>
         requires { IsTrue (uses_below (length self.old.names) (length self.old.nodes) node) }
         ensures within { IfOk result (λ id. id < length self.new.nodes) }

@@ -1,4 +1,4 @@
-//! What a pool holds, each once and by its place: a table finds it while more is to come, and can be let go after that.
+//! What a pool holds, each once and by its place: a table finds it while more is to come, and can be freed after that.
 ghost use Rattle.std.specs.Prelude.{◌≡◌, ◌∷◌, [], ◌++◌, ◌<◌, ◌+◌, ◌≤◌, length, is_some, IfSome, IfOk, OnOk, OnErr, false, vec_len, vec_capacity};
 ghost use Rattle.solv_base.specs.Pool.{is_name, name_id, with_name};
 ghost use Rattle.solv_base.specs.Inner.Keys.{kept_texts, kept_relations};
@@ -18,7 +18,7 @@ pub(crate) struct Texts {
     kept: KeptTexts,
 }
 
-/// How texts are kept: with a table that finds each, or without it, and then each is looked for in turn.
+/// How texts are kept: with a table that finds each, or without it, and then each is searched for linearly.
 #[derive(Drop)]
 enum KeptTexts {
     Open(IndexSet<Text>),
@@ -40,7 +40,7 @@ pub(crate) struct Relations {
     kept: KeptRelations,
 }
 
-/// How relations are kept: with a table that finds each, or without it, and then each is looked for in turn.
+/// How relations are kept: with a table that finds each, or without it, and then each is searched for linearly.
 #[derive(Drop)]
 enum KeptRelations {
     Open(IndexSet<DepNode>),
@@ -135,7 +135,7 @@ fn enter_relation_in(relations: &mut IndexSet<DepNode>, node: DepNode) -> Result
     }
 }
 
-/// The place of a text among others, which is put behind them where it is new.
+/// The place of a text among others, which is appended where it is new.
 fn enter_among(texts: &mut Vec<Text>, text: Text) -> Result<usize, AllocError>
     ensures place { IfOk result (λ i. i ≡ name_id texts.old.items text) }
     ensures within { IfOk result (λ i. i < length texts.new.items) }
@@ -151,7 +151,7 @@ fn enter_among(texts: &mut Vec<Text>, text: Text) -> Result<usize, AllocError>
     Ok(place)
 }
 
-/// The place of a relation among others, which is put behind them where it is new.
+/// The place of a relation among others, which is appended where it is new.
 fn enter_relation_among(relations: &mut Vec<DepNode>, node: DepNode) -> Result<usize, AllocError>
     ensures place { IfOk result (λ i. i ≡ node_id relations.old.items node) }
     ensures within { IfOk result (λ i. i < length relations.new.items) }
@@ -252,7 +252,7 @@ impl Texts {
         }
     }
 
-    /// Lets the table go, where there is one and memory for the list alone. The texts stay.
+    /// Frees the table, where there is one and memory for the list alone. The texts stay.
     pub(crate) fn close(&mut self, alloc: Global)
         ensures { self.new ≡ self.old }
     {
@@ -310,7 +310,7 @@ impl Relations {
         }
     }
 
-    /// Lets the table go, where there is one and memory for the list alone. The relations stay.
+    /// Frees the table, where there is one and memory for the list alone. The relations stay.
     pub(crate) fn close(&mut self, alloc: Global)
         ensures { self.new ≡ self.old }
     {

@@ -92,7 +92,7 @@ impl Eq for Text {
     ghost laws = { nat_list_eq_equiv };
 }
 
-/// A hasher gets all bytes by one call: texts are hashed one at a time, so nothing has to tell where one ends.
+/// A hasher gets all bytes by one call: texts are hashed one at a time, so nothing has to mark where one ends.
 impl Hash for Text {
     ghost hash_input = { λ text. text ∷ [] };
 

@@ -13,7 +13,7 @@ pub(crate) fn literals(alloc: Global, numbers: &[i32]) -> Result<Vec<Lit>, Alloc
     Ok(lits)
 }
 
-/// Puts a rule of these literals. One that is refused is told as running out of memory, which fails a test.
+/// Puts a rule of these literals. One that is refused counts as running out of memory, which fails a test.
 pub(crate) fn push(memory: &mut RuleMem, lits: &[Lit]) -> Result<RuleNo, AllocError> {
     if lits.len() > 1_000_000 {
         return Err(AllocError);

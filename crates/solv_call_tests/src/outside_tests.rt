@@ -65,7 +65,7 @@ fn ended(alloc: Global, script: &[u8]) -> Result<(Status, Bytes), AllocError> {
     Ok((report.status, err.taken))
 }
 
-/// The number of the line that is told of a script.
+/// The number of the line that is reported of a script.
 fn line_told(told: &[u8]) -> Option<u64> {
     let (_, file) = cut_at(b':', told);
     let (_, line) = cut_at(b':', file?);

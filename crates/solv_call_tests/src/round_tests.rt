@@ -27,7 +27,7 @@ nextjob
 result order <inline>
 ";
 
-/// What tells these rounds from each other: how many jobs there are, whether the flag is set, whether the order is asked for, and how many lines are
+/// What distinguishes these rounds: how many jobs there are, whether the flag is set, whether the order is asked for, and how many lines are
 /// expected.
 #[derive(Clone, Copy, PartialEq, Eq)]
 struct Face {
@@ -171,7 +171,7 @@ nextjob
 job verify name P
 ";
 
-/// Scripts, each with whether a round behind the first one passes a limit.
+/// Scripts, each with whether a round after the first one passes a limit.
 const LIMITS: &[(&str, bool)] = &[(THREE_ROUNDS, false), (RICH_LAST, true)];
 
 /// Whether a fault is that a dependency has too many clauses.

@@ -35,7 +35,7 @@ pub(crate) const NONE: Fails = Fails {
     err: &[],
 };
 
-/// Puts a file behind others.
+/// Appends a file to others.
 fn put_file(
     alloc: Global,
     name: &str,

@@ -1,4 +1,4 @@
--- Tables of tests, and what they tell.
+-- Tables of tests, and what they hold.
 use Rattle.std.proofs.Common.{◌≡◌, ℕ, zero, suc, ◌+◌, ◌<◌, ◌≤◌, Bool, true, false, ◌||◌, List, [], ◌∷◌, ◌++◌, length, filter, map, inl, inr, refl, sym, ap, ◌∙◌, arith, add-one, eqb, Some}
 use Rattle.std.specs.Prelude.{if◌then◌else◌, nat_eq}
 use Rattle.std.specs.List.{list_any, range_with_len}
@@ -43,7 +43,7 @@ told_past f a (suc n) (suc p) le = told_past f (a + 1) n p (omega (arith, le))
 pub told_at : (f : ℕ → Bool) (m p : ℕ) → p < m → is_marked (table_of m f) p ≡ f p
 told_at f m p lt = let e : 0 + p ≡ p = omega arith in told_from f 0 m p lt ∙ ap f e
 
--- a table tells a test that nothing beyond it passes
+-- a table holds a test that nothing beyond it passes
 pub told : (f g : ℕ → Bool) (m : ℕ) → ((p : ℕ) → p < m → f p ≡ g p) → ((p : ℕ) → g p ≡ true → p < m) → Tells (table_of m f) g
 told f g m same most p = elim (cases_lt p m) [
   | inl lt ↦ told_at f m p lt ∙ same p lt

@@ -1,4 +1,4 @@
-//! Vertices that are marked and listed: members of a set by number, and relations behind them.
+//! Vertices that are marked and listed: members of a set by number, and relations after them.
 ghost use Rattle.std.specs.Prelude.{◌≡◌, ◌≤◌, ◌<◌, ◌∷◌, [], true, length, OnOk};
 ghost use Rattle.std.specs.List.{list_all};
 ghost use Rattle.solv_pool.specs.Prelude.{catalog_of};
@@ -65,7 +65,7 @@ fn mark_vertices(
     Ok(())
 }
 
-/// Marks and lists what serves a dependency, unless it was gone through already.
+/// Marks and lists what serves a dependency, unless it was visited already.
 fn mark_serving(
     members: &Members<'_>,
     dep: DepId,

@@ -105,7 +105,7 @@ fn holds_anew(members: &Members<'_>, dep: DepId, known: &mut [Option<bool>]) -> 
     }
 }
 
-/// Whether a dependency holds in the set. What is found out of a relation is noted, so each is gone through once.
+/// Whether a dependency holds in the set. The result for a relation is recorded, so each is visited once.
 #[cycle(holding)]
 pub(crate) fn holds(members: &Members<'_>, dep: DepId, known: &mut [Option<bool>]) -> bool
     requires held { dep < length members.now.task.now.pool.nodes }

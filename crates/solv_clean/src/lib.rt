@@ -7,7 +7,7 @@
 //!
 //! What needs what, and what is cleaned, stands in `solv_pool`'s `Needs` and `Cleaning`; `specs/Unneeded` says the rest. A
 //! member of a set is needed where a walk leads to it, and each member of the walk needs the next. The code has no walks: it
-//! keeps one list of members that were found and looks at each of them once (`searching`), and goes once through the packages
+//! keeps one list of members that were found and visits each of them once (`searching`), and goes once through the packages
 //! that serve a relation, however many members ask for it (`passing`). Which supplements hold is decided once for the whole set
 //! (`supplementing`).
 #![tactic(auto)]

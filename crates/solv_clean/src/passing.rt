@@ -1,10 +1,10 @@
-//! Relations that were gone through.
+//! Relations that were visited.
 ghost use Rattle.std.specs.Prelude.{ℕ, ◌≡◌, ◌<◌, ◌||◌, ◌==◌, length};
 ghost use Rattle.solv_clean.specs.Inner.Tables.{is_marked};
 
 use solv_pool::DepId;
 
-/// Whether a relation was gone through. One without an entry was not.
+/// Whether a relation was visited. One without an entry was not.
 pub(crate) fn was_passed(passed: &[bool], dep: DepId) -> bool
     ensures { result ≡ is_marked passed.now dep }
 {
@@ -12,7 +12,7 @@ pub(crate) fn was_passed(passed: &[bool], dep: DepId) -> bool
     place < passed.len() && passed[place]
 }
 
-/// Notes that a relation was gone through. One that has no entry is left out.
+/// Records that a relation was visited. One that has no entry is left out.
 pub(crate) fn note_passed(passed: &mut [bool], dep: DepId)
     ensures size { length passed.new ≡ length passed.old }
     ensures noted { (id : ℕ) → id < length passed.old → is_marked passed.new id ≡ (is_marked passed.old id || (dep == id)) }

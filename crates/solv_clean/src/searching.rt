@@ -34,7 +34,7 @@ fn begin(
     Ok(())
 }
 
-/// Looks at each vertex that was found, and finds what is next to it.
+/// Visits each vertex that was found, and finds its neighbours.
 fn go_on(
     members: &Members<'_>,
     may: &[bool],

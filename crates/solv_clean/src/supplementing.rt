@@ -2,7 +2,7 @@
 //!
 //! A supplement that many packages have, and that many packages serve, would make as many edges as there are pairs of them. So
 //! edges lead through relations: from a member to a relation that it serves, from an operand to a relation that it is a part of,
-//! and from a supplement that holds to each member that has it. A relation is gone through once.
+//! and from a supplement that holds to each member that has it. A relation is visited once.
 ghost use Rattle.std.specs.Prelude.{ℕ, ◌≡◌, ◌≤◌, ◌<◌, ◌+◌, ◌∷◌, ◌||◌, ◌&&◌, ◌==◌, [], true, length, IfOk, OnOk};
 ghost use Rattle.std.specs.List.{list_all};
 ghost use Rattle.solv_pool.specs.Prelude.{catalog_of, is_among};
@@ -21,7 +21,7 @@ use solv_pool::{DepId, PackNo};
 use solv_prov::{Parts, parts_of};
 use std::alloc::{AllocError, Global};
 
-/// The vertex of a relation: relations stand behind the members.
+/// The vertex of a relation: relations come after the members.
 fn vertex_of(in_set: &[bool], dep: DepId, graph: &Graph) -> u32
     requires { length in_set.now + dep < length graph.now }
     ensures { result ≡ length in_set.now + dep }
@@ -84,7 +84,7 @@ fn join_over(in_set: &[bool], from: DepId, to: DepId, graph: &mut Graph) -> Resu
     Ok(())
 }
 
-/// Puts walks to a relation from the members that serve it, unless it was gone through already.
+/// Adds walks to a relation from the members that serve it, unless it was visited already.
 fn join_serving(
     members: &Members<'_>,
     dep: DepId,

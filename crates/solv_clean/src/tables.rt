@@ -163,7 +163,7 @@ pub(crate) fn table_among(
     Ok(table)
 }
 
-/// A table of a set, and behind it of so many relations, which are all in it.
+/// A table of a set, and after it of so many relations, which are all in it.
 pub(crate) fn table_with_relations(
     alloc: Global,
     in_set: &[bool],

@@ -1,4 +1,4 @@
--- Settings of a solver one behind the other.
+-- Settings of a solver one after the other.
 use Rattle.std.proofs.Common.{◌≡◌, ◌<◌, ◌+◌, ℕ, suc, List, [], ◌∷◌, ◌++◌, map, drop, length, get_or, Option, Some, None, refl, sym, ap, ◌∙◌, drop-cons, add-one, Bor}
 use Rattle.std.specs.Prelude.{flat_map, option_and_then}
 use Rattle.solv_pool.specs.declared.tasks.Flags.{Flags}

@@ -39,11 +39,11 @@ abbrev pub and_then : {A B E : Type 0} → Result A E → (A → Result B E) →
 and_then (Ok x) next = next x
 and_then (Err cause) next = Err cause
 
--- how many files stand behind the type of a repository
+-- how many files come after the type of a repository
 abbrev pub file_count : List ℕ → Option ℕ
 file_count type = if bytes_eq type (codes "empty") then Some 0 else (if bytes_eq type (codes "testtags") then Some 1 else None)
 
--- `repo NAME PRIORITY testtags FILE`, `repo NAME PRIORITY empty`; behind another type no word or one stands
+-- `repo NAME PRIORITY testtags FILE`, `repo NAME PRIORITY empty`; after another type no word or one stands
 abbrev pub repo_line : List (List ℕ) → Result Command Cause
 repo_line (name ∷ number ∷ type ∷ files) =
     if option_map_or (λ count. length files == count) (file_count type) (nat_le (length files) 1)

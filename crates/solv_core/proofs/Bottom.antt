@@ -1,4 +1,4 @@
--- What stands where all choices are taken back.
+-- What is known once all decisions are undone.
 use Rattle.std.proofs.Common.{◌≡◌, ℕ, zero, suc, ◌<◌, ◌+◌, ◌^◌, Bool, true, List, [], ◌∷◌, ◌++◌, length, take, get_or, inl, inr, refl, sym, ap, ◌∙◌, subst, arith}
 use Rattle.std.specs.Prelude.{ℤ, pos}
 use Rattle.std.proofs.lemmas.Bool.{and_from, cases_lt}
@@ -10,7 +10,7 @@ use Rattle.solv_trail.specs.Inner.Held.{Held}
 use Rattle.solv_trail.specs.Inner.Propagated.{IsUsed, choice, by_rule, IsReasoned}
 use Rattle.solv_trail.specs.Propagated.{in_use}
 use Rattle.solv_core.specs.Inner.Holding.{AreEntries, AreInUse, entry_of}
-use Rattle.solv_core.specs.Inner.Looking.{IsFounded}
+use Rattle.solv_core.specs.Inner.Probing.{IsFounded}
 use Rattle.solv_core.specs.declared.ledger.Entry.{Entry}
 use Rattle.solv_core.proofs.Answering.{derived_over}
 use Rattle.solv_core.proofs.Contradicted.{nothing_in_use}

@@ -26,7 +26,7 @@ module _ (set : ℕ → Bool) (enabled : List Bool) (clauses : List (List ℤ)) 
   met i o c at of on true_ =
       sym (here i c o at of ∙ ap (λ b. all_true set (if b then c ∷ enabled_clauses enabled (drop (i + 1) clauses) (drop (i + 1) owners) else enabled_clauses enabled (drop (i + 1) clauses) (drop (i + 1) owners))) on ∙ ap (λ b. b && from (i + 1)) true_)
 
-  -- one that is on and false tells the answer
+  -- one that is enabled and false decides the answer
   pub unmet : (i o : ℕ) (c : List ℤ) → slice_get clauses i ≡ Some c → slice_get owners i ≡ Some o → is_enabled enabled o ≡ true → clause_true set c ≡ false → from i ≡ false
   unmet i o c at of on false_ =
       here i c o at of ∙ ap (λ b. all_true set (if b then c ∷ enabled_clauses enabled (drop (i + 1) clauses) (drop (i + 1) owners) else enabled_clauses enabled (drop (i + 1) clauses) (drop (i + 1) owners))) on ∙ ap (λ b. b && from (i + 1)) false_

@@ -5,7 +5,7 @@ pub mod Happened
 pub mod Holding
 pub mod Learnings
 pub mod Ledgers
-pub mod Looking
+pub mod Probing
 pub mod Meeting
 pub mod Numbered
 pub mod NumberedLaw

@@ -10,7 +10,7 @@ ghost use Rattle.solv_core.specs.Inner.Cores.{core_of, none_in_use};
 ghost use Rattle.solv_core.specs.Inner.Holding.{IsBegun, IsHeldBy, entry_of};
 ghost use Rattle.solv_core.specs.Inner.Ledgers.{run_of};
 ghost use Rattle.solv_core.specs.Inner.Contradictions.{IsWhatRefutes};
-ghost use Rattle.solv_core.specs.Inner.Looking.{AreRefutedBeside, verdict_in};
+ghost use Rattle.solv_core.specs.Inner.Probing.{AreRefutedBeside, verdict_in};
 ghost use Rattle.solv_core.specs.Inner.Settling.{HasLearnt};
 ghost use Rattle.solv_core.specs.Inner.Running.{HasRunOnce, IsAnswered};
 ghost use Rattle.solv_core.specs.declared.ledger.Entry.{Entry};
@@ -26,11 +26,11 @@ use crate::parts::{Numbers, Parts, Used};
 use crate::refutation::log_of;
 use crate::refuting::{Contradiction, refuted_at_end, refuted_over};
 use crate::settling::{Outcome, settle};
-use crate::verdicts::{Looked, Trail, Verdict};
+use crate::verdicts::{Probed, Trail, Verdict};
 use solv_learn::Search;
 use solv_list::Items;
 use solv_pack::{RuleMem, RuleNo};
-use solv_trail::{Guide, Known, Recaller};
+use solv_trail::{Guide, Known, Remembering};
 use solv_watch::Watches;
 use std::alloc::{AllocError, Global};
 use std::marker::Model;
@@ -82,7 +82,7 @@ impl<'a> Model for Core<'a> {
     } };
 }
 
-/// Notes a run in the ledger, and closes up the learnt rules that stay in use: those whose leaves are clauses of enabled rules. Room
+/// Records a run in the ledger, and compacts the learnt rules that stay in use: those whose leaves are clauses of enabled rules. Room
 /// for the run's record is found first.
 fn begin(
     alloc: Global,
@@ -122,15 +122,15 @@ fn begin(
     Ok(())
 }
 
-/// A run that is noted: its number in the ledger, and the clauses for whose rules it looks at its end.
+/// A run that is recorded: its number in the ledger, and the clauses whose rules it probes at its end.
 #[derive(Drop)]
 struct Noted<'a> {
     run: usize,
     clauses: &'a [RuleNo],
 }
 
-/// A run that is noted, over the parts of a core.
-fn run_over<G: Guide + Recaller>(
+/// A run that is recorded, over the parts of a core.
+fn run_over<G: Guide + Remembering>(
     alloc: Global,
     parts: &mut Parts,
     used: &Used<'_>,
@@ -138,7 +138,7 @@ fn run_over<G: Guide + Recaller>(
     guide: &G,
     ledger: &mut Ledger,
     noted: &Noted<'_>,
-) -> Result<Looked, AllocError>
+) -> Result<Probed, AllocError>
     requires count { packages ≡ parts.old.known.count }
     requires over { are_over parts.old.known.count used.now.book.now.rules ≡ true }
     requires each { length used.now.owners.now ≡ length used.now.book.now.rules }
@@ -161,7 +161,7 @@ fn run_over<G: Guide + Recaller>(
     ensures learnt { (new : List Entry) × HasLearnt used.now.book.now.rules parts.old.learnt.rules (in_use used.now.owners.now used.now.enabled.now) (λ facts. G.asks guide.now facts used.now.enabled.now) (entry_of parts.old.numbers.kept.items parts.old.numbers.first) parts.old.known.count noted.now.run ledger.old.entries ledger.new.entries parts.new.learnt.rules new }
     ensures numbers { parts.new.numbers ≡ parts.old.numbers }
     ensures answered { IsAnswered (core_of used.now parts.old).made (λ facts. G.asks guide.now facts used.now.enabled.now) used.now.enabled.now ledger.new (verdict_in result) }
-    ensures looked { IfOk result (AreRefutedBeside used.now.book.now.rules used.now.owners.now parts.old.known.count used.now.enabled.now noted.now.clauses.now) }
+    ensures probed { IfOk result (AreRefutedBeside used.now.book.now.rules used.now.owners.now parts.old.known.count used.now.enabled.now noted.now.clauses.now) }
     ensures chained { AreChained parts.old.known.count used.now.book.now.rules parts.new.watches.book.heads.items parts.new.watches.book.links.items parts.new.watches.book.watched.items }
     ensures narrow { AreNarrow used.now.book.now.rules parts.new.watches.narrow.items }
     ensures heads { AreHeads parts.old.known.count parts.new.watches.learnt.heads.items parts.new.watches.learnt.watched.items }
@@ -169,7 +169,7 @@ fn run_over<G: Guide + Recaller>(
     parts.known.clear();
     parts.watches.learnt.hang_anew(&parts.learnt, packages)?;
     match settle(alloc, parts, used, guide, ledger, noted.run)? {
-        Outcome::Spent => Ok(Looked::Spent),
+        Outcome::Spent => Ok(Probed::Spent),
         Outcome::Refuted => {
             let count = parts.learnt.len();
             let log = log_of(
@@ -179,7 +179,7 @@ fn run_over<G: Guide + Recaller>(
                 count,
                 &parts.search.hints,
             )?;
-            Ok(Looked::Unsat(log))
+            Ok(Probed::Unsat(log))
         }
         Outcome::Settled => {
             parts.known.keep_apart();
@@ -188,7 +188,7 @@ fn run_over<G: Guide + Recaller>(
             let trail = Trail {
                 events: Items::wrap(events),
             };
-            Ok(Looked::Sat(trail, Items::wrap(refuted)))
+            Ok(Probed::Sat(trail, Items::wrap(refuted)))
         }
     }
 }
@@ -227,11 +227,11 @@ impl<'a> Core<'a> {
         })
     }
 
-    /// Looks for a set that meets the clauses of enabled owners: choices as the guide asks, what follows from them, and
-    /// what is learnt where they clash. The ledger gets this run, and what it learnt.
+    /// Searches for a set that satisfies every clause of an enabled rule: decides as the guide asks, propagates, and learns
+    /// from conflicts. The ledger records this run and the clauses that it learnt.
     ///
-    /// The ledger is the one of the runs before, as they left it, or both are new. Of what was learnt in them the core keeps what rests
-    /// on enabled rules alone.
+    /// The ledger is the one of the runs before, as they left it, or core and ledger are new. Of the clauses learnt in those runs
+    /// the core keeps those that rest on enabled rules alone.
     ///
     /// Where memory runs out, the core may be run again. Core and ledger are as before, or the ledger has this run, and what it learnt
     /// until then.
@@ -249,11 +249,11 @@ impl<'a> Core<'a> {
         requires held { IsHeldBy self.old ledger.old }
         ensures run { HasRunOnce (G.asks guide.now) enabled.now self.old self.new ledger.old ledger.new result }
     {
-        self.run_recalling(enabled, &Forgetful { guide }, ledger)
+        self.run_remembering(enabled, &Forgetful { guide }, ledger)
     }
 
     /// As `run`, with a guide that remembers.
-    pub fn run_recalling<G: Guide + Recaller>(
+    pub fn run_remembering<G: Guide + Remembering>(
         &mut self,
         enabled: &[bool],
         guide: &G,
@@ -267,19 +267,20 @@ impl<'a> Core<'a> {
         requires held { IsHeldBy self.old ledger.old }
         ensures run { HasRunOnce (G.asks guide.now) enabled.now self.old self.new ledger.old ledger.new result }
     {
-        let looked = self.run_looking(enabled, guide, ledger, &[])?;
-        Ok(looked.into_verdict())
+        let probed = self.run_probing(enabled, guide, ledger, &[])?;
+        Ok(probed.into_verdict())
     }
 
-    /// As `run_recalling`, and where a set is found, some of the rules of these clauses are named, each with a derivation that the enabled
-    /// ones refute it: those that are falsified where all choices are taken back, by what is learnt as well. Of the others nothing is told.
-    pub fn run_looking<G: Guide + Recaller>(
+    /// As `run_remembering`, and where a set is found, some of the rules of these clauses are named, each with a derivation that the enabled
+    /// ones refute it: those that are falsified once all decisions are undone, by learnt clauses as well. Nothing is reported of the
+    /// others.
+    pub fn run_probing<G: Guide + Remembering>(
         &mut self,
         enabled: &[bool],
         guide: &G,
         ledger: &mut Ledger,
         clauses: &[RuleNo],
-    ) -> Result<Looked, AllocError>
+    ) -> Result<Probed, AllocError>
         requires enabled { list_all (λ o. nat_lt o (length enabled.now)) self.old.made.owners ≡ true }
         requires guide { G.is_for guide.now self.old.made.clauses self.old.made.owners }
         requires packages { G.is_for_packages guide.now self.old.made.packages }
@@ -287,7 +288,7 @@ impl<'a> Core<'a> {
         requires few { length ledger.old.entries ≤ ledger.old.budget + 1 }
         requires held { IsHeldBy self.old ledger.old }
         ensures run { HasRunOnce (G.asks guide.now) enabled.now self.old self.new ledger.old ledger.new (verdict_in result) }
-        ensures looked { IfOk result (AreRefutedBeside self.old.made.clauses self.old.made.owners self.old.made.packages enabled.now clauses.now) }
+        ensures probed { IfOk result (AreRefutedBeside self.old.made.clauses self.old.made.owners self.old.made.packages enabled.now clauses.now) }
     {
         let alloc = self.alloc;
         let run = ledger.runs.len();
@@ -298,7 +299,7 @@ impl<'a> Core<'a> {
         };
         begin(alloc, &mut self.parts, &used, ledger)?;
         if ledger.spent() {
-            return Ok(Looked::Spent);
+            return Ok(Probed::Spent);
         }
         let noted = Noted { run, clauses };
         run_over(
@@ -320,8 +321,8 @@ impl<'a> Core<'a> {
         are_met(self.book, self.owners, enabled, inside)
     }
 
-    /// What the clauses of enabled owners refute where nothing is chosen: each other, or some of the owners of these clauses,
-    /// each with a derivation. Of the others nothing is told. It learns nothing, and no ledger notes it.
+    /// Probes: propagates the clauses of enabled owners without a decision, and gives what they refute, each other or some of the
+    /// owners of these clauses, each with a derivation. Nothing is reported of the others. It learns nothing, and no ledger records it.
     pub fn refuted_by(
         &mut self,
         enabled: &[bool],

@@ -3,7 +3,7 @@ ghost use Rattle.std.specs.Prelude.{⊤, ◌≡◌, ◌<◌, ℕ, ℤ, true, Lis
 ghost use Rattle.std.specs.List.{list_all};
 ghost use Rattle.solv_pool.specs.Prelude.{is_fact};
 
-use solv_trail::{Ask, Guide, Known, Recaller};
+use solv_trail::{Ask, Guide, Known, Remembering};
 
 /// A guide that is asked anew each time.
 #[derive(Drop)]
@@ -25,7 +25,7 @@ impl<'a, G: Guide> Guide for Forgetful<'a, G> {
     ghost keeps_law = { λ forgetful count clauses owners enabled law few. G.keeps_law forgetful.guide.now count clauses owners enabled law few };
 }
 
-impl<'a, G: Guide> Recaller for Forgetful<'a, G> {
+impl<'a, G: Guide> Remembering for Forgetful<'a, G> {
     type Memory = ();
 
     ghost serves = { λ _ _ _. ⊤ };
@@ -34,7 +34,7 @@ impl<'a, G: Guide> Recaller for Forgetful<'a, G> {
         let _ = known;
     }
 
-    fn next_recalling(&self, memory: &mut (), known: &Known, enabled: &[bool]) -> Option<Ask> {
+    fn next_remembering(&self, memory: &mut (), known: &Known, enabled: &[bool]) -> Option<Ask> {
         let _ = memory;
         self.guide.next(known, enabled)
     }

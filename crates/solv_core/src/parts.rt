@@ -30,7 +30,7 @@ impl Numbers {
 }
 
 /// The parts of a core that a run changes: what is known, the analysis of conflicts, the learnt clauses in use with the numbers of their
-/// entries, and the watches of these and of the book. What is known, and where learnt clauses hang, begins anew with each run.
+/// entries, and the watches of these and of the book. The assignment, and the watches of learnt clauses, begin anew with each run.
 #[derive(Drop)]
 pub struct Parts {
     pub known: Known,

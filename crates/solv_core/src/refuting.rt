@@ -1,4 +1,4 @@
-//! What enabled rules refute where nothing is chosen.
+//! Probes: what enabled rules refute by unit propagation, without a decision.
 ghost use Rattle.std.specs.Prelude.{◌≡◌, ◌<◌, ◌≤◌, ◌+◌, ◌*◌, ◌^◌, ◌||◌, ◌∷◌, [], ℕ, ℤ, Bool, true, List, length, nat_lt, slice_get, slice_index, Some, IfOk};
 ghost use Rattle.std.specs.List.{list_all};
 ghost use Rattle.std.specs.Option.{IfSome};
@@ -8,7 +8,7 @@ ghost use Rattle.solv_trail.specs.Propagated.{in_use};
 ghost use Rattle.solv_trail.specs.Inner.Propagated.{IsReasoned, Propagated};
 ghost use Rattle.solv_watch.specs.Inner.Watching.{AreChained, AreHeads, AreNarrow};
 ghost use Rattle.solv_core.specs.Inner.Contradictions.{AreRefuted, IsLogWith, IsRefutedRule, IsWhatRefutes};
-ghost use Rattle.solv_core.specs.Inner.Looking.{IsFounded};
+ghost use Rattle.solv_core.specs.Inner.Probing.{IsFounded};
 
 use crate::ledger::Entry;
 use crate::parts::{Learnt, Numbers, Parts, Used};
@@ -28,7 +28,7 @@ pub struct RefutedRule {
     pub log: Log,
 }
 
-/// What enabled rules refute where nothing is chosen.
+/// What enabled rules refute without a decision.
 #[derive(Drop)]
 pub enum Contradiction {
     /// They refute each other.
@@ -50,7 +50,7 @@ fn is_falsified(known: &Known, clause: &[Lit]) -> bool
     true
 }
 
-/// The derivation by a falsified clause, where nothing is chosen. Its leaves are clauses of enabled rules, or that one.
+/// The derivation by a clause that is falsified without a decision. Its leaves are clauses of enabled rules, or that one.
 fn log_by(
     alloc: Global,
     known: &Known,
@@ -117,12 +117,12 @@ fn is_last(found: &[RefutedRule], owners: &[usize], clause: RuleNo) -> bool {
     }
 }
 
-/// Whether so many derivations, each put together from so many entries, are more than a look is worth.
+/// Whether so many derivations, each put together from so many entries, are more than a probe is worth.
 fn are_many(found: usize, entries: usize) -> bool {
     found.saturating_mul(entries) > 1000000
 }
 
-/// The rules of these clauses that are refuted. Of clauses of one rule that follow each other the first serves. Where much was learnt, it stops
+/// The rules of these clauses that are refuted. Of consecutive clauses of one rule the first is enough. Where much was learnt, it stops
 /// after some.
 fn refuted_among(
     alloc: Global,
@@ -156,7 +156,7 @@ fn refuted_among(
     Ok(found)
 }
 
-/// Takes back all choices.
+/// Undoes all decisions.
 fn take_back(known: &mut Known)
     requires { (i k : ℕ) → i < k → k < length known.old.marks → slice_index known.old.marks i < slice_index known.old.marks k }
     ensures count { known.new.count ≡ known.old.count }
@@ -169,7 +169,7 @@ fn take_back(known: &mut Known)
     known.cut(0);
 }
 
-/// The rules of these clauses that are refuted where all choices are taken back, by what a run has learnt as well.
+/// The rules of these clauses that are refuted once all decisions are undone, by what a run has learnt as well.
 pub fn refuted_at_end(
     alloc: Global,
     parts: &mut Parts,

@@ -19,11 +19,11 @@ use Rattle.solv_trail.specs.declared.questions.Ask.{Ask}
 use Rattle.solv_core.specs.Cores.{CoreOf}
 use Rattle.solv_core.specs.GoodTrails.{IsGoodTrail, facts_of}
 use Rattle.solv_core.specs.Ledgers.{IsGoodLedger}
-use Rattle.solv_core.specs.Inner.Looking.{verdict_in, verdict_of}
+use Rattle.solv_core.specs.Inner.Probing.{verdict_in, verdict_of}
 use Rattle.solv_core.specs.Inner.Running.{IsAnswered, IsFound, IsRefutation, is_log_over}
 use Rattle.solv_core.specs.declared.ledger.Ledger.{Ledger}
 use Rattle.solv_core.specs.declared.verdicts.Trail.{Trail}
-use Rattle.solv_core.specs.declared.verdicts.Looked.{Looked}
+use Rattle.solv_core.specs.declared.verdicts.Probed.{Probed}
 use Rattle.solv_core.specs.declared.verdicts.Verdict.{Verdict}
 use Rattle.solv_core.specs.declared.verdicts.Verdict.TheVariants as verdict
 use Rattle.solv_questions.specs.Questions.{Request, rules_of, asks}
@@ -120,6 +120,6 @@ module _ (r : Request) (asker : Asker) (core : CoreOf) (asked : IsAskedFor r ask
     decided refute each (verdict.Unsat log) found refutation over = refuted refute log each refutation.0 refutation.1 over
     decided refute each verdict.Spent found refutation over = tt
 
-    pub decided_if : GoodLogsRefute → (o : Result Looked AllocError) (ledger : Ledger) → IsAnswered core (λ known. plan_asks asker.plan known enabled) enabled ledger (verdict_in o) → IfOk o (λ v. IsDecided r enabled core (verdict_of v))
+    pub decided_if : GoodLogsRefute → (o : Result Probed AllocError) (ledger : Ledger) → IsAnswered core (λ known. plan_asks asker.plan known enabled) enabled ledger (verdict_in o) → IfOk o (λ v. IsDecided r enabled core (verdict_of v))
     decided_if refute (Ok v) ledger a = decided refute (ap length asked.owners ∙ lengths_are r.catalog 0 (rules_of r) ∙ sym (ap length asked.clauses)) (verdict_of v) a.found a.refutation a.log_over
     decided_if refute (Err e) ledger a = tt

@@ -64,7 +64,7 @@ pub filter_alike : (f g : ℕ → Bool) (xs : List ℕ) → ((x : ℕ) → Has x
 filter_alike f g [] h = refl
 filter_alike f g (x ∷ xs) h = ap (λ b. cond b (x ∷ filter f xs) (filter f xs)) (h x (inl refl)) ∙ ap (λ l. cond (g x) (x ∷ l) l) (filter_alike f g xs (λ y k. h y (inr k)))
 
--- the packages in order, behind the system, are the set
+-- the packages in order, after the system, are the set
 pub set_is : (events : List Event) (old new : List ℕ) → old ≡ flat_map pack_of events
     → ((count : ℕ) → list_all (is_pack count) old ≡ true → new ≡ filter (is_among old) (range_with_len 1 count)) → IsSetOf events (0 ∷ new)
 set_is events old new is order count over =

@@ -13,7 +13,7 @@ ghost use Rattle.solv_core.specs.Inner.Running.{is_spent_verdict};
 ghost use Rattle.solv_core.specs.declared.ledger.Ledger.{Ledger as LedgerOf};
 ghost use Rattle.solv_pool.specs.TaskForms.{asks_in_form};
 ghost use Rattle.solv_questions.specs.Questions.{Request, asks, request_of, rules_of};
-ghost use Rattle.solv_plan.specs.Inner.Behind.{rest_by, rest_in};
+ghost use Rattle.solv_plan.specs.Inner.RestOfPlan.{rest_by, rest_in};
 ghost use Rattle.solv_decide.specs.Inner.Deciding.{IsAskedFor, IsDecided};
 
 use crate::phases::Phases;
@@ -27,7 +27,7 @@ use solv_prov::Providers;
 use solv_rules::Book;
 use std::alloc::{AllocError, Global};
 
-/// What a task is answered, the ledger of the one run, and what made it: the questions and the core, which further runs may use.
+/// The answer to a task, the ledger of the one run, and what made it: the questions and the core, which further runs may use.
 #[derive(Drop)]
 pub struct Decided<'a> {
     pub verdict: Verdict,
@@ -36,7 +36,7 @@ pub struct Decided<'a> {
     pub core: Core<'a>,
 }
 
-/// What a decision leaves for a later one: what stands in its plan behind the demands and the installed packages.
+/// What a decision leaves for a later one: what stands in its plan after the demands and the installed packages.
 #[derive(Drop)]
 pub struct Left {
     pub rest: Rest,

@@ -3,7 +3,7 @@
 //! - [`Phases`]: the questions of a task, as the guide of the search.
 //! - [`solve`]: a set by a trail in which each package follows or is the first possible candidate of the first open
 //!   question, or a refutation, or a spent budget.
-//! - [`solve_looking`]: as `solve`, and beside a set the rules that enabled ones refute by what the run has learnt.
+//! - [`solve_probing`]: as `solve`, and beside a set the rules that enabled ones refute by what the run has learnt.
 //! - [`is_met_by`]: whether a set that is given meets enabled rules, without a run.
 //! - [`decide`]: the answer for a task, by one run with every rule enabled.
 //! - [`Left`] and [`decide_on`]: what an answer leaves for a later one, and an answer that begins with it.
@@ -14,12 +14,12 @@
 
 mod deciding;
 mod phases;
-mod recalling;
+mod remembering;
 mod sets;
 mod solving;
 
 pub use deciding::{Decided, Left, decide, decide_on};
 pub use phases::Phases;
 pub use sets::set_of;
-pub use solv_core::{Core, Entry, Event, Ledger, Looked, Run, Trail, Verdict};
-pub use solving::{is_met_by, solve, solve_looking};
+pub use solv_core::{Core, Entry, Event, Ledger, Probed, Run, Trail, Verdict};
+pub use solving::{is_met_by, solve, solve_probing};

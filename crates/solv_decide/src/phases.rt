@@ -5,7 +5,7 @@ ghost use Rattle.solv_prov.specs.Index.{IsIndexOf};
 ghost use Rattle.solv_jobs.specs.Marking.{HasMarks};
 ghost use Rattle.solv_rules.specs.Books.{read_rules};
 ghost use Rattle.solv_questions.specs.Questions.{rules_of, request_of};
-ghost use Rattle.solv_plan.specs.Inner.Behind.{rest_by, rest_in};
+ghost use Rattle.solv_plan.specs.Inner.RestOfPlan.{rest_by, rest_in};
 ghost use Rattle.solv_plan.specs.Inner.Plans.{plan_asks};
 ghost use Rattle.solv_plan.specs.Inner.PlanOf.{plan_of};
 ghost use Rattle.solv_plan.specs.Inner.Settling.{is_right_for};
@@ -69,7 +69,7 @@ impl Phases {
         })
     }
 
-    /// As `new`, on what stands in the plan behind its demands and its installed packages.
+    /// As `new`, on what stands in the plan after its demands and its installed packages.
     pub fn on(
         alloc: Global,
         task: &Task,
@@ -100,7 +100,7 @@ impl Phases {
         self.packages
     }
 
-    /// What stands in the plan behind its demands and its installed packages.
+    /// What stands in the plan after its demands and its installed packages.
     pub fn into_rest(self) -> Rest
         ensures { result ≡ rest_in self.plan }
     {

@@ -8,7 +8,7 @@ use solv_jobs::put_in_order;
 use solv_pool::PackNo;
 use std::alloc::{AllocError, Global};
 
-/// The package that an event says to be in, if it does.
+/// The package that an event says is in, if it says so of one.
 fn pack_in(event: &Event) -> Option<PackNo>
     ensures { option_to_list result ≡ pack_of event.now }
 {
@@ -24,7 +24,7 @@ fn pack_in(event: &Event) -> Option<PackNo>
     }
 }
 
-/// The packages that events say to be in, in the order of the events.
+/// The packages that events say are in, in the order of the events.
 fn packs_in(alloc: Global, events: &[Event]) -> Result<Vec<PackNo>, AllocError>
     ensures { IfOk result (λ packs. packs.items ≡ flat_map pack_of events.now) }
 {

@@ -2,11 +2,11 @@
 use Rattle.std.proofs.Common.{◌≡◌, ℕ, zero, suc, ◌+◌, ◌<◌, ◌≤◌, true, false, ◌||◌, List, [], ◌∷◌, length, drop, take, refl, sym, ap, ◌∙◌, arith, get_or, add-one}
 use Rattle.std.specs.Prelude.{if◌then◌else◌}
 use Rattle.solv_io.specs.Words.{is_blank}
-use Rattle.solv_deps.specs.Words.{is_open, is_close, ends_word, unpaired_after, word_rest, words_behind, words}
+use Rattle.solv_deps.specs.Words.{is_open, is_close, ends_word, unpaired_after, word_rest, words_after, words}
 use Rattle.solv_deps.specs.Inner.Words.{after_first}
 use Rattle.solv_deps.specs.Inner.Words.{word_length, blanks}
 
-pub behind : (k : ℕ) (t : List ℕ) → words_behind k t ≡ words (drop k t)
+pub behind : (k : ℕ) (t : List ℕ) → words_after k t ≡ words (drop k t)
 behind zero [] = refl
 behind zero (c ∷ cs) = refl
 behind (suc k) [] = refl
@@ -52,7 +52,7 @@ split_first (c ∷ cs) l h =
       | false ↦ rw (add-one (word_rest 0 cs)) refl
     ])
 
--- the words of a text are the one behind its blanks and those after it
+-- the words of a text are the first one, after its blanks, and those after it
 pub split_word : (t r : List ℕ) (n : ℕ) → blanks t < length t → r ≡ drop (blanks t) t → n ≡ word_length r → 0 < length r
     → words t ≡ take n r ∷ words (drop n r)
 split_word t r n h e m l = skip_blanks t ∙ ap words (sym e) ∙ split_first r l (rw e (not_blank t h)) ∙ ap (λ k. take k r ∷ words (drop k r)) (sym m)

@@ -16,7 +16,7 @@ use Rattle.solv_deps.specs.Laws.{PrintedIsOneLine, ReadIsWritten, Spells}
 use Rattle.solv_deps.specs.Reading.{and_then, reading}
 use Rattle.solv_deps.specs.Table.{stands_at}
 use Rattle.solv_deps.specs.Inner.Words.{after_first}
-use Rattle.solv_deps.specs.Words.{words_behind, words}
+use Rattle.solv_deps.specs.Words.{words_after, words}
 use Rattle.solv_deps.specs.declared.fault.DepFault.{DepFault}
 use Rattle.solv_deps.specs.declared.fault.DepFault.TheVariants.{OperatorNotHere}
 use Rattle.solv_deps.specs.declared.sign.Joint.{Joint}
@@ -35,12 +35,12 @@ lined (under k a b) = lined a && lined b
 lined (under_else k a b c) = lined a && (lined b && lined c)
 lined missing = true
 
-words_lined : (n : ℕ) (t : List ℕ) → is_line t ≡ true → list_all is_line (words_behind n t) ≡ true
+words_lined : (n : ℕ) (t : List ℕ) → is_line t ≡ true → list_all is_line (words_after n t) ≡ true
 words_lined n [] h = refl
 words_lined (suc n) (c ∷ cs) h = words_lined n cs (second_of_both (is_inner c) (list_all is_inner cs) h)
 words_lined zero (c ∷ cs) h =
     let later = words_lined (after_first c cs) cs (second_of_both (is_inner c) (list_all is_inner cs) h) in
-    elim (is_blank c) as (λ b. list_all is_line (if b then words_behind (after_first c cs) cs else (c ∷ take (after_first c cs) cs) ∷ words_behind (after_first c cs) cs) ≡ true) [
+    elim (is_blank c) as (λ b. list_all is_line (if b then words_after (after_first c cs) cs else (c ∷ take (after_first c cs) cs) ∷ words_after (after_first c cs) cs) ≡ true) [
       | true ↦ later
       | false ↦ and_from (is_line (c ∷ take (after_first c cs) cs)) _
           (and_from (is_inner c) _ (first_of_both (is_inner c) (list_all is_inner cs) h) (all_taken is_inner (after_first c cs) cs (second_of_both (is_inner c) (list_all is_inner cs) h))) later
@@ -55,7 +55,7 @@ both_lined a b h k = and_from (lined a) (lined b) h k
 three_lined : (a b c : Dep (List ℕ)) → lined a ≡ true → lined b ≡ true → lined c ≡ true → (lined a && (lined b && lined c)) ≡ true
 three_lined a b c h k l = and_from (lined a) (lined b && lined c) h (and_from (lined b) (lined c) k l)
 
--- words before others, and behind one word
+-- words before others, and after one word
 front : (xs ys : List (List ℕ)) → list_all is_line (xs ++ ys) ≡ true → list_all is_line xs ≡ true
 front xs ys h = all_left is_line xs ys h
 

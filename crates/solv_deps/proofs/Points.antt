@@ -196,7 +196,7 @@ still_in old mid o r id d h e =
     and_from (rules_in (length mid) o) _ (rules_more _ _ o e.extends.longer (first_of_both (rules_in n o) (rule_in n r) h))
     (and_from (rule_in (length mid) r) (nat_lt id (length mid)) (rule_more _ _ r e.extends.longer (second_of_both (rules_in n o) (rule_in n r) h)) (below_true id (length mid) e.below))
 
--- a word behind a bare name, which is put into the draft first
+-- a word after a bare name, which is appended to the draft first
 pub named_same : (old mid : List Written) (o : List Rule) (count : ℕ) (r : Rule) (name w : List ℕ) (id : ℕ)
     → (rules_in (length old) o && rule_in (length old) r) ≡ true → Enters old mid id (one (plain name)) → comparison w ≡ None
     → at_operator (hands (said mid) o) count (rule_hand (said mid) r) (said mid id) w None (operator w)

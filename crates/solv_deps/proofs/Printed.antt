@@ -10,7 +10,7 @@ use Rattle.solv_deps.specs.declared.sign.Joint.TheVariants.{Both, Either, Jointl
 use Rattle.solv_deps.specs.declared.sign.Conditional.{Conditional}
 use Rattle.solv_deps.specs.declared.sign.Conditional.TheVariants.{If, Unless}
 use Rattle.solv_io.specs.Words.{is_blank}
-use Rattle.solv_deps.specs.Words.{is_open, is_close, ends_word, unpaired_after, unpaired_in, word_rest, words_behind, words}
+use Rattle.solv_deps.specs.Words.{is_open, is_close, ends_word, unpaired_after, unpaired_in, word_rest, words_after, words}
 use Rattle.solv_deps.specs.Grammar.{Operator, joins, conditions, otherwise, spellings, comparison, is_plain, is_namespace}
 use Rattle.solv_deps.specs.Expressions.{no_comparison, connective_of, condition_of, by_sign, Operand, Chain, Expr, name, compared, inside, two, more, alone, chain, less, provided, provided_else, provided_inside, operand_words, chain_words, expr_words, operand_sense, chain_sense, expr_sense, operand_right, chain_right, expr_right, operand_depth, chain_depth, expr_depth, operand_operators, chain_operators, expr_operators}
 use Rattle.solv_deps.specs.Inner.Reading.{same_joint}
@@ -70,7 +70,7 @@ rest_before u (c ∷ cs) rest e h =
     let k = goes_on (ends_word u c) (word_rest (unpaired_after u c (is_close c)) cs) (length cs) e in
     rw (k.0) (ap suc (rest_before (unpaired_after u c (is_close c)) cs rest k.1 h))
 
-behind_front : (cs rest : List ℕ) → words_behind (length cs) (cs ++ rest) ≡ words rest
+behind_front : (cs rest : List ℕ) → words_after (length cs) (cs ++ rest) ≡ words rest
 behind_front [] rest = refl
 behind_front (c ∷ cs) rest = behind_front cs rest
 
@@ -85,7 +85,7 @@ word_front (c ∷ cs) rest h s =
     let u : unpaired_after 0 c (is_close c) ≡ 0 = rw (k.0, k.1) refl in
     let s2 : stops (nat_lt 0 (unpaired_in 0 cs)) rest ≡ true = rw u at s in
     let m : word_rest 0 (cs ++ rest) ≡ length cs = rest_before 0 cs rest l s2 in
-    rw (g.0, k.0, k.1) (ap (λ n. (c ∷ take n (cs ++ rest)) ∷ words_behind n (cs ++ rest)) m ∙ ap (λ t. (c ∷ t) ∷ words_behind (length cs) (cs ++ rest)) (take_front cs rest) ∙ ap (λ ws. (c ∷ cs) ∷ ws) (behind_front cs rest))
+    rw (g.0, k.0, k.1) (ap (λ n. (c ∷ take n (cs ++ rest)) ∷ words_after n (cs ++ rest)) m ∙ ap (λ t. (c ∷ t) ∷ words_after (length cs) (cs ++ rest)) (take_front cs rest) ∙ ap (λ ws. (c ∷ cs) ∷ ws) (behind_front cs rest))
 
 pub sign_words : (o : Operator) (rest : List ℕ) → words (spaced o ++ rest) ≡ sign o ∷ words rest
 sign_words (joins and) rest = refl

@@ -12,7 +12,7 @@ use Rattle.solv_deps.specs.declared.sign.Joint.{Joint}
 use Rattle.solv_deps.specs.declared.sign.Operator.{Operator}
 use Rattle.solv_deps.specs.declared.sign.Operator.TheVariants.{Link, Minus, Condition, Else}
 use Rattle.solv_io.specs.Words.{is_blank}
-use Rattle.solv_deps.specs.Words.{is_open, is_close, ends_word, unpaired_after, word_rest, words_behind, words}
+use Rattle.solv_deps.specs.Words.{is_open, is_close, ends_word, unpaired_after, word_rest, words_after, words}
 use Rattle.solv_deps.specs.Inner.Words.{after_first}
 use Rattle.solv_deps.specs.Inner.Signs.{operator, opens, closes}
 use Rattle.solv_deps.specs.Grammar.{comparison, is_plain, is_namespace, named}
@@ -316,11 +316,11 @@ first_ok c cs h =
       | false ↦ λ e. let z : (is_blank c || false) ≡ false = rw h refl in ap (λ b. ok_word (c ∷ take (if b then 0 else word_rest 0 cs) cs)) z ∙ one_word c cs (rw h e)
     ] refl
 
-words_ok : (t : List ℕ) (n : ℕ) → list_all ok_word (words_behind n t) ≡ true
+words_ok : (t : List ℕ) (n : ℕ) → list_all ok_word (words_after n t) ≡ true
 words_ok [] n = refl
 words_ok (c ∷ cs) (suc n) = words_ok cs n
 words_ok (c ∷ cs) zero =
-    elim (is_blank c) as (λ b. is_blank c ≡ b → list_all ok_word (if b then words_behind (after_first c cs) cs else (c ∷ take (after_first c cs) cs) ∷ words_behind (after_first c cs) cs) ≡ true) [
+    elim (is_blank c) as (λ b. is_blank c ≡ b → list_all ok_word (if b then words_after (after_first c cs) cs else (c ∷ take (after_first c cs) cs) ∷ words_after (after_first c cs) cs) ≡ true) [
       | true ↦ λ e. words_ok cs (after_first c cs)
       | false ↦ λ e. and_from (ok_word (c ∷ take (after_first c cs) cs)) _ (first_ok c cs e) (words_ok cs (after_first c cs))
     ] refl

@@ -168,7 +168,7 @@ abbrev IsNone : Option (List ℕ) → Type 0
 IsNone None = Unit {0}
 IsNone (Some w) = ⊥
 
--- an operand stands behind the rule in hand
+-- an operand comes after the rule in hand
 record Operated (o : List Hand) (h : Hand) (nm : Option (List ℕ)) (d : Dep (List ℕ)) (words : Words) : Type 0 where
   pub front : Words
   pub hand : IsHand o h front
@@ -192,7 +192,7 @@ record Closed (h : Hand) (nm : Option (List ℕ)) (d : Dep (List ℕ)) (words : 
   pub sense : operand_sense other ≡ d
   pub is : expr_words (provided_inside kind operand spelling condition else_spelling other) ≡ words
 
--- a comparison stands behind a bare name
+-- a comparison comes after a bare name
 record Compared (o : List Hand) (h : Hand) (nm : List ℕ) (c : Cmp) (words : Words) : Type 0 where
   pub front : Words
   pub hand : IsHand o h front
@@ -316,7 +316,7 @@ at_compared o h nm c w vs p g =
       is = sym (append_assoc g.front (nm ∷ g.sign_word ∷ []) (w ∷ [])) ∙ ap (λ v. v ++ w ∷ []) g.is;
     })
 
--- a comparison behind a bare name
+-- a comparison after a bare name
 at_comparison : (o : List Hand) (h : Hand) (nm : List ℕ) (d : Dep (List ℕ)) (c : Cmp) (w : List ℕ) (vs : Words) → comparison w ≡ Some c → IsDue o (operator_due h (Some nm) d) vs → Compared o h nm c (vs ++ w ∷ [])
 at_comparison o h nm d c w vs e g =
     elim g [
@@ -336,7 +336,7 @@ at_comparison o h nm d c w vs e g =
       | inr y ↦ absurd y.bare
     ]
 
--- an operator behind an operand
+-- an operator after an operand
 with_operator : (t : Spelling) (o : List Hand) (h : Hand) (nm : Option (List ℕ)) (d : Dep (List ℕ)) (op : Operator) (k : Hand) (vs : Words) → IsDue o (operator_due h nm d) vs → goes_on o h d op ≡ Some k → IsHand o k (vs ++ spelled t op ∷ [])
 with_operator t o h nm d op k vs g e =
     elim g [

@@ -35,7 +35,7 @@ PrintedIsReadAgain = (place : Place) (t : List ℕ) (d : Dep (List ℕ)) → dep
 abbrev pub dependency_by : (Dep (List ℕ) → Bool) → List ℕ → Result (Dep (List ℕ)) DepFault
 dependency_by fits text = and_then (reading (words text)) (λ d. if fits d then Ok d else Err OperatorNotHere)
 
--- and so it is whatever table says what may stand
+-- the same for every table of what may stand
 abbrev pub PrintedIsReadAgainByAnyTable : Type 0
 PrintedIsReadAgainByAnyTable = (fits : Dep (List ℕ) → Bool) (t : List ℕ) (d : Dep (List ℕ)) → dependency_by fits t ≡ Ok d → dependency_by fits (text d) ≡ Ok d
 

@@ -18,7 +18,7 @@ pub data Hand : Type 0 where
   in_condition : Condition → Dep (List ℕ) → Hand  -- A <IF>, A <UNLESS>
   in_else : Condition → Dep (List ℕ) → Dep (List ℕ) → Hand  -- A <IF> B <ELSE>
 
--- What the next word has to be: an operand, an EVR behind a name and a comparison, or an operator, and behind a bare name a comparison or an operator.
+-- What the next word has to be: an operand, an EVR after a name and a comparison, or an operator, and after a bare name a comparison or an operator.
 pub data Due : Type 0 where
   operand_due : Due
   evr_due : List ℕ → Cmp → Due
@@ -42,7 +42,7 @@ abbrev pub and_then : {A B E : Type 0} → Result A E → (A → Result B E) →
 and_then (Ok x) f = f x
 and_then (Err e) f = Err e
 
--- what stands before the next operand, behind an operand and an operator. An `<ELSE>` belongs to the `<IF>` or `<UNLESS>` before it, or before the parentheses that its operand begins
+-- what stands before the next operand, after an operand and an operator. An `<ELSE>` belongs to the `<IF>` or `<UNLESS>` before it, or before the parentheses that its operand begins
 abbrev pub goes_on : List Hand → Dep (List ℕ) → Operator → Result (List Hand) DepFault
 goes_on (nothing ∷ outer) d (joins j) = Ok (in_joined j d ∷ outer)
 goes_on (nothing ∷ outer) d (conditions k) = Ok (in_condition k d ∷ outer)
@@ -52,7 +52,7 @@ goes_on (in_joined i a ∷ outer) d (joins j) = if is_chain j (joined i a d) the
 goes_on hands d otherwise = Err BadOperator
 goes_on hands d o = Err MixedOperators
 
--- an operator behind an operand; its own causes come before the limit of 64
+-- an operator after an operand; its own causes come before the limit of 64
 abbrev pub at_operator : Point → Dep (List ℕ) → Operator → Result Point DepFault
 at_operator p d o = and_then (goes_on p.hands d o)
     (λ hands. if nat_le 64 p.operators then Err TooDeep else Ok (record { hands = hands; operators = p.operators + 1; due = operand_due }))
@@ -79,7 +79,7 @@ ended (operator_due name d) (hand ∷ []) = Ok (whole hand d)
 ended (operator_due name d) hands = Err UnclosedParenthesis
 ended due hands = Err MissingOperand
 
--- what the words behind a point give
+-- what the words after a point give
 abbrev pub reading_from : Point → List (List ℕ) → Result (Dep (List ℕ)) DepFault
 reading_from p [] = ended p.due p.hands
 reading_from p (word ∷ others) = and_then (step p p.due word) (λ q. reading_from q others)

@@ -23,18 +23,18 @@ abbrev pub word_rest : ℕ → List ℕ → ℕ
 word_rest unpaired [] = 0
 word_rest unpaired (c ∷ cs) = if ends_word unpaired c then 0 else suc (word_rest (unpaired_after unpaired c (is_close c)) cs)
 
--- the words of a text behind so many bytes
-abbrev pub words_behind : ℕ → List ℕ → List (List ℕ)
-words_behind skip [] = []
-words_behind (suc skip) (c ∷ cs) = words_behind skip cs
-words_behind zero (c ∷ cs) =
+-- the words of a text after so many bytes
+abbrev pub words_after : ℕ → List ℕ → List (List ℕ)
+words_after skip [] = []
+words_after (suc skip) (c ∷ cs) = words_after skip cs
+words_after zero (c ∷ cs) =
     let more : ℕ = if is_blank c || (is_open c || is_close c) then 0 else word_rest 0 cs in
-    let later : List (List ℕ) = words_behind more cs in
+    let later : List (List ℕ) = words_after more cs in
     if is_blank c then later else (c ∷ take more cs) ∷ later
 
 -- the words of a text
 abbrev pub words : List ℕ → List (List ℕ)
-words text = words_behind 0 text
+words text = words_after 0 text
 
 -- how many `(` of a word have no partner in it
 abbrev pub unpaired_in : ℕ → List ℕ → ℕ

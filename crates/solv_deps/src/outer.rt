@@ -16,7 +16,7 @@ pub(crate) enum Rule {
     Condition(Conditional, u8),
     /// `A <IF> B <ELSE>`, or the same with `<UNLESS>`.
     Else(Conditional, u8, u8),
-    /// `B <ELSE>`, in the parentheses behind `A <IF>` or `A <UNLESS>`.
+    /// `B <ELSE>`, in the parentheses after `A <IF>` or `A <UNLESS>`.
     InnerElse(Conditional, u8, u8),
 }
 

@@ -160,7 +160,7 @@ fn write_pair(
     write_operand(pool, false, right, into)
 }
 
-/// Appends an operand behind `<ELSE>`.
+/// Appends an operand after `<ELSE>`.
 #[cycle(write)]
 fn write_else(pool: &Pool, dep: DepId, into: &mut Vec<u8>) -> Result<(), AllocError>
     requires { dep < length pool.now.nodes }

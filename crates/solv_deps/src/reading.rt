@@ -24,9 +24,9 @@ use solv_base::Cmp;
 pub(crate) enum Due<'a> {
     /// An operand.
     Operand(Rule),
-    /// The EVR behind a name and a comparison.
+    /// The EVR after a name and a comparison.
     Evr(Rule, &'a [u8], Cmp),
-    /// An operator or a closing parenthesis, or a comparison behind this name, which is not in the draft yet.
+    /// An operator or a closing parenthesis, or a comparison after this name, which is not in the draft yet.
     Named(Rule, &'a [u8]),
     /// An operator or a closing parenthesis.
     Operator(Rule, u8),
@@ -53,7 +53,7 @@ fn finish_rule(draft: &mut Draft<'_>, rule: Rule, id: u8) -> u8
     }
 }
 
-/// The rule behind `<ELSE>` where this rule stands before the parentheses.
+/// The rule after `<ELSE>` where this rule stands before the parentheses.
 fn else_inside(rule: Rule, id: u8) -> Option<Rule>
     ensures goes { (at : ℕ → Dep (List ℕ)) → option_map (rule_hand at) result ≡ inner_else (rule_hand at rule ∷ []) (at id) }
     ensures inside { (n : ℕ) → (rule_in n rule && nat_lt id n) ≡ true → option_in n result ≡ true }
@@ -69,7 +69,7 @@ fn else_inside(rule: Rule, id: u8) -> Option<Rule>
     }
 }
 
-/// The rule behind the first operand in parentheses and `<ELSE>`.
+/// The rule after the first operand in parentheses and `<ELSE>`.
 fn else_here(outer: &Outer, id: u8) -> Option<Rule>
     ensures goes { (at : ℕ → Dep (List ℕ)) → option_map (rule_hand at) result ≡ inner_else (hands at outer.now) (at id) }
     ensures inside { (n : ℕ) → (rules_in n outer.now && nat_lt id n) ≡ true → option_in n result ≡ true }
@@ -95,7 +95,7 @@ fn begin_rule(outer: &Outer, id: u8, op: Operator) -> Option<Rule>
     }
 }
 
-/// The rule in hand behind an operand and an operator, where it goes on with this one.
+/// The rule in hand after an operand and an operator, where it goes on with this one.
 fn go_on(draft: &mut Draft<'_>, outer: &Outer, rule: Rule, id: u8, op: Operator) -> Option<Rule>
     requires within { (rules_in (length draft.old) outer.now && (rule_in (length draft.old) rule && nat_lt id (length draft.old))) ≡ true }
     requires room { length draft.old + pending rule ≤ 129 }
@@ -188,7 +188,7 @@ fn take_evr<'a>(
     Err(DepFault::MissingOperand)
 }
 
-/// What is due behind a parenthesis that closes.
+/// What is due after a parenthesis that closes.
 fn close_rule<'a>(draft: &mut Draft<'a>, rule: Rule, before: Rule, id: u8) -> Due<'a>
     requires within { (rule_in (length draft.old) before && (rule_in (length draft.old) rule && nat_lt id (length draft.old))) ≡ true }
     requires room { length draft.old + pending rule ≤ 129 }
@@ -204,7 +204,7 @@ fn close_rule<'a>(draft: &mut Draft<'a>, rule: Rule, before: Rule, id: u8) -> Du
     Due::Operator(before, whole)
 }
 
-/// A word that is no operator and no comparison, behind an operand.
+/// A word that is no operator and no comparison, after an operand.
 fn take_other<'a>(
     draft: &mut Draft<'a>,
     outer: &mut Outer,
@@ -228,7 +228,7 @@ fn take_other<'a>(
     Err(DepFault::BadOperator)
 }
 
-/// An operator behind an operand.
+/// An operator after an operand.
 fn take_sign<'a>(
     draft: &mut Draft<'a>,
     outer: &Outer,
@@ -255,7 +255,7 @@ fn take_sign<'a>(
     }
 }
 
-/// A word behind an operand, where no comparison is due.
+/// A word after an operand, where no comparison is due.
 fn take_operator<'a>(
     draft: &mut Draft<'a>,
     outer: &mut Outer,
@@ -276,7 +276,7 @@ fn take_operator<'a>(
     }
 }
 
-/// A word behind a bare name.
+/// A word after a bare name.
 fn take_named<'a>(
     draft: &mut Draft<'a>,
     outer: &mut Outer,

@@ -66,7 +66,7 @@ pub(crate) fn single_of(text: &[u8]) -> Option<Single<'_>>
     }
 }
 
-/// The EVR behind a name and a comparison, where `|` follows, and what stands behind that.
+/// The EVR after a name and a comparison, where `|` follows, and what comes after that.
 fn evr_before_either(text: &[u8]) -> Option<(&[u8], &[u8])>
     ensures words { IfSome result (λ cut. (sign : List ℕ) × (words text.now ≡ cut.0.now ∷ sign ∷ words cut.1.now) × (operator sign ≡ Some (Link Either)) × (comparison sign ≡ None)) }
     ensures plain { IfSome result (λ cut. is_plain cut.0.now ≡ true) }
@@ -83,7 +83,7 @@ fn evr_before_either(text: &[u8]) -> Option<(&[u8], &[u8])>
     }
 }
 
-/// What stands before the first `|` of a text, and what stands behind it.
+/// What stands before the first `|` of a text, and what comes after it.
 fn cut_at_either(text: &[u8]) -> Option<(Single<'_>, &[u8])>
     ensures { IfSome result (λ cut. reading_by_rules (words text.now) ≡ reading_from (behind_either (one (capability_of cut.0))) (words cut.1.now)) }
 {

@@ -155,7 +155,7 @@ fn ends_empty(steps: &[Step]) -> bool
     }
 }
 
-/// Goes through the steps. A mark is the number of the step that set it, from 1, so nothing is taken back between steps.
+/// Goes through the steps. A mark is the number of the step that set it, from 1, so nothing is undone between steps.
 fn check_steps(count: u32, memory: &RuleMem, steps: &[Step], marks: &mut [u64]) -> Checked
     requires memory { are_over count memory.now.rules ≡ true }
     requires steps { steps_over count steps.now ≡ true }

@@ -43,11 +43,11 @@ of_file (Err bad) = Err (Refused bad.line bad.cause)
 abbrev pub where_named : Bool → Result State DraftFault → Result State DraftFault
 where_named named given = if named then given else Err Misused
 
--- a repository behind the others
+-- a repository after the others
 abbrev pub repo_given : List ℕ → ℤ → State → Result State DraftFault
 repo_given name priority s = of_line (with_repo s name priority)
 
--- the packages of a repository behind the others
+-- the packages of a repository after the others
 abbrev pub packages_given : ℕ → List ℕ → State → Result State DraftFault
 packages_given repo bytes s =
     where_named (nat_lt repo (length s.task.repos)) (of_file (repository_given s [] (testtags s.held (length s.task.packages) repo (numbered_lines bytes))))
@@ -88,7 +88,7 @@ namespace_given name packs s =
 abbrev pub flags_given : FlagRow → State → Result State DraftFault
 flags_given row s = Ok (record s { task = record s.task { flags = flags_of row } })
 
--- a job behind the others: by numbers, or by what has the name of a dependency, or provides it
+-- a job after the others: by numbers, or by what has the name of a dependency, or provides it
 abbrev pub job_given : JobRow → State → Result State DraftFault
 job_given row s =
     where_named (is_row (length s.task.packages) row) (Ok (record s { task = record s.task { jobs = s.task.jobs ++ written_job s.held (job_of row) ∷ [] } }))

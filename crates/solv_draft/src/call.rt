@@ -8,12 +8,12 @@ use crate::job_row::JobRow;
 /// What a task is given by one call.
 #[derive(Clone, Copy)]
 pub enum Call<'a> {
-    /// A repository behind the others.
+    /// A repository after the others.
     Repo {
         name: &'a [u8],
         priority: i32,
     },
-    /// The packages of a repository, by its number from 0, behind those that are there: a text of testtags.
+    /// The packages of a repository, by its number from 0, after those that are there: a text of testtags.
     Packages {
         repo: usize,
         testtags: &'a [u8],
@@ -33,9 +33,10 @@ pub enum Call<'a> {
     },
     /// Flags, in place of those that are there.
     Flags(&'a FlagRow),
-    /// A job behind the others.
+    /// A job after the others.
     Job(&'a JobRow<'a>),
-    /// A job behind the others that selects what has the name of a dependency, or what provides it; what the row selects is not looked at.
+    /// A job after the others that selects what has the name of a dependency, or what provides it; what the row itself selects does not
+    /// count.
     JobBy {
         provides: bool,
         dep: &'a [u8],

@@ -1,4 +1,4 @@
-//! A pool once more.
+//! Copies of a pool.
 ghost use Rattle.std.specs.Prelude.{◌≡◌, [], IfOk};
 
 use solv_base::{DepId, NameId, Pool};

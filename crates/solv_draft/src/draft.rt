@@ -1,4 +1,4 @@
-//! A task so far.
+//! A task while calls build it.
 ghost use Rattle.std.specs.Prelude.{◌≡◌};
 ghost use Rattle.solv_pool.specs.Prelude.{IsClosed};
 ghost use Rattle.solv_pool.specs.TaskForms.{HasForms};
@@ -19,7 +19,7 @@ impl Drop for Draft {
 }
 
 impl Draft {
-    /// A task that was made otherwise, to go on with.
+    /// A task that was made otherwise, to be built further.
     pub fn of(task: Task) -> Draft
         requires closed { IsClosed task }
         requires forms { HasForms task }

@@ -1,6 +1,6 @@
 //! Flags, as C lays them out.
 
-/// Flags, as C lays them out: what a solver may change, and what it looks at.
+/// Flags, as C lays them out: what a solver may change, and what it takes into account.
 #[repr(C)]
 pub struct FlagRow {
     pub allow_downgrade: bool,

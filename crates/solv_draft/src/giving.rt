@@ -45,7 +45,7 @@ fn give(task: &mut Task, call: &Call<'_>) -> Result<(), DraftFault>
     }
 }
 
-/// The same, over a copy of the task's pool. The pool itself is put back where nothing is given.
+/// The same, over a copy of the task's pool. The pool itself is restored where nothing is given.
 fn give_over_copy(task: &mut Task, call: &Call<'_>) -> Result<(), DraftFault>
     requires { IsDraft task.old }
     ensures done { OnOk result (HasDrawn task.new (given call.now (drawn task.old))) }

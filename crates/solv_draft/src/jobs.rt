@@ -87,7 +87,7 @@ pub(crate) fn add_job_by(
     }
 }
 
-/// Lets all jobs go.
+/// Removes all jobs.
 pub(crate) fn clear_jobs(task: &mut Task) -> Result<(), DraftFault>
     requires { IsDraft task.old }
     ensures done { OnOk result (HasDrawn task.new (no_jobs_given (drawn task.old))) }

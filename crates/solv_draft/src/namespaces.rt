@@ -23,7 +23,7 @@ fn are_there(count: u32, packs: &[u32]) -> bool
     packs.iter().all(|pack| *pack <= count)
 }
 
-/// Packages with more behind them.
+/// Packages with more after them.
 fn with_more(alloc: Global, first: &[PackNo], packs: &[u32]) -> Result<Items<PackNo>, AllocError>
     ensures { IfOk result (λ all. all ≡ first.now ++ packs.now) }
 {
@@ -34,7 +34,7 @@ fn with_more(alloc: Global, first: &[PackNo], packs: &[u32]) -> Result<Items<Pac
     Ok(Items::wrap(all))
 }
 
-/// Adds packages to those of a namespace, or a new one behind the others.
+/// Adds packages to those of a namespace, or a new one after the others.
 fn put_packages(
     alloc: Global,
     namespaces: &mut Vec<Namespace>,

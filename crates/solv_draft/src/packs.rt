@@ -10,7 +10,7 @@ use solv_deps::enter_text;
 use solv_pool::{RepoNo, Task};
 use solv_tags::read_testtags;
 
-/// Adds a repository behind the others.
+/// Adds a repository after the others.
 pub(crate) fn add_repo(task: &mut Task, name: &[u8], priority: i32) -> Result<(), DraftFault>
     requires { IsDraft task.old }
     ensures done { OnOk result (HasDrawn task.new (repo_given name.now priority (drawn task.old))) }
@@ -34,7 +34,7 @@ pub(crate) fn add_repo(task: &mut Task, name: &[u8], priority: i32) -> Result<()
     }
 }
 
-/// Adds the packages of a repository behind the others.
+/// Adds the packages of a repository after the others.
 pub(crate) fn add_packages(task: &mut Task, repo: usize, testtags: &[u8]) -> Result<(), DraftFault>
     requires { IsDraft task.old }
     ensures done { OnOk result (HasDrawn task.new (packages_given repo testtags.now (drawn task.old))) }

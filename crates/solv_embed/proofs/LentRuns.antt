@@ -15,7 +15,7 @@ some_rose faults (inr at_last) = absurd (omega (arith, at_last.0))
 some_is : {A : Type 0} → (x y : A) → Some x ≡ Some y → x ≡ y
 some_is x y is = ap (λ o. elim o [ Some z ↦ z | None ↦ x ]) is
 
--- the name that is told is the one asked for last, which no file has
+-- the name that is reported is the one asked for last, which no file has
 pub missing_file : (files : List LentFile) (names : List (List ℕ)) (faults : ℕ) (err : List ℕ) → (0 < faults → last_is_missing files names ≡ true)
     → IsReadFault program (lent_run files names faults) (text_run err) → IsMissingFile files err
 missing_file files names faults err missing unread = record {

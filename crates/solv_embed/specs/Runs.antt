@@ -13,7 +13,8 @@ use Rattle.solv_run.specs.Explained.{IsExplained}
 use Rattle.solv_run.specs.declared.reports.Report.{Report}
 use Rattle.solv_embed.specs.declared.runs.Outcome.{Outcome}
 
--- files that a caller lends, over a run that asks for these names, and in which so many fetches fail: they tell what they hold, and what was asked for
+-- files that a caller lends, over a run that asks for these names, and in which so many fetches fail: they expose their contents, and the names asked
+-- for
 abbrev pub lent_run : List LentFile → List (List ℕ) → ℕ → FilesRun
 lent_run files names faults = record { contents = Some (lent_bytes files); asked_before = Some []; asked_after = Some names; faults_before = 0; faults_after = faults }
 
@@ -28,7 +29,7 @@ pub record IsMissingFile (files : List LentFile) (line : List ℕ) : Type 0 wher
   pub told : line ≡ (read_fault_due program name).err
 
 -- A run of a command over lent files: what is due is the two texts, the status is explained, and no text is cut off. Where a file cannot be read, it is
--- one that is not lent, and its name is told.
+-- one that is not lent, and its name is reported.
 pub record IsLentRun (files : List LentFile) (command : Command) (outcome : Outcome) : Type 0 where
   pub names : List (List ℕ)
   pub faults : ℕ

@@ -2,7 +2,7 @@
 //!
 //! - [`run_lent`]: runs a command over files that the caller lends, and gives an [`Outcome`]: its status, and both texts.
 //!
-//! `specs/Runs` says what that comes to: what `run` of `solv_run` promises for these files, whose bytes it tells, and that no
+//! `specs/Runs` says what that comes to: what `run` of `solv_run` promises for these files, whose bytes it exposes, and that no
 //! text is cut off.
 #![tactic(auto)]
 

@@ -36,7 +36,7 @@ module _ (separator : ℕ) where
         | false ↦ λ e k. let shorter : first_place cs < length cs = omega (arith, k) in rw (take_one_more (first_place cs) c cs, drop_one_more (first_place cs) c cs, at_place cs shorter) refl
       ] refl h
 
-  -- the first text, and what stands behind its separator
+  -- the first text, and what comes after its separator
   pub first_text : (text : List ℕ) (n : ℕ) → n ≡ first_place text → n < length text → between separator text ≡ take n text ∷ between separator (drop (n + 1) text)
   first_text text n e l =
       let l' : first_place text < length text = rw (← e) l in

@@ -1,4 +1,4 @@
--- Pieces put one behind another.
+-- Pieces appended one after another.
 use Rattle.std.proofs.Common.{ℕ, ◌≡◌, ◌+◌, ◌≤◌, ◌∙◌, List, ◌++◌, length, take, drop, refl, sym, ap, arith, append_assoc, length-drop, Option, Some, None}
 use Rattle.std.proofs.Math.Seq.{take-add}
 use Rattle.std.proofs.lemmas.List.{take-append-drop}

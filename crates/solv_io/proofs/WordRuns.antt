@@ -1,4 +1,4 @@
--- A run of bytes that are no blanks is one word, and the words behind it are those of a line of their own.
+-- A run of bytes that are no blanks is one word, and the words after it are those of a line of their own.
 use Rattle.std.proofs.Common.{ℕ, ◌≡◌, ◌+◌, ◌<◌, List, [], ◌∷◌, Bool, true, false, take, drop, get_or, length, refl, ◌∙◌, arith, cond}
 use Rattle.std.specs.Prelude.{not}
 use Rattle.std.specs.List.{prefix_len}
@@ -23,7 +23,7 @@ run_cut c (d ∷ ds) h =
       | false ↦ λ e. rw (take_one_more n d ds, drop_one_more n d ds, run_cut d ds e) refl
     ] refl
 
--- the word at the start of a line, and the line behind it
+-- the word at the start of a line, and the line after it
 pub word_cut : (line : List ℕ) (n : ℕ) → 0 < length line → is_blank (get_or line 0 0) ≡ false → n ≡ prefix_len (λ b. not (is_blank b)) line
     → words_of line ≡ take n line ∷ words_of (drop n line)
 word_cut [] n l h e = absurd (omega arith)

@@ -36,7 +36,7 @@ pub first_word : (w rest : List ℕ) → is_word w ≡ true → begins_word rest
 first_word [] rest h k = absurd (cc)
 first_word (c ∷ cs) rest h k = word_front c cs rest h k
 
--- words behind a space each
+-- words with a space before each
 pub spaced_words : (words : List (List ℕ)) → list_all is_word words ≡ true → words_of (flat_map (λ other. 32 ∷ other) words) ≡ words
 spaced_words [] h = refl
 spaced_words (w ∷ words) h =

@@ -15,7 +15,7 @@ first byte line free = not_feed byte (All-head (λ b. b ≢ 10) byte line free)
 others : (byte : ℕ) (line : List ℕ) → IsLine (byte ∷ line) → IsLine line
 others byte line free = All-tail (λ b. b ≢ 10) byte line free
 
--- a line with a line feed behind it is the first line
+-- a line with a line feed after it is the first line
 lines_of-line : (line rest : List ℕ) → IsLine line → lines_of (line ++ 10 ∷ rest) ≡ line ∷ lines_of rest
 lines_of-line [] rest free = refl
 lines_of-line (byte ∷ line) rest free =
@@ -40,7 +40,7 @@ lines_of-open (line ∷ more) rest free last some =
     ap lines_of (append_assoc line (10 ∷ ended_lines more) rest) ∙ lines_of-line line (ended_lines more ++ rest) (All-head IsLine line more free)
     ∙ ap (λ ls. line ∷ ls) (lines_of-open more rest (All-tail IsLine line more free) last some)
 
--- lines behind others
+-- lines after others
 pub ended_lines-append : (xs ys : List (List ℕ)) → ended_lines (xs ++ ys) ≡ ended_lines xs ++ ended_lines ys
 ended_lines-append [] ys = refl
 ended_lines-append (x ∷ xs) ys = ap (λ t. x ++ 10 ∷ t) (ended_lines-append xs ys) ∙ sym (append_assoc x (10 ∷ ended_lines xs) (ended_lines ys))

@@ -21,7 +21,7 @@ names_after Answered names name = names ++ name ∷ []
 names_after Failing names name = names ++ name ∷ []
 names_after NoMemory names name = names
 
--- the same, where the names are told
+-- the same, where the names are exposed
 abbrev pub asked_after : Ending → Option (List (List ℕ)) → List ℕ → Option (List (List ℕ))
 asked_after ending asked name = option_map (λ names. names_after ending names name) asked
 

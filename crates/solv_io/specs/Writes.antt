@@ -5,7 +5,7 @@ use Rattle.solv_io.specs.declared.faults.SinkFault.{SinkFault}
 use Rattle.solv_io.specs.declared.faults.SinkFault.TheVariants.{Failed, Memory}
 use Rattle.solv_io.specs.Counters.{Answered, Failing, NoMemory, Ending}
 
--- the bytes written, where they are told, and a piece behind them
+-- the bytes written, where they are exposed, and a piece after them
 abbrev pub then_bytes : Option (List ℕ) → List ℕ → Option (List ℕ)
 then_bytes written piece = option_map (λ bytes. bytes ++ piece) written
 

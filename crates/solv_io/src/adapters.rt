@@ -9,7 +9,7 @@ use std::fs::OpenFile;
 use std::io::{ErrorKind, Read, Write};
 use std::{fs, io, rt};
 
-/// The files of the system that a program runs on. It tells neither what they hold nor the names asked for.
+/// The files of the system that a program runs on. It exposes neither what they hold nor the names asked for.
 #[derive(Drop)]
 pub struct RealFiles<'a, R: rt::Files> {
     /// The runtime that opens files.
@@ -18,7 +18,8 @@ pub struct RealFiles<'a, R: rt::Files> {
     pub faults: u64,
 }
 
-/// A writer of std as a sink. It does not tell what was written, and never runs out of memory: whatever error its writer answers counts as a failure.
+/// A writer of std as a sink. It does not expose what was written, and never runs out of memory: whatever error its writer answers counts as a
+/// failure.
 #[derive(Drop)]
 pub struct RealSink<W: io::Write> {
     /// What takes the bytes.
@@ -37,7 +38,7 @@ fn file_fault(error: &io::Error) -> FileFault
     }
 }
 
-/// Puts the first bytes of a file of the system at the end of `into`, at most `most`. What is read before a fault
+/// Appends the first bytes of a file of the system to `into`, at most `most`. What is read before a fault
 /// stays there.
 fn append_file<R: rt::Files>(
     files: &R,

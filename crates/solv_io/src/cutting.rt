@@ -1,4 +1,4 @@
-//! What a byte separates.
+//! Texts cut at a separator byte.
 ghost use Rattle.std.specs.Prelude.{◌≡◌, ◌==◌, ◌∷◌, [], ◌≤◌, ◌<◌, length, not, IfSome, IfNone, ℕ};
 ghost use Rattle.std.specs.List.{prefix_len};
 ghost use Rattle.solv_io.specs.Words.{between};
@@ -16,7 +16,7 @@ fn place_of(separator: u8, text: &[u8]) -> usize
     text.len()
 }
 
-/// What stands before the first separator, and what stands behind it, if there is one. Either may be empty.
+/// What stands before the first separator, and what comes after it, if there is one. Either may be empty.
 pub fn cut_at(separator: u8, text: &[u8]) -> (&[u8], Option<&[u8]>)
     ensures last { IfNone result.1 (between separator text.now ≡ result.0.now ∷ []) }
     ensures more { IfSome result.1 (λ behind. between separator text.now ≡ result.0.now ∷ between separator behind.now) }

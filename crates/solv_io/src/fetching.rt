@@ -9,16 +9,16 @@ use crate::FileFault;
 /// Contracts see three meanings of it: what each name holds, the names of all calls so far that were answered or
 /// failed, and the count of its faults. An object may keep the first two to itself, as those over real files do.
 pub trait Files {
-    // What each name holds, where the object tells it: a name that it tells no bytes of cannot be read.
+    // What each name holds, where the object exposes it: a name of which it exposes no bytes cannot be read.
     ghost contents: { Self → Option (List ℕ → Option (List ℕ)) };
 
-    // The names of all calls so far that answered Ok or `Failed`, in their order, where the object tells them.
+    // The names of all calls so far that answered Ok or `Failed`, in their order, where the object exposes them.
     ghost asked: { Self → Option (List (List ℕ)) };
 
     // How many calls failed. It stays at 2^64 - 1, and never falls.
     ghost faults: { Self → ℕ };
 
-    /// Puts the first `most` bytes of a file at the end of `into`, or all of them where the file has fewer.
+    /// Appends the first `most` bytes of a file to `into`, or all of them where the file has fewer.
     fn fetch(&mut self, name: &str, most: usize, into: &mut Vec<u8>) -> Result<(), FileFault>
         ensures contents { contents self.new ≡ contents self.old }
         ensures asked { asked self.new ≡ asked_after (fetch_ending result) (asked self.old) name.now }

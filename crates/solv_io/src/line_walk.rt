@@ -36,7 +36,7 @@ impl<'a> Lines<'a> {
     }
 }
 
-/// The first line of a text that is not empty, and the text behind its line feed.
+/// The first line of a text that is not empty, and the text after its line feed.
 pub fn split_line(text: &[u8]) -> (&[u8], &[u8])
     requires { 0 < length text.now }
     ensures first { lines_of text.now ≡ result.0.now ∷ lines_of result.1.now }

@@ -44,7 +44,7 @@ fn find_file<'a>(held: &'a [(Text, Bytes)], name: &str) -> Option<&'a [u8]>
     None
 }
 
-/// Puts the first `most` bytes at the end of `into`.
+/// Appends the first `most` bytes to `into`.
 fn append_first(into: &mut Vec<u8>, bytes: &[u8], most: usize) -> Result<(), FileFault>
     ensures got { OnOk result (into.new.items ≡ into.old.items ++ take most bytes.now) }
     ensures refused { IfErr result (λ fault. (fault ≡ Memory) × (into.new.items ≡ into.old.items)) }

@@ -36,7 +36,7 @@ fn word_len(line: &[u8]) -> usize
     line.len()
 }
 
-/// The first word of a line and what stands behind it, or none where the line has no word. Words stand between blanks:
+/// The first word of a line and what comes after it, or none where the line has no word. Words stand between blanks:
 /// spaces, tabs and carriage returns.
 pub fn split_word(line: &[u8]) -> Option<(&[u8], &[u8])>
     ensures word { IfSome result (λ cut. words_of line.now ≡ cut.0.now ∷ words_of cut.1.now) }

@@ -10,7 +10,7 @@ use crate::SinkFault;
 /// Contracts see three meanings of it: the bytes written so far, which an object may keep to itself, the count of
 /// its faults, and whether writing may run out of memory, which is so of all objects of a type or of none.
 pub trait Sink {
-    // The bytes written so far, where the object tells them.
+    // The bytes written so far, where the object exposes them.
     ghost written: { Self → Option (List ℕ) };
 
     // How many calls failed. It stays at 2^64 - 1, and never falls.

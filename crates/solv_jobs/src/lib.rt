@@ -5,7 +5,7 @@
 //! - [`job_rules`]: the rules of install, erase and lock jobs, appended.
 //!
 //! The meaning of each stands in `solv_pool`'s `Selections`, `JobMarks` and `HardRules`. `specs/Inner/Putting` says what it is
-//! to put rules behind others; the layers above put theirs in the same words.
+//! to put rules after others; the layers above put theirs in the same words.
 #![tactic(auto)]
 
 mod appending;

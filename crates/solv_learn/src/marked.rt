@@ -10,8 +10,8 @@ use solv_pack::Lit;
 use std::alloc::{AllocError, Global};
 use std::marker::Model;
 
-/// Literals over packages from 1 to a number, each with the place where it stands among those that are known. They are let go at the cost of what was
-/// put in. Contracts see the number, whether each literal is in the set, and whether each place is.
+/// Literals over packages from 1 to a number, each with the place where it stands among those that are known. They are cleared at the cost of what
+/// was put in. Contracts see the number, whether each literal is in the set, and whether each place is.
 #[derive(Drop)]
 pub struct Marked {
     count: u32,
@@ -54,7 +54,7 @@ impl Marked {
         })
     }
 
-    /// Lets all literals go.
+    /// Clears the set.
     pub fn clear(&mut self)
         ensures count { self.new.count ≡ self.old.count }
         ensures empty { (l : ℤ) → has self.new l ≡ false }

@@ -1,4 +1,4 @@
-//! Sets of numbers that are gone through from the highest on.
+//! Sets of numbers that are visited from the highest down.
 ghost use Rattle.std.specs.Prelude.{◌≡◌, ◌≤◌, ◌<◌, ◌+◌, ◌*◌, ◌/◌, ◌^◌, ◌==◌, ◌||◌, ◌&&◌, ℕ, nat_lt, length, slice_index, true, false, IfOk};
 ghost use Rattle.std.specs.Int.{bit_at};
 ghost use Rattle.solv_trail.specs.Inner.Numbers.{has, room};
@@ -7,8 +7,8 @@ ghost use Rattle.solv_learn.specs.Inner.Places.{IsLast};
 use std::alloc::{AllocError, Global};
 use std::marker::Model;
 
-/// Numbers below a bound that it was made with, one bit each, and one bit for each word that has some: so nothing is paid for a number that it has
-/// not, and little for a long stretch without one. Only making it takes memory.
+/// Numbers below a bound that it was made with, one bit each, and one bit for each word that has some: so an absent number costs nothing, and
+/// a long stretch without one costs little. Only making it takes memory.
 #[derive(Drop)]
 pub struct Places {
     words: Vec<u64>,
@@ -123,7 +123,7 @@ fn last_below(words: &[u64], end: usize) -> Option<usize>
     }
 }
 
-/// The highest number of the words below one, of which only those that may have some are looked at.
+/// The highest number of the words below one, of which only those that may have some are read.
 fn last_of_filled(words: &[u64], filled: &[u64], end: usize) -> Option<usize>
     requires end { end < 2 ^ 58 }
     requires filled { (k : ℕ) → has words.now k ≡ true → has filled.now (k / 64) ≡ true }
@@ -164,7 +164,7 @@ impl Places {
         Ok(Places { words, filled })
     }
 
-    /// Lets all numbers go.
+    /// Clears the set.
     pub fn clear(&mut self)
         ensures room { length self.new ≡ length self.old }
         ensures none { (k : ℕ) → has self.new k ≡ false }

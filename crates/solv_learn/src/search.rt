@@ -1,4 +1,4 @@
-//! Back over the literals that are known, from a falsified rule to a clause that follows.
+//! Conflict analysis: back along the trail, from a falsified rule to a learnt clause.
 ghost use Rattle.std.specs.Prelude.{◌≡◌, ◌^◌, ◌<◌, ◌≤◌, ◌+◌, ◌-◌, ◌++◌, ◌∷◌, [], ℕ, ℤ, neg_ℤ, pos, Bool, true, false, List, Option, Some, map, take, length, reverse, slice_get, slice_index, slice_index_or, IfOk, OnOk};
 ghost use Rattle.std.specs.List.{list_all};
 ghost use Rattle.solv_pool.specs.Prelude.{is_fact, is_refuted, names_package, is_over, are_over};
@@ -36,14 +36,14 @@ impl Drop for Search {
 }
 
 /// The places of the first and of the last choice: what refutes a literal before the first is resolved, what stands between them is kept,
-/// and from the last on one literal is left. Where there is no choice to go by, both stand behind all that is known.
+/// and from the last on one literal is left. Where there is no choice to go by, both come after all that is known.
 #[derive(Clone, Copy)]
 struct ChoicePlaces {
     first: usize,
     last: usize,
 }
 
-/// The hint at a rule: the learnt ones stand behind those of the book, and are entries from this number on.
+/// The hint at a rule: the learnt ones come after those of the book, and are entries from this number on.
 fn hint_at(book: &RuleMem, base: usize, rule: u32) -> Hint
     requires { base + rule < 2 ^ 64 }
     ensures { result ≡ hint_for (length book.now.rules) base rule }
@@ -69,7 +69,7 @@ impl Search {
         })
     }
 
-    /// Forgets what it has collected.
+    /// Discards what it has collected.
     fn begin(&mut self, known: &Known)
         ensures count { self.new.marked.count ≡ self.old.marked.count }
         ensures marked { (l : ℤ) → has self.new.marked l ≡ false }
@@ -206,7 +206,8 @@ impl Search {
 }
 
 impl Search {
-    /// Back from the end to the one marked literal that is left from the last choice on, the first unique implication point.
+    /// Resolves back from the end of the trail to the first unique implication point: the one marked literal that is left from the last
+    /// choice on.
     fn to_unique(
         &mut self,
         known: &Known,
@@ -316,7 +317,7 @@ fn choices_back(known: &Known, clause: &[Lit]) -> usize
 }
 
 impl Search {
-    /// The hints of a conflict that came without a choice, from first to last: they derive the empty clause.
+    /// The hints of a conflict without a decision, from first to last: they derive the empty clause.
     pub fn refute(
         &mut self,
         known: &Known,

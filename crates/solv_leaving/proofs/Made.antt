@@ -256,7 +256,7 @@ module _ (catalog : Catalog) (flags : Flags) (jobs : List Job) (marks : Marks) (
       let R : HardRule → Type 0 = λ z. Has (requirement_rules catalog whole p a) z in
       subst R m.1.1 (has_mapped (λ need. req p need.dep) (counted_requirements catalog whole p a) m.0 (has_filtered (λ need. requirement_counts catalog whole p need.dep) a.requires_ m.0 f.0 counts))
 
-  -- what is in one list more than in another is so with the same behind both
+  -- what is in one list more than in another is so with the same after both
   widened : (xs ys zs : List HardRule) (x : HardRule) → (Has xs x → Has ys x) → Has (xs ++ zs) x → Has (ys ++ zs) x
   widened xs ys zs x wide h = elim (has_split xs zs x h) [ inl k ↦ has_front ys zs x (wide k) | inr k ↦ has_back ys zs x k ]
 

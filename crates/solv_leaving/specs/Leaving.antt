@@ -25,7 +25,7 @@ is_plainly_met missing = false
 is_plainly_met d = true
 
 module _ (catalog : Catalog) where
-  -- so it is with all that a package asks for, and packages meet its conflicts alone
+  -- each dependency that a package asks for is of that kind, and its conflicts are package-wise
   abbrev pub asks_plainly : Package → Bool
   asks_plainly a = list_all (λ d. is_plainly_met (dependency catalog d)) (asked_by a) && list_all (λ d. package_wise (dependency catalog d)) a.conflicts
 

@@ -5,7 +5,7 @@ use Rattle.solv_lent.specs.Inner.Asked.{last_is_missing}
 use Rattle.solv_lent.specs.Lent.{is_missing, lent_bytes}
 use Rattle.solv_lent.specs.declared.lent_file.LentFile.{LentFile}
 
--- what stands behind the end
+-- what comes after the end
 abbrev pub no_file : LentFile
 no_file = record { name = record { ref_ptr = (0, 0); now = [] }; bytes = record { ref_ptr = (0, 0); now = [] } }
 

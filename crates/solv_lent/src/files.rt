@@ -21,7 +21,7 @@ impl Lending for Brand {
 }
 
 /// Files that a caller lends. Of two with one name the first counts, and a name that none has cannot be read. They serve one run,
-/// which ends there: behind such a name every call is refused as if memory had run out.
+/// which ends there: after such a name every call is refused as if memory had run out.
 #[derive(Drop)]
 pub struct LentFiles<'a, K: Lending> {
     held: &'a [LentFile<'a>],
@@ -31,7 +31,7 @@ pub struct LentFiles<'a, K: Lending> {
     pub faults: u64,
     of: PhantomData<K>,
     ghost own: { held.now ≡ K.held },
-    // A call fails only for a name that no file has, and no name is asked for behind it.
+    // A call fails only for a name that no file has, and no name is asked for after it.
     pub ghost missing: { 0 < faults → last_is_missing K.held asked ≡ true },
 }
 

@@ -21,7 +21,7 @@ module _ (catalog : Catalog) where
   abbrev pub asked : ℕ → List ℕ
   asked d = text (text_tree catalog.pool d)
 
-  -- a word and the texts of packages, each behind a space
+  -- a word and the texts of packages, with a space before each
   abbrev pub packs_text : List ℕ → List ℕ → List ℕ
   packs_text word packs = word ++ flat_map (λ p. codes " " ++ named p) packs
 

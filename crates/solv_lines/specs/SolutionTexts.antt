@@ -16,7 +16,7 @@ feature_set p _ = None
 abbrev pub candidates_in : List HardRule → ℕ → Option (List ℕ)
 candidates_in rules p = slice_get (filter_map (feature_set p) rules) 0
 
--- the rules at these places; a place behind the last one has none
+-- the rules at these places; a place after the last one has none
 abbrev pub rules_at : List HardRule → List ℕ → List HardRule
 rules_at rules places = filter_map (slice_get rules) places
 

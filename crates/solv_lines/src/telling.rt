@@ -214,7 +214,7 @@ fn write_rule(
     }
 }
 
-/// Appends the text of the rule at a place. A place behind the last one has none.
+/// Appends the text of the rule at a place. A place after the last one has none.
 pub(crate) fn write_rule_at(
     task: &Task,
     prov: &Providers,

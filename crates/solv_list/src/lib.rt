@@ -8,7 +8,7 @@
 //! - [`Text`]: a text, which contracts see as its bytes in UTF-8.
 //! - [`Bytes`]: bytes that may be no text.
 //!
-//! [`Rows`] holds many lists one behind another, by their numbers.
+//! [`Rows`] holds many lists one after another, by their numbers.
 #![tactic(auto)]
 
 mod bytes;

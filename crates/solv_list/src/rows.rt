@@ -4,7 +4,7 @@ ghost use Rattle.solv_list.specs.Inner.Layout.{pieces, start_of, AreEnds, IsInOr
 use std::alloc::{AllocError, Global};
 use std::marker::Model;
 
-/// Lists by their numbers, one behind another in one vector. Contracts see the rows.
+/// Lists by their numbers, one after another in one vector. Contracts see the rows.
 pub struct Rows<T> {
     items: Vec<T>,
     ends: Vec<u32>,
@@ -27,7 +27,7 @@ impl<T> Model for Rows<T> {
     ghost invariant = { λ r. IsInOrder r.items.items r.ends.items (length r.items.items) };
 }
 
-/// Where a row begins. The one behind the last begins where that ends.
+/// Where a row begins. The one after the last begins where that ends.
 fn begin(ends: &[u32], row: usize) -> usize
     requires { row ≤ length ends.now }
     ensures { result ≡ start_of 0 ends.now row }
@@ -86,7 +86,7 @@ impl<T> Rows<T> {
     }
 }
 
-/// Puts a row's items behind the others, and says where they end. More than 2^32 - 1 items are refused as too little
+/// Appends a row's items to the others, and records where they end. More than 2^32 - 1 items are refused as too little
 /// memory is.
 fn extend<T: Copy>(items: &mut Vec<T>, row: &[T]) -> Result<u32, AllocError>
     ensures ok { OnOk result (items.new.items ≡ items.old.items ++ row.now) }

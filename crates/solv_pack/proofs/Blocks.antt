@@ -36,7 +36,7 @@ module _ {X Z : Type 0} (bs : List (Block X Z)) (k : ℕ) where
       words_set (with_words b ws)
       ∙ ap (λ t. slice_set (words_of bs) k t) (with_words_is b ws size ∙ e ∙ ap (λ t. swap t i j) (seen ∙ sym (block_is d lt)))
 
--- a block's words get more behind them
+-- a block's words get more after them
 pub words_longer : {X Z : Type 0} (bs : List (Block X Z)) (k : ℕ) (b d : Block X Z) (more : List X) → k < length bs → b.items ≡ (get_or bs k d).items ++ more
     → words_of (slice_set bs k b) ≡ slice_set (words_of bs) k (block_at (words_of bs) k ++ more)
 words_longer bs k b d more lt e = words_set bs k b ∙ ap (λ t. slice_set (words_of bs) k t) (e ∙ ap (λ t. t ++ more) (sym (block_is bs k d lt)))

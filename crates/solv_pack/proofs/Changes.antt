@@ -1,4 +1,4 @@
--- What blocks that changed in one place do to the rules: one more rule, one block more, one rule changed, and what is behind let go.
+-- What blocks that changed in one place do to the rules: one more rule, one block more, one rule changed, and what is after let go.
 use Rattle.std.proofs.Common.{◌≡◌, ◌<◌, ◌≤◌, ◌+◌, ℕ, zero, suc, List, [], ◌∷◌, ◌++◌, length, take, drop, get_or, inl, inr, refl, sym, ap, ◌∙◌, subst, arith, length-append}
 use Rattle.std.specs.Prelude.{slice_range, slice_set}
 use Rattle.std.proofs.lemmas.List.{take-take, length-take-le, drop_at, take_at, get_or-set_same, get_or-set_other, length-set, get_or-take, length-take, take_all}
@@ -27,7 +27,7 @@ all_grown old new (p ∷ ps) g h =
       ),
     )
 
--- a rule more, behind the words of the last block
+-- a rule more, after the words of the last block
 module _ {X : Type 0} (words new : List (List X)) (q : Place) (lits : List X) (last : q.block + 1 ≡ length words) (start : q.start ≡ length (block_at words q.block)) (len : q.len ≡ length lits) (is : new ≡ slice_set words q.block (block_at words q.block ++ lits)) where
   within : q.block < length words
   within = omega (arith, last)
@@ -100,7 +100,7 @@ module _ {X : Type 0} (old new : List (List X)) (q : Place) (ys : List X) (c : H
     | inr n ↦ (same_block old new p c.count (c.other p.block n) h).0
   ]
 
-  -- behind it
+  -- after it
   same_behind : (p : Place) → (q.block ≡ p.block → q.start + q.len ≤ p.start) → IsInside old p → rule_in new p ≡ rule_in old p
   same_behind p starts h = elim (cases_eq p.block q.block) [
     | inl e ↦ (same_back old new p (q.start + q.len) c.count (starts (sym e)) (rw e c.long) (rw e c.back) h).0
@@ -117,7 +117,7 @@ module _ {X : Type 0} (old new : List (List X)) (q : Place) (ys : List X) (c : H
           let at : q.block ≡ b = omega (arith, e, le, k.0) in
           omega (arith, same at, k.1 (sym at ∙ e))
 
--- a place is behind those before it
+-- a place is after those before it
 pub behind_at : (b s : ℕ) (ps : List Place) (k : ℕ) (d : Place) → AreBehind b s ps → k < length ps → (b ≤ (get_or ps k d).block) × (b ≡ (get_or ps k d).block → s ≤ (get_or ps k d).start)
 behind_at b s [] k d h lt = absurd (omega arith)
 behind_at b s (p ∷ ps) zero d h lt = (h.0, h.1)
@@ -147,7 +147,7 @@ changed_rules old new ys b s (p ∷ ps) (suc k) d c h i lt =
     there (r ∷ rs) zero l a = a.0
     there (r ∷ rs) (suc j) l a = there rs j (omega arith) a.1
 
--- what is behind a point is let go
+-- what is after a point is let go
 module _ {X : Type 0} (words new : List (List X)) (block start : ℕ) (is : new ≡ take (block + 1) (slice_set words block (take start (block_at words block)))) (written : start ≤ length (block_at words block)) where
   abbrev cut : List (List X)
   cut = slice_set words block (take start (block_at words block))

@@ -38,7 +38,7 @@ closing_start words places keep h k each = record {
 kept_all : {X : Type 0} (keep : List Bool) (rules : List X) → keep ≡ [] → kept keep rules ≡ []
 kept_all keep rules e = rw e refl
 
--- a rule moved to a point: what is before the point it was moved from, and what is behind its place, stays
+-- a rule moved to a point: what is before the point it was moved from, and what is after its place, stays
 module _ {X : Type 0} (old new : List (List X)) (rooms : List ℕ) (from : Place) (block start to_block to_start : ℕ) (target : IsTarget old rooms from block start to_block to_start) (moved : HasMoved old new from to_block to_start) where
   -- before
   stays_before : (p : Place) → EndsBefore to_block to_start p → IsInside old p → (rule_in new p ≡ rule_in old p) × IsInside new p
@@ -62,7 +62,7 @@ module _ {X : Type 0} (old new : List (List X)) (rooms : List ℕ) (from : Place
       let one = stays_before p b.0 h.0 in let more = all_before ps b.1 h.1 in
       (cons (rule_in new p) (rule_in old p) (rules_in new ps) (rules_in old ps) one.0 more.0, (one.1, more.1))
 
-  -- behind
+  -- after
   stays_behind : (p : Place) → from.block ≤ p.block → (from.block ≡ p.block → from.start + from.len ≤ p.start) → IsInside old p → (rule_in new p ≡ rule_in old p) × IsInside new p
   stays_behind p le starts h = elim (cases_eq p.block to_block) [
     | inl e ↦ at_block e

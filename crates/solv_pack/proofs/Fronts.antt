@@ -1,4 +1,4 @@
--- The first of places in order: what lies at them, and the point behind the last of them.
+-- The first of places in order: what lies at them, and the point after the last of them.
 use Rattle.std.proofs.Common.{◌≡◌, ◌<◌, ◌≤◌, ◌+◌, ◌-◌, ℕ, zero, suc, List, [], ◌∷◌, length, take, get_or, refl, sym, ap, ◌∙◌, subst, arith}
 use Rattle.std.specs.Prelude.{slice_set}
 use Rattle.solv_pack.specs.declared.place.Place.{Place}
@@ -48,7 +48,7 @@ last_is words ps shown count q d h k le some same at =
       before = subst Q k1 (before_end 0 0 ps (count - 1) d k lt);
     })
 
--- the first rules are kept where what is behind the last of them is let go
+-- the first rules are kept where what is after the last of them is let go
 pub front_kept : {X : Type 0} (words new : List (List X)) (ps : List Place) (count : ℕ) (q : Place) → IsLast words ps count q → AreInside words ps → new ≡ take (q.block + 1) (slice_set words q.block (take (q.start + q.len) (block_at words q.block)))
     → (rules_in new (take count ps) ≡ take count (rules_in words ps)) × AreInside new (take count ps)
 front_kept words new ps count q last h is =

@@ -8,7 +8,7 @@ use Rattle.solv_pack.specs.declared.place.Place.{Place}
 use Rattle.solv_pack.specs.Inner.Layout.{block_at, IsInside}
 use Rattle.solv_pack.specs.Inner.Moving.{HasMoved}
 
--- lists with the same behind a place have the same behind a later one
+-- lists with the same after a place have the same after a later one
 pub drop_further : {X : Type 0} (xs ys : List X) (a b : ℕ) → a ≤ b → drop a xs ≡ drop a ys → drop b xs ≡ drop b ys
 drop_further xs ys a b le e =
     let fit : a + (b - a) ≡ b = omega arith in

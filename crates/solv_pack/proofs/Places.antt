@@ -30,7 +30,7 @@ inside_at words [] k d h lt = absurd (omega arith)
 inside_at words (p ∷ ps) zero d h lt = h.0
 inside_at words (p ∷ ps) (suc k) d h lt = inside_at words ps k d h.1 (omega arith)
 
--- places behind a point are behind one before it
+-- places after a point are after one before it
 pub behind_sooner : (b s c t : ℕ) (ps : List Place) → AreBehind b s ps → c ≤ b → (c ≡ b → t ≤ s) → AreBehind c t ps
 behind_sooner b s c t [] h le same = tt
 behind_sooner b s c t (p ∷ ps) h le same = (omega (arith, h.0, le), sooner, h.2)
@@ -53,7 +53,7 @@ pub before-append : (b s : ℕ) (ps qs : List Place) → AllBefore b s ps → Al
 before-append b s [] qs h k = k
 before-append b s (p ∷ ps) qs h k = (h.0, before-append b s ps qs h.1 k)
 
--- one more place behind all
+-- one more place after all
 pub behind_snoc : (b s : ℕ) (ps : List Place) (q : Place) → AreBehind b s ps → AllBefore q.block q.start ps → b ≤ q.block → (b ≡ q.block → s ≤ q.start) → AreBehind b s (ps ++ q ∷ [])
 behind_snoc b s [] q h k le same = (le, same, tt)
 behind_snoc b s (p ∷ ps) q h k le same = (h.0, h.1, behind_snoc p.block (p.start + p.len) ps q h.2 k.1 k.0.0 k.0.1)

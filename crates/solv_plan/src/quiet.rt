@@ -58,7 +58,7 @@ pub(crate) fn is_keep_quiet(known: &Known, keep: &Keep) -> bool
     is_decided(known, keep)
 }
 
-/// Whether these have a place.
+/// Whether a place is among these.
 pub(crate) fn has_place(places: &NumberSet, place: usize) -> bool
     ensures { result ≡ true → has places.now place ≡ true }
 {
@@ -68,7 +68,7 @@ pub(crate) fn has_place(places: &NumberSet, place: usize) -> bool
     places.has(place as u32)
 }
 
-/// Puts a place in, where there is room.
+/// Adds a place, where there is room.
 pub(crate) fn put_place(places: &mut NumberSet, place: usize)
     ensures { (k : ℕ) → has places.new k ≡ true → ((k == place) || has places.old k) ≡ true }
 {
@@ -77,7 +77,7 @@ pub(crate) fn put_place(places: &mut NumberSet, place: usize)
     }
 }
 
-/// Takes all places out.
+/// Removes all places.
 pub(crate) fn empty(places: &mut NumberSet)
     ensures { (k : ℕ) → has places.new k ≡ false }
 {

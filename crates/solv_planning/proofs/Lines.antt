@@ -66,7 +66,7 @@ module _ (r : Request) where
       ∙ ap (λ o. (flat_map (λ x. best_job_demand r n x.0 x.1) xs ++ o) ++ rest) (own_of_row n xs no_demands)
       ∙ ap (λ t. demands_of_job r xs n ++ t) (jobs_in_a_row xs (suc n) jobs ∙ ap (λ m. flat_map (λ job. demands_of_job r xs job.0) (enumerate_from m jobs)) (sym (add-one n)))
 
--- numbers that pass a test are among the first ones, where none behind them does
+-- numbers that pass a test are among the first ones, where none after them does
 none_pass : (test : ℕ → Bool) (from count : ℕ) → ((p : ℕ) → from ≤ p → p < from + count → test p ≡ false) → filter test (range_with_len from count) ≡ []
 none_pass test from zero none = refl
 none_pass test from (suc count) none =
@@ -185,7 +185,7 @@ module _ (r : Request) where
   pub table_made : (last : ℕ) (xs : List (ℕ × HardRule)) → filled (add_to_pack r) 0 xs (map no_rules (range_with_len 0 (last + 1))) ≡ pack_rows last xs
   table_made last xs = filled_made (add_to_pack r) no_rules xs 0 (last + 1)
 
-  -- where none is installed behind that one, it tells of all that are
+  -- where none is installed after that one, it tells of all that are
   module _ (last : ℕ) (within : last ≤ length r.catalog.universe.packages) (none : (p : ℕ) → last < p → p ≤ length r.catalog.universe.packages → is_installed r.catalog p ≡ false) where
     behind : (also : ℕ → Bool) → filter (λ p. is_installed r.catalog p && also p) (range_with_len 0 (last + 1)) ≡ filter (λ p. is_installed r.catalog p && also p) (packages r.catalog)
     behind also = front_passes (λ p. is_installed r.catalog p && also p) 0 (last + 1) (suc (length r.catalog.universe.packages)) (omega (arith, within))

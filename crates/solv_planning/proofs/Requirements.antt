@@ -43,7 +43,7 @@ module _ (r : Request) where
   no_wants_when true xs h = h
   no_wants_when false xs h = refl
 
-  -- a part behind others that has none
+  -- a part after others that has none
   none_behind : (xs ys : List HardRule) → flat_map (wants_of r.catalog) ys ≡ [] → flat_map (wants_of r.catalog) (xs ++ ys) ≡ flat_map (wants_of r.catalog) xs
   none_behind xs ys h = flat_map-append (wants_of r.catalog) xs ys ∙ ap (λ t. flat_map (wants_of r.catalog) xs ++ t) h ∙ append-nil (flat_map (wants_of r.catalog) xs)
 

@@ -58,7 +58,7 @@ fn push_feature(row: &mut PackRules, rule: usize) -> Result<(), AllocError>
     row.features.push(rule)
 }
 
-/// Enters a rule that a job is to have the best update of a package into the table of packages.
+/// Adds a rule that a job is to have the best update of a package to the table of packages.
 fn enter_best(
     alloc: Global,
     ready: &Ready<'_>,
@@ -79,7 +79,7 @@ fn enter_best(
     push_best(&mut table[pack.0 as usize], asked)
 }
 
-/// Enters the number of a rule that holds a package to its successors into the table of packages.
+/// Adds the number of a rule that holds a package to its successors to the table of packages.
 fn enter_update(number: usize, pack: PackNo, table: &mut [PackRules]) -> Result<(), AllocError>
     ensures update { (r : Request) (xs : List ℕ) → OnOk result (table.new ≡ entered (add_to_pack r) 0 (number, update pack xs) table.old) }
     ensures dup { (r : Request) (xs : List ℕ) → OnOk result (table.new ≡ entered (add_to_pack r) 0 (number, dup pack xs) table.old) }
@@ -90,7 +90,7 @@ fn enter_update(number: usize, pack: PackNo, table: &mut [PackRules]) -> Result<
     push_update(&mut table[pack.0 as usize], number)
 }
 
-/// Enters the number of a rule on what may take a package's place were every change allowed into the table of packages.
+/// Adds the number of a rule on what may take a package's place, were every change allowed, to the table of packages.
 fn enter_feature(number: usize, pack: PackNo, table: &mut [PackRules]) -> Result<(), AllocError>
     ensures { (r : Request) (xs : List ℕ) → OnOk result (table.new ≡ entered (add_to_pack r) 0 (number, feature pack xs) table.old) }
 {
@@ -100,7 +100,7 @@ fn enter_feature(number: usize, pack: PackNo, table: &mut [PackRules]) -> Result
     push_feature(&mut table[pack.0 as usize], number)
 }
 
-/// Enters a rule into the table of packages.
+/// Adds a rule to the table of packages.
 fn enter(
     alloc: Global,
     ready: &Ready<'_>,
@@ -159,7 +159,7 @@ fn pack_table(alloc: Global, last: u32) -> Result<Vec<PackRules>, AllocError>
     Ok(table)
 }
 
-/// Enters all rules into the table of packages.
+/// Adds all rules to the table of packages.
 fn enter_all(
     alloc: Global,
     ready: &Ready<'_>,
@@ -219,7 +219,7 @@ fn outside(
     Ok(made)
 }
 
-/// So many packages are looked through for each one, and more are put into a set.
+/// Lists up to this length are searched for each package; longer ones are put into a set.
 const FEW: usize = 8;
 
 /// Whether a package is one of these.

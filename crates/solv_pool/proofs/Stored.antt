@@ -46,7 +46,7 @@ packages_take lists k heads zero = refl
 packages_take lists k [] (suc n) = refl
 packages_take lists k (h ∷ heads) (suc n) = ap (λ l. package_of lists k h ∷ l) (packages_take lists (suc k) heads n)
 
--- a row behind others
+-- a row after others
 row_behind : {X : Type 0} (rows more : List (List X)) (j n : ℕ) → n ≡ length rows → row_at (rows ++ more) (n + j) ≡ row_at more j
 row_behind [] more j n e = let here : n + j ≡ j = omega (arith, e) in rw here refl
 row_behind (row ∷ rows) more j n e = let next : n + j ≡ suc (length rows + j) = omega (arith, e) in rw next (row_behind rows more j (length rows) refl)

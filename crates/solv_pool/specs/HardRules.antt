@@ -1,4 +1,4 @@
--- The hard rules of a task, in seven lists, one behind another: what packages ask of each other; inferior architectures; what installed packages are held to, by
+-- The hard rules of a task, in seven lists, one after another: what packages ask of each other; inferior architectures; what installed packages are held to, by
 -- update rules and by feature rules; and what jobs ask for: some of their selections, the best of these, and the best updates of installed packages.
 use Rattle.std.specs.Prelude.{ℕ, length, Bool, true, false, not, ◌&&◌, ◌||◌, List, [], ◌∷◌, ◌++◌, map, filter, flat_map, ◌==◌, nat_lt, if◌then◌else◌}
 use Rattle.std.specs.Option.{option_map_or}

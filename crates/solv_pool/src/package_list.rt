@@ -1,4 +1,4 @@
-//! Packages by their places, with all their lists one behind another.
+//! Packages by their places, with all their lists one after another.
 ghost use Rattle.std.specs.Prelude.{◌≡◌, ◌<◌, ◌≤◌, ◌+◌, ◌*◌, ◌++◌, ◌∷◌, [], length, take, map, slice_get, Some, OnOk, OnErr};
 ghost use Rattle.solv_list.specs.Inner.Layout.{row_at};
 ghost use Rattle.solv_pool.specs.Inner.Stored.{head_of, with_lists, relation_rows, kinds};

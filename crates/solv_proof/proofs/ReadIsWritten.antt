@@ -29,7 +29,7 @@ use Rattle.solv_proof.proofs.WrittenIsRead.{between, opened, stepping}
 abbrev bad_at : ℕ → ProofCause → ℕ × ProofCause
 bad_at n cause = (n, cause)
 
--- the lines behind one that was taken
+-- the lines after one that was taken
 abbrev went_on : ℕ → List (List ℕ) → Bool → Result State ProofCause → Result (List Proof) (ℕ × ProofCause)
 went_on n lines fed (Ok t) = read_on t (n + 1) lines fed
 went_on n lines fed (Err cause) = Err (bad_at (n + 1) cause)

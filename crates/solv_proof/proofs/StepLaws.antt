@@ -47,7 +47,7 @@ pub all_words : {T : Type 0} (write : T → List ℕ) (fits : T → Bool) → ((
 all_words write fits each [] h = refl
 all_words write fits each (x ∷ xs) h = let cut = both (fits x) (list_all fits xs) h in rw (each x cut.0, all_words write fits each xs cut.1) refl
 
--- literals and the words behind them
+-- literals and the words after them
 abbrev cut_of : List ℤ → List (List ℕ) → List ℤ × List (List ℕ)
 cut_of clause behind = (clause, behind)
 
@@ -99,7 +99,7 @@ clause_read (w ∷ ws) clause behind h = elim (is_zero w) as (λ b. is_zero w �
     first again None e f = absurd (cc)
     first again (Some l) e f = later l (clause_of ws) again e f
 
--- the words behind `step`
+-- the words after `step`
 abbrev pub behind_step : Step → List (List ℕ)
 behind_step s = map signed_decimal s.clause ++ (codes "0" ∷ map hint_word s.hints)
 

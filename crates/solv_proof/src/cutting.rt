@@ -7,7 +7,7 @@ ghost use Rattle.solv_proof.specs.Texts.{is_some_list};
 
 use solv_io::cut_at;
 
-/// The first word, and what stands behind its space, if there is one.
+/// The first word, and what comes after its space, if there is one.
 pub(crate) fn cut_word(text: &[u8]) -> (&[u8], Option<&[u8]>)
     ensures cut { words_between text.now ≡ result.0.now ∷ words_left (option_map (λ behind. behind.now) result.1) }
     ensures shorter { IfSome result.1 (λ behind. length behind.now < length text.now) }

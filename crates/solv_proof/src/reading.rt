@@ -41,8 +41,8 @@ fn is_fed(text: &[u8]) -> bool
     }
 }
 
-/// Reads the lines behind the first one. Where one is bad, its number and its cause.
-fn read_behind(
+/// Reads the lines after the first one. Where one is bad, its number and its cause.
+fn read_after(
     alloc: Global,
     reader: &mut Reader,
     text: &[u8],
@@ -85,7 +85,7 @@ fn read_all(
     if line != b"proof 1".as_slice() {
         return Ok(Some((1, ProofCause::BadHeader)));
     }
-    read_behind(alloc, reader, behind, is_fed(text))
+    read_after(alloc, reader, behind, is_fed(text))
 }
 
 /// The proofs whose text this is. `Bad` says that the text is none of any list of proofs: it has the first bad line and

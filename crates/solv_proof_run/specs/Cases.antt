@@ -35,7 +35,7 @@ pub record AreJudged (given : List Task) (text : List ℕ) (proofs : List Proof)
   pub refuted : AreRefuted given proofs
 
 module _ (pair : Pair) (files : FilesRun) where
-  -- the script was asked for and all files that are due by it, which gave these bytes, and behind them at most the file of proofs; and no fault was counted
+  -- the script was asked for and all files that are due by it, which gave these bytes, and after them at most the file of proofs; and no fault was counted
   pub record HasAskedScript (bytes : List ℕ) (fetched : List (List ℕ)) : Type 0 where
     pub names : List (List ℕ)
     pub asked : AskedBesides files (pair.script ∷ names) ⊎ AskedBesides files (pair.script ∷ (names ++ pair.proof ∷ []))

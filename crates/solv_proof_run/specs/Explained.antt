@@ -90,7 +90,7 @@ module _ (form : Option Pair) (files : FilesRun) (report : ProofReport) (out err
     pub bad_script : (bad : Bad) → given ≡ Err bad → report.status ≡ status.Refused
     pub good_script : (state : State) → given ≡ Ok state → IsComplete pair state
 
-  -- so it is for the bytes that were fetched, whether the files tell what they hold or not
+  -- the same for the bytes that were fetched, whether or not the files expose their contents
   pub record IsDecided (pair : Pair) : Type 0 where
     pub bytes : List ℕ
     pub fetched : List (List ℕ)

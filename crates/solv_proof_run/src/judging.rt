@@ -22,7 +22,7 @@ pub(crate) struct InHand<'a> {
     pub(crate) prepared: Prepared<'a>,
 }
 
-/// What is said of a proof, and the book that is in hand then.
+/// The verdict on a proof, and the book that is in hand then.
 #[derive(Drop)]
 pub(crate) struct Judgement<'a> {
     pub(crate) verdict: Verdict,
@@ -69,7 +69,7 @@ fn take_up<'a>(
     }
 }
 
-/// What is said of a proof of the round whose book is in hand.
+/// The verdict on a proof of the round whose book is in hand.
 fn judge_in(
     alloc: Global,
     script: &mut Script,
@@ -90,7 +90,7 @@ fn judge_in(
     verdict
 }
 
-/// What is said of a proof of the round at this place.
+/// The verdict on a proof of the round at this place.
 fn judge_at<'a>(
     alloc: Global,
     script: &mut Script,
@@ -114,7 +114,7 @@ fn judge_at<'a>(
     Ok(Judgement { verdict, hand })
 }
 
-/// What is said of a proof against its round, or that the script does not have it.
+/// The verdict on a proof against its round, or that the script does not have that round.
 pub(crate) fn judge_one<'a>(
     alloc: Global,
     script: &mut Script,

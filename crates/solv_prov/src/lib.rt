@@ -10,7 +10,7 @@
 //!
 //! It is made by groups: what packages provide is put into groups by name, from the last package to the first, so each
 //! group is in order of packages; a relation then goes through the group of its name alone. The list of `|`, `+` or `-` is
-//! merged from those of its operands, which are smaller ids; `&` and conditions have none. The lists lie one behind another
+//! merged from those of its operands, which are smaller ids; `&` and conditions have none. The lists lie one after another
 //! in one vector, with the place where each ends.
 #![tactic(auto)]
 

@@ -1,7 +1,7 @@
 -- No conflict less.
 use Rattle.std.specs.Prelude.{Result, Ok, Err, OnOk}
 use Rattle.std.proofs.Common.{◌≤◌, Bool, true, false, List, arith}
-use Rattle.solv_remedy.specs.Inner.Conflicts.{look_runs, put_in, AreMore}
+use Rattle.solv_remedy.specs.Inner.Conflicts.{probe_runs, put_in, AreMore}
 use Rattle.solv_remedy.specs.declared.smallest.Conflict.{Conflict}
 use Rattle.solv_remedy.proofs.Beside.{count_put, long_put}
 
@@ -22,9 +22,9 @@ more_then old mid new a b =
     let f = b.listed in
     record { conflicts = omega (arith, c, d); listed = omega (arith, e, f) }
 
-pub few_looks : (looked : Bool) → look_runs looked ≤ 2
-few_looks true = omega arith
-few_looks false = omega arith
+pub few_probes : (probed : Bool) → probe_runs probed ≤ 2
+few_probes true = omega arith
+few_probes false = omega arith
 
 pub on_then : {V E : Type 0} → (o : Result V E) (P Q : Type 0) → OnOk o P → (P → Q) → OnOk o Q
 on_then (Ok v) P Q h f = f h

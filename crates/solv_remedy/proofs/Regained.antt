@@ -6,10 +6,10 @@ use Rattle.solv_pool.specs.Prelude.{is_among}
 use Rattle.solv_core.specs.Cores.{CoreOf}
 use Rattle.solv_core.specs.declared.refuting.RefutedRule.{RefutedRule}
 use Rattle.solv_questions.specs.Questions.{Request}
-use Rattle.solv_remedy.specs.Inner.Dropping.{IsFoundOver}
-use Rattle.solv_remedy.specs.Inner.GivingBack.{AreKept, IsGivenBack, IsLookedBack, kept_rules}
+use Rattle.solv_remedy.specs.Inner.Correcting.{IsFoundOver}
+use Rattle.solv_remedy.specs.Inner.GivingBack.{AreKept, IsGivenBack, IsSeparated, kept_rules}
 use Rattle.solv_remedy.specs.declared.giving_back.GivenBack.{GivenBack}
-use Rattle.solv_remedy.specs.declared.regaining.LookedBack.{LookedBack}
+use Rattle.solv_remedy.specs.declared.regaining.Separated.{Separated}
 use Rattle.solv_pool.proofs.Among.{among_filter}
 use Rattle.solv_list.proofs.Booleans.{and_true}
 use Rattle.std.proofs.lemmas.Bool.{eqb-true, false≢true, or_cases}
@@ -22,9 +22,9 @@ module _ (r : Request) (own : List ℕ) (off : ℕ) (core : CoreOf) (left droppe
   few_others p others e = let n = no_longer p dropped in let s = ap length e in omega (arith, n, s)
 
   -- those that the look found and the others are all that was dropped
-  looked_back : (refuted : List RefutedRule) (others : List ℕ) → others ≡ filter (λ k. not (is_among (kept_rules refuted) k)) dropped → AreKept r own off core left refuted
-      → ((k : ℕ) → is_among (kept_rules refuted) k ≡ true → is_among dropped k ≡ true) → IsLookedBack r own off core left dropped (record { refuted = refuted; others = others })
-  looked_back refuted others e kept among = record {
+  separated : (refuted : List RefutedRule) (others : List ℕ) → others ≡ filter (λ k. not (is_among (kept_rules refuted) k)) dropped → AreKept r own off core left refuted
+      → ((k : ℕ) → is_among (kept_rules refuted) k ≡ true → is_among dropped k ≡ true) → IsSeparated r own off core left dropped (record { refuted = refuted; others = others })
+  separated refuted others e kept among = record {
     refuted = kept;
     few = few_others (λ k. not (is_among (kept_rules refuted) k)) others e;
     all = λ k. by (is_among dropped k) (is_among (kept_rules refuted) k) (among k) ∙ ap (λ b. is_among (kept_rules refuted) k || b) (sym (ap (λ l. is_among l k) e ∙ among_filter (λ j. not (is_among (kept_rules refuted) j)) dropped k));
@@ -55,17 +55,17 @@ module _ (r : Request) (own : List ℕ) (off : ℕ) (core : CoreOf) (left droppe
       ]
 
   -- those of some refuted rules that were dropped, and the others that were
-  pub looked_among : (found refuted : List RefutedRule) (others : List ℕ) → refuted ≡ filter (λ (one : RefutedRule). is_among dropped one.rule) found
-      → others ≡ filter (λ k. not (is_among (kept_rules refuted) k)) dropped → AreKept r own off core left found → IsLookedBack r own off core left dropped (record { refuted = refuted; others = others })
-  looked_among found refuted others some e kept =
+  pub separated_among : (found refuted : List RefutedRule) (others : List ℕ) → refuted ≡ filter (λ (one : RefutedRule). is_among dropped one.rule) found
+      → others ≡ filter (λ k. not (is_among (kept_rules refuted) k)) dropped → AreKept r own off core left found → IsSeparated r own off core left dropped (record { refuted = refuted; others = others })
+  separated_among found refuted others some e kept =
       let P : List RefutedRule → Type 0 = λ l. AreKept r own off core left l in
-      looked_back refuted others e (subst P (sym some) (kept_some (λ (one : RefutedRule). is_among dropped one.rule) found kept))
+      separated refuted others e (subst P (sym some) (kept_some (λ (one : RefutedRule). is_among dropped one.rule) found kept))
       (λ k h. some_dropped found k (ap (λ l. is_among (kept_rules l) k) (sym some) ∙ h))
 
   -- what was given back of the others, with those that the look found
-  pub given_with : (b : LookedBack) (g all : GivenBack) → IsLookedBack r own off core left dropped b → IsGivenBack r own off core left b.others g → all.left ≡ g.left → all.kept ≡ g.kept ++ b.refuted → all.trail ≡ g.trail
+  pub given_with : (b : Separated) (g all : GivenBack) → IsSeparated r own off core left dropped b → IsGivenBack r own off core left b.others g → all.left ≡ g.left → all.kept ≡ g.kept ++ b.refuted → all.trail ≡ g.trail
       → IsGivenBack r own off core left dropped all
-  given_with b g all looked given same_left kept_are same_trail = record {
+  given_with b g all separated given same_left kept_are same_trail = record {
     found = subst (λ t. IsFoundOver r own off all.left t) (sym same_trail) (subst (λ l. IsFoundOver r own off l g.trail) (sym same_left) given.found);
     kept = subst (λ l. AreKept r own off core l all.kept) (sym same_left) (subst (λ k. AreKept r own off core g.left k) (sym kept_are) each);
     all = λ k. ap (λ l. is_among l k || is_among (kept_rules all.kept) k) same_left ∙ ap (λ l. is_among g.left k || is_among (kept_rules l) k) kept_are ∙ whole k;
@@ -87,9 +87,9 @@ module _ (r : Request) (own : List ℕ) (off : ℕ) (core : CoreOf) (left droppe
       turned false false false false false h = refl
 
       each : AreKept r own off core g.left (g.kept ++ b.refuted)
-      each = kept_both r own off core g.left g.kept b.refuted given.kept (kept_wider r own off core left g.left b.refuted given.wider looked.refuted)
+      each = kept_both r own off core g.left g.kept b.refuted given.kept (kept_wider r own off core left g.left b.refuted given.wider separated.refuted)
 
       whole : (k : ℕ) → (is_among g.left k || is_among (kept_rules (g.kept ++ b.refuted)) k) ≡ (is_among left k || is_among dropped k)
       whole k =
           ap (λ v. is_among g.left k || is_among v k) (rules_both g.kept b.refuted) ∙ ap (λ v. is_among g.left k || v) (list_any-append (λ y. y == k) (kept_rules g.kept) (kept_rules b.refuted))
-          ∙ turned (is_among g.left k) (is_among (kept_rules g.kept) k) (is_among left k) (is_among b.others k) (is_among (kept_rules b.refuted) k) (given.all k) ∙ ap (λ v. is_among left k || v) (sym (looked.all k))
+          ∙ turned (is_among g.left k) (is_among (kept_rules g.kept) k) (is_among left k) (is_among b.others k) (is_among (kept_rules b.refuted) k) (given.all k) ∙ ap (λ v. is_among left k || v) (sym (separated.all k))

@@ -16,11 +16,11 @@ use Rattle.solv_remedy.specs.Problems.{owning, rested_on}
 use Rattle.solv_remedy.specs.Remedies.{may_drop, is_fixed_at}
 use Rattle.solv_remedy.specs.Inner.Problems.{GoodLogsRefuteTheirRules}
 use Rattle.solv_remedy.specs.Inner.Trying.{fixed_and, is_off_in, IsSetUp}
-use Rattle.solv_remedy.specs.Inner.Dropping.{is_on}
+use Rattle.solv_remedy.specs.Inner.Correcting.{is_on}
 use Rattle.solv_remedy.specs.Inner.GivingBack.{IsRefutedOn}
 use Rattle.solv_remedy.specs.Inner.Resting.{IsSound, AreSound}
 use Rattle.solv_remedy.proofs.Back.{among_more}
-use Rattle.solv_remedy.proofs.Looked.{unsolvable_by, enabled_on}
+use Rattle.solv_remedy.proofs.Probed.{unsolvable_by, enabled_on}
 use Rattle.solv_remedy.proofs.Tried.{droppable_is, fixed_not_off, rested_fixed_or}
 
 pub sound_more : (core : CoreOf) (logs : List RefutedRule) (one : RefutedRule) → AreSound core logs → IsSound core one.log → AreSound core (logs ++ one ∷ [])

@@ -10,7 +10,7 @@ ghost use Rattle.solv_core.specs.Inner.Holding.{IsHeldBy};
 ghost use Rattle.solv_core.specs.Cores.{CoreOf};
 ghost use Rattle.solv_questions.specs.Questions.{Request};
 ghost use Rattle.solv_decide.specs.Inner.Deciding.{Asker};
-ghost use Rattle.solv_remedy.specs.Inner.Dropping.{IsFoundOn};
+ghost use Rattle.solv_remedy.specs.Inner.Correcting.{IsFoundOn};
 ghost use Rattle.solv_rules.specs.Books.{Written, read_rules};
 ghost use Rattle.solv_remedy.specs.Remedies.{IsGoodList, droppable_rules, most_runs};
 ghost use Rattle.solv_remedy.specs.Inner.Remedies.{IsMadeFor, IsRemedies, is_spent_remedies};
@@ -229,8 +229,8 @@ fn remedies_from(
 
 /// The problems of a task that no set meets, each with its solutions, where a first refutation is given; or that the ledger is spent.
 ///
-/// With m rules that may be dropped the ledger gets 4 (m + 1) (m + 1) runs at most, each with every rule on that may not be dropped. Where memory runs out, the core and the ledger
-/// hold what was learnt before, and it may be tried again.
+/// With m rules that may be dropped the ledger gets 4 (m + 1) (m + 1) runs at most, each with every rule enabled that may not be dropped. Where memory runs out, the core and the
+/// ledger hold what was learnt before, and it may be tried again.
 pub fn problems(
     alloc: Global,
     phases: &Phases,

@@ -1,10 +1,10 @@
-//! What the runs for a way out are told.
+//! The guesses that are handed to the runs for a way out.
 use solv_pack::RuleNo;
 
-/// After so many refuted runs one of a conflict's others alone tells what they refute.
+/// After so many refuted runs, one run of a conflict's other rules alone finds what they refute.
 const PATIENCE: usize = 3;
 
-/// Which rules a way out is guessed to drop, and whose clauses its runs look at. Any rules and clauses will do.
+/// Which rules a way out is guessed to drop, and whose clauses its runs probe. Any rules and clauses will do.
 #[derive(Drop)]
 pub struct Hints<'a> {
     guess: &'a [bool],
@@ -14,7 +14,7 @@ pub struct Hints<'a> {
 }
 
 impl<'a> Hints<'a> {
-    /// Rules that are guessed, and clauses that are looked at once a rule was dropped.
+    /// Rules that are guessed, and clauses that are probed once a rule was dropped.
     pub fn new(guess: &'a [bool], clauses: &'a [RuleNo]) -> Hints<'a> {
         Hints {
             guess,
@@ -32,7 +32,7 @@ impl<'a> Hints<'a> {
         }
     }
 
-    /// The clauses that a run looks at: none before the first refuted one.
+    /// The clauses that a run probes: none before the first refuted run.
     pub fn clauses(&self) -> &[RuleNo] {
         if self.refuted == 0 { &[] } else { self.clauses }
     }

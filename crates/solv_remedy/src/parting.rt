@@ -1,6 +1,6 @@
-//! What is dropped at once, and what is guessed for that.
+//! Rules that are dropped together, because they are guessed.
 ghost use Rattle.std.specs.Prelude.{◌≡◌, ◌++◌, not, filter, IfOk, OnOk};
-ghost use Rattle.solv_remedy.specs.Inner.Dropping.{goes_with as is_taken_with};
+ghost use Rattle.solv_remedy.specs.Inner.Correcting.{goes_with as is_taken_with};
 
 use crate::conflicts::{is_in, switch_off};
 use crate::refutations::numbers_of;
@@ -8,11 +8,11 @@ use crate::smallest::switch_on;
 use solv_core::RefutedRule;
 use std::alloc::{AllocError, Global};
 
-/// So many rules are guessed at most. A longer list is told by one run ahead, and would cost as many runs where it is wrong.
+/// At most so many rules are guessed. A longer list is found by one run ahead, and would cost as many runs where it is wrong.
 const MOST: usize = 32;
 
 /// The rules that the last way out dropped by runs, of those that dropped a few. Ways out mostly drop the same ones. Any list of rules will do:
-/// what was dropped needlessly comes back, at a run for each.
+/// what was dropped needlessly is restored, at a run for each.
 pub struct Guess {
     rules: Vec<usize>,
     table: Vec<bool>,
@@ -88,7 +88,7 @@ fn goes_with(guess: &[bool], rule: usize, one: usize) -> bool
     rule == one || is_in(guess, rule) && is_in(guess, one)
 }
 
-/// Some rules without those that are dropped with one of them. Those are put behind what was dropped before.
+/// Some rules without those that are dropped with one of them. Those are appended to what was dropped before.
 pub fn part(
     alloc: Global,
     rules: &[usize],

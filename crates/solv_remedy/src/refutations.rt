@@ -1,4 +1,4 @@
-//! Refuted rules, one behind another.
+//! Refuted rules, one after another.
 ghost use Rattle.std.specs.Prelude.{◌≡◌, ◌<◌, ◌++◌, ℕ, not, length, filter, IfOk};
 ghost use Rattle.solv_remedy.specs.Inner.GivingBack.{kept_rules};
 ghost use Rattle.solv_core.specs.declared.refuting.RefutedRule.{RefutedRule as Refuted};
@@ -9,7 +9,7 @@ use crate::smallest::{is_listed, switch_on};
 use solv_core::RefutedRule;
 use std::alloc::{AllocError, Global};
 
-/// Refuted rules, and others behind them.
+/// Refuted rules, and others after them.
 pub fn joined(
     first: Vec<RefutedRule>,
     more: Vec<RefutedRule>,

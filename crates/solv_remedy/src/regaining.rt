@@ -1,14 +1,14 @@
-//! What was dropped comes back, as far as it can.
+//! Dropped rules are restored, as far as they can be.
 ghost use Rattle.std.specs.Prelude.{◌≡◌, ◌≤◌, ◌++◌, ℕ, List, true, length, is_none, IfOk};
 ghost use Rattle.std.specs.Option.{IfSome};
 ghost use Rattle.solv_core.specs.Cores.{CoreOf};
 ghost use Rattle.solv_questions.specs.Questions.{Request};
-ghost use Rattle.solv_remedy.specs.Inner.Dropping.{IsFoundOver};
-ghost use Rattle.solv_remedy.specs.Inner.GivingBack.{AreKept, IsGivenBack, IsLookedBack};
+ghost use Rattle.solv_remedy.specs.Inner.Correcting.{IsFoundOver};
+ghost use Rattle.solv_remedy.specs.Inner.GivingBack.{AreKept, IsGivenBack, IsSeparated};
 ghost use Rattle.solv_remedy.specs.Inner.Runs.{is_spent, IsOf, MayRun, HasRun};
 ghost use Rattle.solv_remedy.specs.Inner.Trying.{is_off_in};
 
-use crate::dropping::Remaining;
+use crate::correcting::Remaining;
 use crate::giving_back::{Found, GivenBack, give_back};
 use crate::refutations::{joined, refuted_among, without_refuted};
 use crate::setting::Setting;
@@ -19,30 +19,30 @@ use std::alloc::{AllocError, Global};
 
 /// Dropped rules that what is left refutes, and the others.
 #[derive(Drop)]
-pub struct LookedBack {
+pub struct Separated {
     pub refuted: Items<RefutedRule>,
     pub others: Items<usize>,
 }
 
-/// Parts those of so many rules that were dropped from the others that are among these refuted ones.
-fn look_back(
+/// Separates dropped rules: those that are among these refuted ones, and the others. There are so many rules in all.
+fn separate(
     alloc: Global,
     count: usize,
     dropped: &[usize],
     found: Items<RefutedRule>,
-) -> Result<LookedBack, AllocError>
+) -> Result<Separated, AllocError>
     ensures few { IfOk result (λ b. length b.others ≤ length dropped.now) }
-    ensures looked { (r : Request) (own : List ℕ) (off : ℕ) (core : CoreOf) (left : List ℕ) → AreKept r own off core left found → IfOk result (IsLookedBack r own off core left dropped.now) }
+    ensures separated { (r : Request) (own : List ℕ) (off : ℕ) (core : CoreOf) (left : List ℕ) → AreKept r own off core left found → IfOk result (IsSeparated r own off core left dropped.now) }
 {
     let refuted = refuted_among(alloc, count, found.into_vec(), dropped)?;
     let others = without_refuted(alloc, count, dropped, &refuted)?;
-    Ok(LookedBack {
+    Ok(Separated {
         refuted: Items::wrap(refuted),
         others: Items::wrap(others),
     })
 }
 
-/// What was given back, with more rules that can't be.
+/// What was restored, with more rules that can't be.
 fn with_refuted(given: GivenBack, refuted: Items<RefutedRule>) -> Result<GivenBack, AllocError>
     ensures left { IfOk result (λ g. g.left ≡ given.left) }
     ensures kept { IfOk result (λ g. g.kept ≡ given.kept ++ refuted) }
@@ -57,7 +57,7 @@ fn with_refuted(given: GivenBack, refuted: Items<RefutedRule>) -> Result<GivenBa
     })
 }
 
-/// Gives back what was dropped, as far as it can be: a run is made for each rule that the last one did not refute. Nothing, where the ledger is spent.
+/// Restores what was dropped, as far as it can be: a run is made for each rule that the last one did not refute. Nothing, where the ledger is spent.
 pub fn regain(
     setting: &Setting<'_>,
     core: &mut Core<'_>,
@@ -78,7 +78,7 @@ pub fn regain(
         trail,
     } = remaining;
     let count = setting.fixed.len();
-    let LookedBack { refuted, others } = look_back(setting.alloc, count, dropped.held(), refuted)?;
+    let Separated { refuted, others } = separate(setting.alloc, count, dropped.held(), refuted)?;
     let left = left.into_vec();
     let found = Found { left, trail };
     match give_back(setting, core, ledger, way, others.held(), found)? {

@@ -12,7 +12,7 @@ ghost use Rattle.solv_remedy.specs.Inner.Runs.{IsOf};
 ghost use Rattle.solv_remedy.specs.Inner.Trying.{is_off_in};
 
 use crate::conflicts::is_in;
-use crate::dropping::enabled_left;
+use crate::correcting::enabled_left;
 use crate::laws::good_logs_refute_their_rules;
 use crate::setting::Setting;
 use crate::smallest::{Way, droppable_of};

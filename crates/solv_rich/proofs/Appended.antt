@@ -1,4 +1,4 @@
--- Clauses behind others, one after another.
+-- Clauses after others, one after another.
 use Rattle.std.proofs.Common.{◌≡◌, ◌≤◌, ◌+◌, ℕ, zero, suc, ℤ, Bool, true, false, not, List, [], ◌∷◌, ◌++◌, length, take, drop, map, Option, Some, refl, sym, ap, ◌∙◌, arith, add-one, append_assoc, length-append}
 use Rattle.std.specs.Prelude.{filter, flat_map, nat_le, slice_get, unwrap_or, if◌then◌else◌}
 use Rattle.std.specs.List.{list_all}
@@ -61,7 +61,7 @@ one_appended x old new old_ends new_ends n lits size ends = record {
   ends = ends ∙ ap (λ k. old_ends ++ k ∷ []) (size ∙ ap length lits ∙ length-append old x);
 }
 
--- what is left behind more clauses is what was left behind fewer
+-- what is left after more clauses is what was left after fewer
 module _ (first rest : List (List ℤ)) (lits more : List ℤ) (ends more_ends : List ℕ) (put : HasAppended first lits more ends more_ends) where
   pub lits_left : more ++ flat_map (λ c. c) rest ≡ lits ++ flat_map (λ c. c) (first ++ rest)
   lits_left = ap (λ t. t ++ flat_map (λ c. c) rest) put.literals ∙ append_assoc lits (flat_map (λ c. c) first) (flat_map (λ c. c) rest) ∙ ap (λ t. lits ++ t) (sym (flat_more first rest))
@@ -74,7 +74,7 @@ module _ (first rest : List (List ℤ)) (lits more : List ℤ) (ends more_ends :
       ap (λ t. t ++ ends_behind (length more) rest) put.ends ∙ append_assoc ends (ends_behind (length lits) first) (ends_behind (length more) rest)
       ∙ ap (λ t. ends ++ t) (sym (ends_more (length lits) first rest ∙ ap (λ k. ends_behind (length lits) first ++ ends_behind k rest) many))
 
--- the clause of a number, and those behind it
+-- the clause of a number, and those after it
 pub drop_at : (cs : List Clause) (k : ℕ) (c : Clause) → slice_get cs k ≡ Some c → drop k cs ≡ c ∷ drop (k + 1) cs
 drop_at [] k c at = absurd (cc)
 drop_at (d ∷ cs) zero c at = ap (λ e. e ∷ cs) (ap (λ o. unwrap_or o d) at)

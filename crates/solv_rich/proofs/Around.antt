@@ -37,7 +37,7 @@ at_least n (q ∷ qs) (suc k) x h at =
     let more : suc q ≤ x = at_least (suc q) qs k x (second_of_both (nat_le n q) (rising (suc q) qs) h) at in
     omega (arith, low, more)
 
--- those in front of it and those behind it
+-- those in front of it and those after it
 pub place_is : (n : ℕ) (qs : List ℕ) (k x : ℕ) → rising n qs ≡ true → slice_get qs k ≡ Some x → take k qs ++ drop (k + 1) qs ≡ without (Some x) qs
 place_is n [] k x h at = absurd (cc)
 place_is n (q ∷ qs) zero x h at =

@@ -30,7 +30,7 @@ system_out (is_out (suc p)) h = rw (above p, zero_not_successor p) refl
 abbrev Alike : Clause → Clause → Type 0
 Alike b c = (m : Literal) → nat_lt 0 (package_of m) ≡ true → contains_literal b m ≡ contains_literal c m
 
--- one more behind
+-- one more after
 contains_more : (seen : Clause) (l m : Literal) → contains_literal (seen ++ l ∷ []) m ≡ (contains_literal seen m || same_literal m l)
 contains_more seen l m = list_any-append (same_literal m) seen (l ∷ []) ∙ ap (λ b. contains_literal seen m || b) (or_false (same_literal m l))
 
@@ -62,7 +62,7 @@ not_out l = not (same_literal (is_out 0) l)
 abbrev IsFirst : Clause → Clause → Clause → Type 0
 IsFirst ls seen before = each_first seen ls ≡ firsts before (filter not_out ls)
 
--- one more literal, where it is so for those behind it
+-- one more literal, where it is so for those after it
 module _ (l : Literal) (ls : Clause) (later : (seen before : Clause) → Alike seen before → IsFirst ls seen before) where
   of_seen : (seen before : Clause) → Alike seen before → nat_lt 0 (package_of l) ≡ true → (c : Bool) → contains_literal seen l ≡ c
       → (if not c then l ∷ each_first (seen ++ l ∷ []) ls else each_first (seen ++ l ∷ []) ls) ≡ (if c then firsts before (filter not_out ls) else l ∷ firsts (l ∷ before) (filter not_out ls))

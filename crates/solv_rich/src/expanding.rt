@@ -45,7 +45,7 @@ fn in_front(packs: &[PackNo], place: usize) -> &[PackNo]
     &packs[..place]
 }
 
-/// The packages behind a place.
+/// The packages after a place.
 fn behind(packs: &[PackNo], place: usize) -> &[PackNo]
     ensures { result.now ≡ drop (place + 1) packs.now }
 {

@@ -53,7 +53,7 @@ fn saturated_len(packs: &[PackNo]) -> u64
     (packs.len() as u64).min(65_537)
 }
 
-/// Puts "in" of each package behind what is said.
+/// Appends "in" of each package to what is said.
 fn put_ins(packs: &[PackNo], said: &mut Vec<Said>) -> Result<(), AllocError>
     ensures { OnOk result (map literal_of said.new.items ≡ map literal_of said.old.items ++ map is_in packs.now) }
 {
@@ -85,7 +85,7 @@ fn numbers_of(first: &Expansion<'_>, count: u64, second: &Expansion<'_>, number:
     (number / count, number % count)
 }
 
-/// Puts the literals of the clause of a number behind what is said.
+/// Appends the literals of the clause of a number to what is said.
 pub(crate) fn put_clause(
     expansion: &Expansion<'_>,
     number: u64,

@@ -14,7 +14,7 @@ use Rattle.solv_script.specs.Rounds.{tasks, with_jobs_of}
 use Rattle.solv_script.specs.declared.scripts.Script.{Script}
 use Rattle.solv_rounds.specs.Inner.Fronts.{IsDueAt, IsLimitAt, IsPreparedAt}
 
--- nothing is left behind the end
+-- nothing is left after the end
 pub rest_none : {A B : Type 0} (f : A → B) (xs : List A) (k : ℕ) → length xs ≤ k → drop k (map f xs) ≡ []
 rest_none f [] zero h = refl
 rest_none f [] (suc k) h = refl
@@ -28,7 +28,7 @@ first_passed task later fault e = ap (λ (o : Option BookFault). elim o [ Some f
 pub first_fits : (task : Task) (later : List Task) → first_fault (catalog_of task) 0 (hard_rules task) ≡ None → first_limit (task ∷ later) ≡ first_limit later
 first_fits task later e = ap (λ (o : Option BookFault). elim o [ Some f ↦ Some f | None ↦ first_limit later ]) e
 
--- the tasks of the rounds behind the first one
+-- the tasks of the rounds after the first one
 abbrev pub later_tasks : Script → List Task
 later_tasks script = map (with_jobs_of script.task) script.later
 
@@ -75,11 +75,11 @@ module _ (script : Script) (place : ℕ) where
       by (Some task) e (inl memory) = inl memory
       by (Some task) e (inr is) = inr (sym so_far ∙ ap first_limit (drop_get (later_tasks script) place task e) ∙ first_passed task (drop (place + 1) (later_tasks script)) fault is)
 
--- behind the last round
+-- after the last round
 pub no_limit : (script : Script) (place : ℕ) → length script.later ≤ place → first_limit (drop place (later_tasks script)) ≡ first_limit (later_tasks script) → None ≡ first_limit (later_tasks script)
 no_limit script place end so_far = sym (ap first_limit (rest_none (with_jobs_of script.task) script.later place end)) ∙ so_far
 
--- what is made tells that no limit is passed
+-- what is made shows that no limit is passed
 pub fits_at : (ts : List Task) (place : ℕ) (prepared : Prepared) → IsPreparedAt ts place prepared → IsLimitAt ts place None
 fits_at ts place prepared at = by (slice_get ts place) at
   where
@@ -124,7 +124,7 @@ memory_alone (task ∷ later) zero fault fits at = by at
     by (inr is) = absurd (let clash = sym fit ∙ is in cc)
 memory_alone (task ∷ later) (suc place) fault fits at = memory_alone later place fault (none_first task later (first_fault (catalog_of task) 0 (hard_rules task)) refl fits).1 at
 
--- the limits of the first round and of those behind it are those of all
+-- the limits of the first round and of those after it are those of all
 pub all_fit : (script : Script) → first_fault (catalog_of script.task) 0 (hard_rules script.task) ≡ None → None ≡ first_limit (later_tasks script) → first_limit (tasks script) ≡ None
 all_fit script first later = first_fits script.task (later_tasks script) first ∙ sym later
 

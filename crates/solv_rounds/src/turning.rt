@@ -1,4 +1,4 @@
-//! A round of a script in front.
+//! Brings a round of a script to the front.
 ghost use Rattle.std.specs.Prelude.{◌≡◌, ◌≤◌, length};
 ghost use Rattle.solv_rounds.specs.Inner.Fronts.{in_front};
 

@@ -72,7 +72,7 @@ module _ (catalog : Catalog) where
       let two = neither_fault (rule_fault catalog before r) (first_fault catalog (before + own) (front ++ rest)) fits in
       ap (λ o. or_else o (first_fault catalog (before + own) front)) two.0 ∙ front_fits (before + own) front rest two.1
 
-  -- what stands behind the clauses of the first rules
+  -- what comes after the clauses of the first rules
   pub left_behind : (front rest all : List HardRule) (draft : Draft) → all ≡ front ++ rest → HasRules catalog front draft → IsDraft draft → AreLeft catalog rest all (length front) draft
   left_behind front rest all draft is has counted =
       let places : length front ≡ 0 + length front = omega arith in

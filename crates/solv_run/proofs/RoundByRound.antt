@@ -75,7 +75,7 @@ taken_alone command turn answered (Ok x) old new asked good whole took = record 
 }
 taken_alone command turn answered (Err e) old new asked good whole took = took
 
--- and so it is behind what is printed of it
+-- and so it is after what is printed of it
 pub taken_behind : {E : Type 0} (command : Command) (turn : Turn) (answered : Answered) (r : Result ⊤ E) (old mid new : Begun) → prints_lines command.output ≡ true → IsGoodAnswer turn.task old.left answered.answer answered.ledger
     → HasPrinted command.shows turn answered.answer old mid → OnOk r (HasTaken answered mid new) → OnOk r (IsOneMore command [] turn old new)
 taken_behind command turn answered (Ok x) old mid new plain good printed took = record {
@@ -94,7 +94,7 @@ taken_behind command turn answered (Ok x) old mid new plain good printed took = 
 }
 taken_behind command turn answered (Err e) old mid new plain good printed took = took
 
--- a round behind the line before it
+-- a round after the line before it
 pub behind_next : {T E : Type 0} (command : Command) (turn : Turn) (r : Result T E) (old mid new : Begun) → HasNext command old mid → OnOk r (IsOneMore command [] turn mid new) → OnOk r (IsOneMore command (codes "nextjob" ∷ []) turn old new)
 behind_next command turn (Ok x) old mid new next more = record {
   answer = more.answer;
@@ -232,7 +232,7 @@ spent_begun command ts us later_tasks later_turns begun has spent = record {
   whole = has.whole;
 }
 
--- an element at its place, and the rest behind it
+-- an element at its place, and the rest after it
 rest_at : {A B : Type 0} (f : A → B) (xs : List A) (k : ℕ) (x : A) → slice_get xs k ≡ Some x → drop k (map f xs) ≡ f x ∷ drop (suc k) (map f xs)
 rest_at f [] k x e = absurd (cc)
 rest_at f (y ∷ ys) zero x e = ap (λ z. f z ∷ map f ys) (ap (λ o. unwrap_or o y) e)
@@ -287,7 +287,7 @@ module _ (command : Command) (script : Script) (place : ℕ) (within : place < l
       subst (λ (n : ℕ). LeftOf n new) up
       (next_begun command (tasks script) (turns script) (turn_of script o) (drop (suc place) later_ts) (drop (suc place) later_us) old new first calm ((of_next old new is).one_more calm))
 
-  -- and what is begun behind it, or all that there will be
+  -- and what is begun after it, or all that there will be
   pub turn_goes : (old new : Begun) → (old.spent ≡ false → LeftOf place old) → (old.spent ≡ true → AreAll command (tasks script) (turns script) old) → IsNext old new
       → (new.spent ≡ false → LeftOf (place + 1) new) × (new.spent ≡ true → AreAll command (tasks script) (turns script) new)
   turn_goes old new calm ended is = by old.spent refl
@@ -300,7 +300,7 @@ module _ (command : Command) (script : Script) (place : ℕ) (within : place < l
           let has : LeftOf (place + 1) new = turn_more old new (calm e) e is in
           ((λ n. has), λ n. spent_begun command (tasks script) (turns script) (drop (place + 1) (map (with_jobs_of script.task) script.later)) (drop (place + 1) (map (turn_of script) script.later)) new has n)
 
--- behind the last round
+-- after the last round
 pub turns_end : (command : Command) (script : Script) (place : ℕ) (begun : Begun) → length script.later ≤ place
     → HasBegun command (tasks script) (turns script) (drop place (map (with_jobs_of script.task) script.later)) (drop place (map (turn_of script) script.later)) begun → AreAll command (tasks script) (turns script) begun
 turns_end command script place begun h has =

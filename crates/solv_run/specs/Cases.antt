@@ -30,8 +30,8 @@ module _ (command : Command) (input : Input) where
   abbrev pub AreProved : List Answer → Type 0
   AreProved answers = (script : Script) → input ≡ of_script script → command.output ≡ output.Proofs → HasProofs answers
 
-  -- What is due for an input, and what is reported of it: nothing, where the clauses of a task pass a limit, the first of which is told, by the packages that all
-  -- tasks share; and else an answer to each task, within the budget of the words, with what is due for these answers.
+  -- What is due for an input, and what is reported of it: nothing, where the clauses of a task pass a limit, the first of which is reported, by the packages that
+  -- all tasks share; and else an answer to each task, within the budget of the words, with what is due for these answers.
   pub data IsDueFor : Due → Reached → Type 0 where
     passes_limit : (task : Task) (later : List Task) (fault : BookFault) → tasks_of command input ≡ task ∷ later → first_limit (tasks_of command input) ≡ Some fault → IsDueFor (limit_due program task fault) nothing_reached
     has_answers : (reached : Reached) → first_limit (tasks_of command input) ≡ None → AreAnswers command.budget (tasks_of command input) reached.answers reached.ledgers

@@ -1,4 +1,4 @@
-//! What a run comes to.
+//! The outcome of a run: its output, and the answers that it reports.
 ghost use Rattle.std.specs.Prelude.{◌≡◌, ◌&&◌, ◌∷◌, ◌++◌, [], Bool, IfOk, OnOk};
 ghost use Rattle.solv_run.specs.Cases.{nothing_reached};
 ghost use Rattle.solv_run.specs.Inner.ByOutput.{one_reached};
@@ -22,7 +22,7 @@ pub struct Conclusion {
     pub reached: Reached,
 }
 
-/// The status of answers: whether the budget was spent, and else whether all is as it is wanted.
+/// The status of answers: whether the budget was spent, and else whether all is as the script expects.
 pub(crate) fn status_of(spent: bool, as_wanted: bool) -> Status
     ensures { result ≡ status_of spent as_wanted }
 {
@@ -69,7 +69,7 @@ pub(crate) fn with_answer(
 }
 
 impl Reached {
-    /// Puts one answer more, with what was learnt for it.
+    /// Appends an answer, with what was learnt for it.
     pub(crate) fn push(&mut self, answered: Answered) -> Result<(), AllocError>
         ensures { OnOk result (self.new ≡ record { answers = self.old.answers ++ answered.answer ∷ []; ledgers = self.old.ledgers ++ answered.ledger ∷ [] }) }
     {

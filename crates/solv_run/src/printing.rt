@@ -101,7 +101,7 @@ fn append_signed(
     Ok(())
 }
 
-/// How lines differ from those that are wanted.
+/// How lines differ from those that are expected.
 fn differing_lines(
     alloc: Global,
     wanted: &LineSet,

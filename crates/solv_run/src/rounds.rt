@@ -50,7 +50,7 @@ fn left_by(left: u32, answered: &Answered) -> u32
 }
 
 impl Begun {
-    /// Takes in what is printed of the first round of a script.
+    /// Adds what is printed of the first round of a script.
     pub(crate) fn print(
         &mut self,
         alloc: Global,
@@ -72,7 +72,7 @@ impl Begun {
         Ok(())
     }
 
-    /// Takes in an answer.
+    /// Adds an answer.
     pub(crate) fn take(&mut self, answered: Answered) -> Result<(), AllocError>
         ensures taken { OnOk result (HasTaken answered self.old self.new) }
         ensures left { self.new.left ≤ self.old.left }
@@ -83,7 +83,7 @@ impl Begun {
     }
 }
 
-/// Answers the first round of a script, behind those before.
+/// Answers the first round of a script, after those before.
 pub(crate) fn answer_round(
     alloc: Global,
     command: &Command,
@@ -131,7 +131,7 @@ pub(crate) fn answer_with<'a>(
     Ok(prepared)
 }
 
-/// Puts the line before a later round at the end of the text, where lines are asked for.
+/// Appends the line before a later round to the text, where lines are asked for.
 fn print_next(command: &Command, begun: &mut Begun) -> Result<(), AllocError>
     ensures { OnOk result (HasNext command.now begun.old begun.new) }
 {
@@ -142,7 +142,7 @@ fn print_next(command: &Command, begun: &mut Begun) -> Result<(), AllocError>
 }
 
 /// Answers the first round of a script with the line before a later round, where the budget is not spent yet.
-fn answer_behind<'a>(
+fn answer_after<'a>(
     alloc: Global,
     command: &Command,
     script: &Script,
@@ -165,8 +165,8 @@ fn answer_behind<'a>(
     answer_with(alloc, command, script, prepared, begun)
 }
 
-/// Prepares the first round of a script behind another, and answers it, where the budget is not spent yet; or tells the first limit that its
-/// clauses pass.
+/// Prepares the first round of a script after another, and answers it, where the budget is not spent yet; or reports the first limit that
+/// its clauses pass.
 fn next_round<'a>(
     alloc: Global,
     command: &Command,
@@ -188,14 +188,14 @@ fn next_round<'a>(
         Ok(prepared) => prepared,
         Err(fault) => return Err(fault),
     };
-    match answer_behind(alloc, command, script, prepared, begun) {
+    match answer_after(alloc, command, script, prepared, begun) {
         Ok(prepared) => Ok(prepared),
         Err(_) => Err(BookFault::Memory),
     }
 }
 
-/// Prepares the later round at this place, and answers it, where the budget is not spent yet; or tells the first limit that its clauses pass. The
-/// script is as before.
+/// Prepares the later round at this place, and answers it, where the budget is not spent yet; or reports the first limit that its clauses pass.
+/// The script is as before.
 fn later_round<'a>(
     alloc: Global,
     command: &Command,
@@ -222,8 +222,8 @@ fn later_round<'a>(
     prepared
 }
 
-/// Prepares the later rounds of a script in turn, and answers them until one spends the budget; or tells the first limit that the clauses of one pass,
-/// whatever was answered before. The script is as before.
+/// Prepares the later rounds of a script in turn, and answers them until one spends the budget; or reports the first limit that the clauses of one
+/// pass, whatever was answered before. The script is as before.
 pub(crate) fn later_rounds(
     alloc: Global,
     command: &Command,

@@ -171,7 +171,8 @@ pub(crate) fn none_begun(alloc: Global, budget: u32) -> Begun
     }
 }
 
-/// Answers a script whose first round is prepared. A limit that the clauses of a later round pass is told, whatever was answered before.
+/// Answers a script whose first round is prepared. A limit that the clauses of a later round pass is reported, whatever was answered
+/// before.
 fn rounds_due(
     alloc: Global,
     command: &Command,
@@ -235,7 +236,7 @@ fn solved_due(
     }
 }
 
-/// Lets the tables go that found each text and relation of a script while it was read. An answer asks for them by number alone.
+/// Frees the tables by which each text and relation of a script was found while it was read. An answer asks for them by number alone.
 fn close_pool(script: &mut Script)
     ensures { script.new ≡ script.old }
 {

@@ -271,7 +271,7 @@ asked_by_unread named files program due (stopped file bytes name is h) =
     (let P : List (List ℕ) → Type 0 = λ names. AreFetched files names h.fetched in subst P (sym (front_fetched h.fetched h.before name h.are.each)) h.are) (few_front h.fetched h.before name h.are.each) h.due
 asked_by_unread named files program due (refused file bytes fetched b is h bad) = all_asked named files file bytes fetched is h
 
--- where the files tell what they hold, that is what was fetched
+-- where the files expose their contents, that is what was fetched
 pub told_alike : (named : Option (List ℕ)) (files : FilesRun) (file bytes c : List ℕ) (fetched f : List (List ℕ)) (held : List ℕ → Option (List ℕ)) → files.contents ≡ Some held
     → IsNamed named files file bytes → HasAskedAll named files file bytes f → HoldScript held file c fetched → script_read file f bytes ≡ script_read file fetched c
 told_alike named files file bytes c fetched f held told is all holds =

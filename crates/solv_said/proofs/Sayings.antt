@@ -1,4 +1,4 @@
--- What the status of a run tells of what was due, and of what was said.
+-- What the status of a run says of what was due, and of what was printed.
 use Rattle.std.proofs.Common.{◌≡◌, ◌≢◌, ◌<◌, ◌⊎◌, Bool, true, false, sym, ◌∙◌, arith, inl, inr}
 use Rattle.solv_io.specs.declared.status.Status.{Status}
 use Rattle.solv_io.specs.declared.status.Status.TheVariants as status

@@ -1,4 +1,4 @@
--- What the status of a run tells where no script was read.
+-- What the status of a run says where no script was read.
 use Rattle.std.proofs.Common.{ℕ, ◌≡◌, ◌≢◌, ◌<◌, List, [], ◌∷◌, Option, Some, refl, sym, ◌∙◌, arith}
 use Rattle.solv_io.specs.declared.status.Status.{Status}
 use Rattle.solv_io.specs.declared.status.Status.TheVariants as status

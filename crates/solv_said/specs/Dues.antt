@@ -1,4 +1,4 @@
--- What is due at the end of a run, where programs share it: a status, and one line on `err` behind the program's name.
+-- What is due at the end of a run, where programs share it: a status, and one line on `err` after the program's name.
 use Rattle.std.specs.Prelude.{ℕ, List, [], ◌++◌, codes}
 use Rattle.std.specs.Fmt.{decimal}
 use Rattle.solv_io.specs.declared.status.Status.{Status}

@@ -9,7 +9,7 @@ use Rattle.solv_said.specs.Dues.{read_fault_due, bad_line_due}
 use Rattle.solv_said.specs.declared.dues.Due.{Due}
 
 module _ (named : Option (List ℕ)) (files : FilesRun) where
-  -- this file is named, which holds these bytes where the files tell what they hold
+  -- this file is named, which holds these bytes where the files expose their contents
   pub record IsNamed (file bytes : List ℕ) : Type 0 where
     pub is_named : named ≡ Some file
     pub holds : IfSome files.contents (λ held. held file ≡ Some bytes)

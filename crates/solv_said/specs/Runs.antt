@@ -7,18 +7,18 @@ use Rattle.solv_io.specs.declared.status.Status.TheVariants as status
 use Rattle.solv_script.specs.FileRuns.{FilesRun}
 use Rattle.solv_said.specs.declared.dues.Due.{Due}
 
--- a sink before and after a run: the bytes written, where it tells them, and its count of faults
+-- a sink before and after a run: the bytes written, where it exposes them, and its count of faults
 pub record SinkRun : Type 0 where
   pub before : Option (List ℕ)
   pub after : Option (List ℕ)
   pub faults_before : ℕ
   pub faults_after : ℕ
 
--- the same by what a kind of sink tells
+-- the same by what a kind of sink exposes
 abbrev pub sink_run : {S : Type 0} → (S → Option (List ℕ)) → (S → ℕ) → S → S → SinkRun
 sink_run written faults old new = record { before = written old; after = written new; faults_before = faults old; faults_after = faults new }
 
--- files before and after a run, by what their kind tells: what they hold, the names asked for, and the count of faults
+-- files before and after a run, by what their kind exposes: what they hold, the names asked for, and the count of faults
 abbrev pub files_run : {F : Type 0} → (F → Option (List ℕ → Option (List ℕ))) → (F → Option (List (List ℕ))) → (F → ℕ) → F → F → FilesRun
 files_run contents asked faults old new = record { contents = contents old; asked_before = asked old; asked_after = asked new; faults_before = faults old; faults_after = faults new }
 

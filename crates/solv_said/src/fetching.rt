@@ -30,7 +30,7 @@ fn read_fault(alloc: Global, file: &str) -> ScriptFault
     }
 }
 
-/// Reads the script that has these bytes, and lets them go.
+/// Reads the script that has these bytes, and frees them.
 fn read_fetched<F: Files>(
     alloc: Global,
     file: &str,

@@ -1,4 +1,4 @@
-//! What is due is said on the sinks.
+//! Writes a run's output to its two sinks.
 ghost use Rattle.std.specs.Prelude.{◌≡◌, ◌⊎◌, ℕ, true, List, Option, IfOk, OnErr};
 ghost use Rattle.solv_said.specs.Inner.Parts.{IsSaidInPart};
 ghost use Rattle.solv_said.specs.Runs.{IsSaid, SinkRun, sink_run};

@@ -34,7 +34,7 @@ pub fn bad_line_text(
     format!(in alloc; "{program}: {file}:{line}: {cause}\n")
 }
 
-/// The words behind the package of a dependency that gives too many clauses.
+/// The words after the package of a dependency that gives too many clauses.
 fn too_rich_text(alloc: Global, count: u64) -> Result<String, AllocError>
     ensures { IfOk result (λ text. string_bytes text ≡ codes ": TooRich " ++ (decimal count ++ codes "\n")) }
 {

@@ -1,5 +1,5 @@
 //! The program `solv_script_tests`: runs the scripts that its arguments name, each as `testsolv` does, those of the folder `shown` as `testsolv -r`,
-//! those of `proved` as `testsolv --proof` and those of `written` as `testsolv --write`. A line with its status and its name stands behind what each
+//! those of `proved` as `testsolv --proof` and those of `written` as `testsolv --write`. A line with its status and its name comes after what each
 //! prints, which is nothing where it carries the lines that it expects and gets them. What is printed for the scripts of `data/` is compared with the
 //! file `stdout`.
 #![tactic(auto)]
@@ -34,7 +34,7 @@ fn command_line(alloc: Global, name: &str) -> Result<Vec<String>, AllocError> {
     Ok(words)
 }
 
-/// Runs a script, with both of its streams on standard output, and tells its status.
+/// Runs a script, with both of its streams on standard output, and reports its status.
 fn run_script(rt: &HostRuntime, name: &str) -> io::Result<()> {
     let words = command_line(rt.alloc(), name)?;
     let mut files = RealFiles { rt, faults: 0 };

@@ -1,4 +1,4 @@
--- What is held behind calls that build.
+-- What is held after calls that build.
 use Rattle.std.proofs.Common.{◌≡◌, ◌∙◌, ℕ, true, false, List, None, Some, Result, Ok, Err, inl, inr, refl, sym, subst}
 use Rattle.std.specs.Prelude.{IfErr}
 use Rattle.std.specs.Result.{IsOk, OnErr, OnOk}
@@ -35,7 +35,7 @@ use Rattle.solv_solved.specs.declared.outcomes.Held.TheVariants.{Answered, Refus
 pub as_before : (task : Task) → IsAsBefore task task
 as_before task = record { task = refl; grows = Grows-itself task.pool }
 
--- how a call ended that is told is how the task was given what the call gives
+-- how a call ended that is reported is how the task was given what the call gives
 pub given_told : {A : Type 0} (name : List ℕ) (call : State → Result State DraftFault) (task : Task) (new : Opened) (ended : Result A DraftFault) (said : List ℕ) (how : Given) → IsTold name ended said how → new.said ≡ said
     → OnOk ended (call (drawn task) ≡ Ok (drawn new.draft.task)) → IfErr ended (λ f. IsFault f (call (drawn task))) → OnErr ended (IsAsBefore task new.draft.task) → IsGiven name call task new how
 given_told name call task new (Ok x) said given.Done told is gives fault same = done gives (is ∙ told)
@@ -48,12 +48,12 @@ pub as_before_same : {A : Type 0} (task new : Task) (ended : Result A DraftFault
 as_before_same task new (Ok x) same = tt
 as_before_same task new (Err f) same = subst (λ (t : Task). IsAsBefore task t) (sym same) (as_before task)
 
--- where nothing is told, nothing was given
+-- where nothing is reported, nothing was given
 pub untold : {A E : Type 0} (P : Type 0) (ended : Result A E) → (IsOk ended → false ≡ true) → OnErr ended P → P
 untold P (Ok x) none h = let no = none refl in absurd (cc)
 untold P (Err f) none h = h
 
--- a limit that is due, and is told, is what is found
+-- a limit that is due, and is reported, is what is found
 pub limit_found : (task : Task) (limit : BookFault) (said : List ℕ) → IsDue (first_fault (catalog_of task) 0 (hard_rules task)) limit → IsLimitSaid task limit said → IsFoundLimit task said
 limit_found task Memory said due told = absurd told
 limit_found task limit said (inl e) told = absurd (cc)
@@ -81,7 +81,7 @@ nothing_found budget (Answered solved) is = absurd is
 nothing_found budget (Open opened) is = absurd is
 nothing_found budget (Refused due) is = no_task due
 
--- what is held of the task is what is held behind the call; a task that has an answer passes no limit
+-- what is held of the task is what is held after the call; a task that has an answer passes no limit
 pub task_solved : (budget : ℕ) (old new : Held) (task : Task) (how : Again) → task_of old ≡ Some task → IsSolveOf budget task new how → IsTaskSolved budget old new how
 task_solved budget old _ task _ same (answer_of new is) = answered old task new same is
 task_solved budget (Refused due) _ task _ same (limit_of new limit passed is told) = absurd (cc)

@@ -46,8 +46,8 @@ IsEmptyHeld (Open opened) = IsEmpty opened
 abbrev pub script_of : Task → Script
 script_of task = record { task = task; kinds = default_kinds; wanted = None; checks = []; later = [] }
 
--- A task is given what a call gives. Or the first bad line of the call's text is refused, which is told under the call's name; or a number names nothing. Then the
--- task is as it was.
+-- A task is given what a call gives. Or the first bad line of the call's text is refused, which is reported under the call's name; or a number names nothing. Then
+-- the task is as it was.
 pub data IsGiven (name : List ℕ) (call : State → Result State DraftFault) (task : Task) (new : Opened) : Given → Type 0 where
   done : call (drawn task) ≡ Ok (drawn new.draft.task) → new.said ≡ [] → IsGiven name call task new Done
   refused : (line : ℕ) (cause : Cause) → call (drawn task) ≡ Err (fault.Refused line cause) → IsAsBefore task new.draft.task → new.said ≡ line_at program name line (cause_name cause) → IsGiven name call task new Refuses
@@ -70,8 +70,8 @@ IsStill (Refused old) (Refused new) = new ≡ old
 IsStill (Open old) (Open new) = IsStillOpen old new
 IsStill old new = ⊥
 
--- What is held is answered within the budget: a task has an answer then, in place of any before it. Or the clauses of a task without an answer pass a limit, which is told;
--- one with an answer passes none. A refusal has no task, and stays.
+-- What is held is answered within the budget: a task has an answer then, in place of any before it. Or the clauses of a task without an answer pass a limit, which is
+-- reported; one with an answer passes none. A refusal has no task, and stays.
 pub data IsTaskSolved (budget : ℕ) : Held → Held → Again → Type 0 where
   answered : (old : Held) (task : Task) (new : Solved) → task_of old ≡ Some task → IsSolved budget (script_of task) new → IsTaskSolved budget old (Answered new) ended.Answered
   passes : (old new : Opened) (limit : BookFault) → first_fault (catalog_of old.draft.task) 0 (hard_rules old.draft.task) ≡ Some limit → new.draft.task ≡ old.draft.task → new.said ≡ limit_line program old.draft.task limit

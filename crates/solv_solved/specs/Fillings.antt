@@ -13,12 +13,12 @@ abbrev pub filled_where : {A : Type 0} → Option (List A) → List A → List A
 filled_where None room = room
 filled_where (Some items) room = filled items room
 
--- how long the list is, or else what was told before
+-- how long the list is, or else what was reported before
 abbrev pub length_where : {A : Type 0} → Option (List A) → ℕ → ℕ
 length_where None before = before
 length_where (Some items) before = length items
 
--- a number, or else what was told before
+-- a number, or else what was reported before
 abbrev pub number_where : Option ℕ → ℕ → ℕ
 number_where None before = before
 number_where (Some number) before = number

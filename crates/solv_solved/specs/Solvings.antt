@@ -40,7 +40,8 @@ pub data IsHeldOf (name : List ℕ) (files : FilesRun) (budget : ℕ) : Held →
   was_read : (script : Script) (held : Held) → WasFetched (Some name) files script → IsHeldFor budget script held → IsHeldOf name files budget held
   unread : (due : Due) → IsUnreadDue (Some name) files program due → IsHeldOf name files budget (Refused due)
 
--- files that a caller lends, over a run that asks for these names, and in which so many fetches fail: they tell what they hold, and what was asked for
+-- files that a caller lends, over a run that asks for these names, and in which so many fetches fail: they expose their contents, and the names asked
+-- for
 abbrev pub lent_files : List LentFile → List (List ℕ) → ℕ → FilesRun
 lent_files files names faults = record { contents = Some (lent_bytes files); asked_before = Some []; asked_after = Some names; faults_before = 0; faults_after = faults }
 
@@ -56,7 +57,8 @@ NamesTheMissing files (Answered solved) = ⊤
 NamesTheMissing files (Open opened) = ⊤
 NamesTheMissing files (Refused due) = due.status ≡ ReadFault → IsMissingFile files due.err
 
--- What the script of this name comes to, among files that a caller lends. Where a file cannot be read, it is one that is not lent, and its name is told.
+-- What the script of this name comes to, among files that a caller lends. Where a file cannot be read, it is one that is not lent, and its name is
+-- reported.
 pub record IsHeldOfLent (files : List LentFile) (name : List ℕ) (budget : ℕ) (held : Held) : Type 0 where
   pub names : List (List ℕ)
   pub faults : ℕ

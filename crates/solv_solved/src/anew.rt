@@ -29,8 +29,8 @@ pub enum Again {
 }
 
 impl Solved {
-    /// Answers the task with these flags and jobs in place of its own, over its index; or tells the first limit that its clauses pass, and then nothing
-    /// changes.
+    /// Answers the task with these flags and jobs in place of its own, over its index; or reports the first limit that its clauses pass, and then
+    /// nothing changes.
     fn answer_again(
         &mut self,
         alloc: Global,

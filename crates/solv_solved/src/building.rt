@@ -101,7 +101,7 @@ impl Opened {
 }
 
 impl Solved {
-    /// Gives the task what a call gives, or says why not, and lets its answer go then. Where memory runs out the answer stays.
+    /// Gives the task what a call gives, or says why not, and drops its answer then. Where memory runs out the answer stays.
     fn build(self, alloc: Global, call: &Call<'_>) -> (Held, Result<Given, AllocError>)
         ensures built { IfOk result.1 (IsBuilt (call_name call.now) (given call.now) (Answered self) result.0) }
         ensures same { OnErr result.1 (IsStill (Answered self) result.0) }
@@ -223,7 +223,7 @@ impl Held {
         Held::Open(Opened::empty(alloc))
     }
 
-    /// Takes the task out, whose answer is let go. A refusal has none, and stays.
+    /// Takes the task out and drops its answer. A refusal has no task, and stays.
     fn take_task(&mut self, alloc: Global) -> Option<Opened>
         ensures task { option_map (λ opened. opened.draft.task) result ≡ task_of self.old }
         ensures stays { task_of self.old ≡ None → self.new ≡ self.old }
@@ -241,8 +241,8 @@ impl Held {
         }
     }
 
-    /// Gives the task that is held what a call gives, or says why not, and then the task is as it was. Its answer is let go, but where memory runs out
-    /// all stays.
+    /// Gives the task that is held what a call gives, or says why not, and then the task is as it was. Its answer is dropped, but where memory runs
+    /// out all stays.
     pub fn build(&mut self, alloc: Global, call: &Call<'_>) -> Result<Given, AllocError>
         ensures built { IfOk result (IsBuilt (call_name call.now) (given call.now) self.old self.new) }
         ensures same { OnErr result (IsStill self.old self.new) }

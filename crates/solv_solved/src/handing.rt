@@ -7,8 +7,8 @@ use crate::filling::{fill, fill_packs};
 use crate::outcomes::Held;
 
 impl Held {
-    /// Copies the first packages of the cycle of this number, as many as there is room for, and tells how many it has. Where the number names none,
-    /// nothing is written.
+    /// Copies the first packages of the cycle of this number, as many as there is room for, and reports how many it has. Where the number names
+    /// names none, nothing is written.
     pub fn read_cycle(&self, pre: bool, cycle: usize, into: &mut [u32], count: &mut usize) -> bool
         ensures named { result ≡ is_some (cycle_of pre self.now cycle) }
         ensures copied { into.new ≡ filled_where (cycle_of pre self.now cycle) into.old }
@@ -24,8 +24,8 @@ impl Held {
         }
     }
 
-    /// Copies the first rules of the problem of this number, as many as there is room for, and tells how many it has. Where the number names
-    /// none, nothing is written.
+    /// Copies the first rules of the problem of this number, as many as there is room for, and reports how many it has. Where the number
+    /// names none, nothing is written.
     pub fn read_problem_rules(&self, problem: usize, into: &mut [usize], count: &mut usize) -> bool
         ensures named { result ≡ is_some (problem_rules self.now problem) }
         ensures copied { into.new ≡ filled_where (problem_rules self.now problem) into.old }
@@ -41,7 +41,7 @@ impl Held {
         }
     }
 
-    /// Tells how many solutions the problem of this number has.
+    /// Reports how many solutions the problem of this number has.
     pub fn read_solution_count(&self, problem: usize, count: &mut usize) -> bool
         ensures named { result ≡ is_some (solution_count self.now problem) }
         ensures told { count.new ≡ number_where (solution_count self.now problem) count.old }

@@ -12,8 +12,8 @@
 //! - [`fill`], [`fill_packs`] and [`fill_changes`]: copy the first items of a list, as many as there is room for. [`PackChange`] is a
 //!   change as C lays it out, and [`RuleRow`] a rule.
 //!
-//! `specs/Building` says what calls build, `specs/Solvings` what is held after a script was read, `specs/Readings` what each method lends, `specs/RuleRows` what is told of
-//! rules, `specs/Texts` each text, `specs/Proofs` what holds of a problem's proof, and `specs/Fillings` what is copied.
+//! `specs/Building` says what calls build, `specs/Solvings` what is held after a script was read, `specs/Readings` what each method lends, `specs/RuleRows` what is
+//! reported of rules, `specs/Texts` each text, `specs/Proofs` what holds of a problem's proof, and `specs/Fillings` what is copied.
 #![tactic(auto)]
 
 mod anew;

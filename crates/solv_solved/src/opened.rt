@@ -1,4 +1,4 @@
-//! A task that calls build.
+//! A task that is built by calls.
 use solv_draft::Draft;
 use solv_list::Bytes;
 

@@ -1,4 +1,4 @@
-//! What a script comes to, or calls.
+//! The outcome of a script, or of calls that build a task.
 use crate::opened::Opened;
 use crate::with_answer::Solved;
 use solv_said::Due;

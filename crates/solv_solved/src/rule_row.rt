@@ -1,7 +1,7 @@
 //! A rule, as C lays it out.
 
 /// A rule, as C lays it out: its kind, the package that it is about, that package's dependency, the other package, and the job that asks for
-/// it. What its kind has not is 0.
+/// it. What its kind lacks is 0.
 #[repr(C)]
 #[derive(Clone, Copy)]
 pub struct RuleRow {

@@ -138,8 +138,8 @@ impl Held {
         }
     }
 
-    /// Copies the first packages that the hard rule of this number carries, as many as there is room for, and tells how many it has. Where the number
-    /// names none, nothing is written.
+    /// Copies the first packages that the hard rule of this number carries, as many as there is room for, and reports how many it has. Where the
+    /// number names none, nothing is written.
     pub fn read_rule_packs(&self, rule: usize, into: &mut [u32], count: &mut usize) -> bool
         ensures named { result ≡ is_some (packs_of_rule self.now rule) }
         ensures copied { into.new ≡ filled_where (packs_of_rule self.now rule) into.old }

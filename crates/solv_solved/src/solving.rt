@@ -175,7 +175,7 @@ fn held_for_fault(alloc: Global, fault: ScriptFault) -> Result<Held, AllocError>
     Ok(Held::Refused(fault_due(alloc, PROGRAM, fault)?))
 }
 
-/// Reads the script in a file, and answers its first round, whatever rounds are behind it.
+/// Reads the script in a file, and answers its first round, whatever rounds follow it.
 pub fn solve_script<F: Files>(
     alloc: Global,
     file: &str,

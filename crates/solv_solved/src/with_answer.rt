@@ -42,7 +42,7 @@ impl Drop for Solved {
 }
 
 impl Solved {
-    /// The task. Its answer is let go.
+    /// The task. Its answer is dropped.
     pub(crate) fn into_task(self) -> Task
         ensures task { result ≡ self.script.task }
         ensures closed { IsClosed result }

@@ -19,7 +19,7 @@ abbrev pub lines_all : Tagged → List (List ℕ) → Result Tagged TagCause
 lines_all s [] = Ok s
 lines_all s (line ∷ lines) = then_lines (line_read s line) (λ t. lines_all t lines)
 
--- lines behind others
+-- lines after others
 pub all_behind : (P Q : Tagged → Type 0) (xs ys : List (List ℕ)) (s : Tagged) → IsOkAnd (lines_all s xs) P → ((t : Tagged) → P t → IsOkAnd (lines_all t ys) Q) → IsOkAnd (lines_all s (xs ++ ys)) Q
 all_behind P Q [] ys s h k = k s h
 all_behind P Q (x ∷ xs) ys s h k = on (line_read s x) h (λ t g. all_behind P Q xs ys t g k)

@@ -65,7 +65,7 @@ count_so_far r pool universe reading =
     let before = reading.before in
     omega (arith, both, front, behind, one, before)
 
--- the universe with the package in hand behind the others is of the pool
+-- the universe with the package in hand after the others is of the pool
 hand_fits : (r : TagReader) (pool : Held) (count : ℕ) (hand : Option Package) → IsHand pool r.repo hand → r.repo < count
     → list_all (fits (length pool.names) (length pool.nodes) count) (option_to_list hand) ≡ true
 hand_fits r pool count None h k = refl
@@ -192,7 +192,7 @@ pub open_ended : (r : TagReader) (pool : Held) (universe : Contents) (line : Lis
     → opens_block (option_map (written_package pool) r.hand) (tag (letters line)) ≡ Some c → IsCause c (outside_block (tagged_of r pool universe) line)
 open_ended r pool universe line c entry opening opens = cause_itself c (outside_block (tagged_of r pool universe) line) (rw (entry, opening, opens) refl)
 
--- packages behind packages
+-- packages after packages
 pub more_more : (a b c : Contents) → HasMore a b → HasMore b c → HasMore a c
 more_more a b c first second = record {
   added = first.added ++ second.added;

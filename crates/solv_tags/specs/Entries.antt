@@ -22,15 +22,15 @@ is_same (under_else i a b e) (under_else j c d f) = is_same_operator (conditions
 is_same missing missing = true
 is_same a b = false
 
--- the test tells dependencies apart exactly where they are not equal
+-- the test distinguishes dependencies exactly where they are not equal
 abbrev pub SameIsEqual : Type 0
 SameIsEqual = (a b : Dep (List ℕ)) → is_same a b ≡ true ↔ a ≡ b
 
--- a list with a dependency, which stands in it once, at its first place
+-- the list with the dependency, added if it is new
 abbrev pub with_dependency : Dep (List ℕ) → List (Dep (List ℕ)) → List (Dep (List ℕ))
 with_dependency d entries = if list_any (is_same d) entries then entries else entries ++ d ∷ []
 
--- a list with a requirement, which stands in it once, at its first place, and is due before the install where that was said once
+-- the list with the requirement, added if it is new; it is a pre-requirement if any of its entries was
 abbrev pub with_need : Dep (List ℕ) → Bool → List WrittenNeed → List WrittenNeed
 with_need d pre needs =
     if list_any (λ need. is_same d need.dep) needs

@@ -84,7 +84,7 @@ entry s name text =
     if bytes_eq name (codes "Pkg") then package_entry s (words_of text)
     else elim (find (λ row. bytes_eq name row.0) entries) [ None ↦ Ok s | Some row ↦ elim s.hand [ None ↦ Err cause.TagBeforePackage | Some a ↦ row.1 s a text ] ]
 
--- a line outside a block: behind `=` (61) an entry, behind `+` (43) the opening of a block, which wants a package in hand if its entries do
+-- a line outside a block: after `=` (61) an entry, after `+` (43) the opening of a block, which wants a package in hand if its entries do
 abbrev pub outside_block : Tagged → List ℕ → Result Tagged TagCause
 outside_block s line =
     if is_heading 61 line then entry s (letters line) (drop 5 line)
@@ -92,7 +92,7 @@ outside_block s line =
     then (if is_none s.hand && list_any (λ row. bytes_eq (letters line) row.0) entries then Err cause.TagBeforePackage else Ok (record s { block = Some (letters line) }))
     else Ok s)
 
--- a line in a block: behind `-` (45) its closing, which has its letters, or else an entry, which is the whole line; a blank one says nothing
+-- a line in a block: after `-` (45) its closing, which has its letters, or else an entry, which is the whole line; a blank one says nothing
 abbrev pub inside_block : Tagged → List ℕ → List ℕ → Result Tagged TagCause
 inside_block s name line =
     if is_heading 45 line && bytes_eq (letters line) name then Ok (record s { block = None })
@@ -107,7 +107,7 @@ pub record Repository : Type 0 where
   pub held : Held
   pub packages : List WrittenPackage
 
--- what numbered lines give behind the line of this number, or the first bad line and its cause; at the end no block may be open
+-- what numbered lines give after the line of this number, or the first bad line and its cause; at the end no block may be open
 abbrev pub lines_read : ℕ → Tagged → List (ℕ × List ℕ) → Result Repository TagFault
 lines_read last s [] =
     if is_some s.block then Err (record { line = last; cause = cause.UnclosedBlock }) else Ok (record { held = s.held; packages = packages_so_far s })

@@ -1,4 +1,4 @@
-//! The entries of the package in hand: lists of ids in which each stands once.
+//! The entries of the package in hand: lists of distinct ids.
 ghost use Rattle.std.specs.Prelude.{◌≡◌, ◌==◌, ℕ, map, length, OnOk};
 ghost use Rattle.std.specs.List.{list_any};
 ghost use Rattle.solv_tags.specs.Inner.TagReading.{with_id, also_pre_id, with_need_id, with_entry_id};
@@ -23,7 +23,7 @@ fn has_name(names: &[NameId], name: NameId) -> bool
     names.iter().any(|other| name == *other)
 }
 
-/// Adds a relation, unless it stands there. The list is searched in turn.
+/// Adds a relation if it is new. The list is searched linearly.
 fn add_dep(deps: &mut Items<DepId>, dep: DepId) -> Result<(), AllocError>
     ensures { OnOk result (deps.new ≡ with_id dep deps.old) }
 {
@@ -33,7 +33,7 @@ fn add_dep(deps: &mut Items<DepId>, dep: DepId) -> Result<(), AllocError>
     deps.push(dep)
 }
 
-/// Adds a name, unless it stands there. The list is searched in turn.
+/// Adds a name if it is new. The list is searched linearly.
 pub(crate) fn add_name(names: &mut Items<NameId>, name: NameId) -> Result<(), AllocError>
     ensures { OnOk result (names.new ≡ with_id name names.old) }
 {
@@ -50,7 +50,7 @@ fn is_required(needs: &[Need], dep: DepId) -> bool
     needs.iter().any(|need| dep == need.dep)
 }
 
-/// A requirement that is due before the install where it is of this relation and that is said now.
+/// A requirement, which becomes a pre-requirement if it is of this relation and is said to be one now.
 fn also_pre(dep: DepId, pre: bool, need: Need) -> Need
     ensures { result ≡ also_pre_id dep pre need }
 {
@@ -64,7 +64,7 @@ fn also_pre(dep: DepId, pre: bool, need: Need) -> Need
     }
 }
 
-/// Says of the requirements of a relation that they are due before the install, where they are.
+/// Makes the requirements of a relation pre-requirements, where they are said to be.
 fn mark_needs(needs: &mut [Need], dep: DepId, pre: bool)
     ensures { needs.new ≡ map (also_pre_id dep pre) needs.old }
 {
@@ -73,7 +73,7 @@ fn mark_needs(needs: &mut [Need], dep: DepId, pre: bool)
     }
 }
 
-/// Adds a requirement, unless it stands there.
+/// Adds a requirement if it is new.
 fn add_need(needs: &mut Vec<Need>, dep: DepId, pre: bool) -> Result<(), AllocError>
     ensures { OnOk result (needs.new.items ≡ with_need_id dep pre needs.old.items) }
 {
@@ -85,7 +85,7 @@ fn add_need(needs: &mut Vec<Need>, dep: DepId, pre: bool) -> Result<(), AllocErr
     Ok(())
 }
 
-/// Adds a requirement of a package, unless it stands there.
+/// Adds a requirement of a package if it is new.
 fn require(alloc: Global, hand: &mut Package, dep: DepId, pre: bool) -> Result<(), AllocError>
     ensures { OnOk result (hand.new ≡ record hand.old { requires_ = with_need_id dep pre hand.old.requires_ }) }
 {
@@ -96,7 +96,7 @@ fn require(alloc: Global, hand: &mut Package, dep: DepId, pre: bool) -> Result<(
     Ok(())
 }
 
-/// Adds a relation to the list of a tag, unless it stands there.
+/// Adds a relation to the list of a tag if it is new.
 pub(crate) fn add_entry(
     alloc: Global,
     hand: &mut Package,

@@ -1,4 +1,4 @@
-//! The headings of testtags lines, and the texts behind them.
+//! The headings of testtags lines, and the texts after them.
 ghost use Rattle.std.specs.Prelude.{◌≡◌, ◌≤◌, length};
 ghost use Rattle.solv_tags.specs.Headings.{is_heading, letters, without_front_blanks, trimmed};
 ghost use Rattle.solv_tags.specs.Inner.Tags.{after_heading, tag, place_of, without_back_blanks};

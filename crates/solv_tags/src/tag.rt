@@ -7,7 +7,7 @@ pub enum Tag {
     Prv,
     /// A requirement.
     Req,
-    /// A requirement that is due before the package is installed.
+    /// A pre-requirement: it is due before the package is installed.
     Prq,
     /// A conflict.
     Con,

@@ -39,7 +39,7 @@ pub struct TagReader {
     pub(crate) block: Option<[u8; 3]>,
     /// The EVR of the package line that is read.
     pub(crate) evr: Vec<u8>,
-    /// The dependencies that were read a while ago.
+    /// The dependencies that were read recently.
     pub(crate) recent: Recent,
 }
 
@@ -256,7 +256,7 @@ impl TagReader {
         self.hand_entry(pool, tag, text)
     }
 
-    /// Reads an entry of what may be a tag. Others are passed over.
+    /// Reads an entry of what may be a tag. Other entries are ignored.
     fn entry_if_tag(
         &mut self,
         pool: &mut Pool,
@@ -340,8 +340,8 @@ impl TagReader {
         self.entry_if_tag(pool, universe, &name, line)
     }
 
-    /// Reads a line. After a refusal the reader is of no more use, and the universe may hold packages of this repository:
-    /// a cut to the count before takes them away.
+    /// Reads a line. After a refusal the reader cannot be used further, and the universe may hold packages of this repository:
+    /// truncating to the count before removes them.
     pub fn line(
         &mut self,
         pool: &mut Pool,
@@ -361,7 +361,7 @@ impl TagReader {
         }
     }
 
-    /// The end behind the line of this number, with which the reader goes. After a refusal the universe may hold packages of
+    /// The end after the line of this number, with which the reader goes. After a refusal the universe may hold packages of
     /// this repository, as after one of a line.
     pub fn end(self, universe: &mut Universe, last: u64) -> Result<(), TagFault>
         ensures ok { OnOk result ((pool : Held) → IsReading self pool universe.old → IsEnded self pool universe.old universe.new (end_read last (tagged_of self pool universe.old))) }

@@ -71,8 +71,8 @@ fn read_all(
     }
 }
 
-/// Reads a testtags file, the packages of a repository, into a universe: its packages stand behind the others, or the first
-/// bad line is refused and the universe is as before. Each dependency of the packages that are added has a form that may
+/// Reads a testtags file, the packages of a repository, into a universe: its packages come after the others, or the first
+/// bad line is refused and the universe is unchanged. Each dependency of the packages that are added has a form that may
 /// stand at its place, and what they conflict with has no condition. After a refusal the pool may hold more than before.
 pub fn read_testtags(
     pool: &mut Pool,

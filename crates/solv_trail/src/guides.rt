@@ -1,4 +1,4 @@
-//! Who chooses.
+//! Guides, which make the decisions of a search.
 ghost use Rattle.std.specs.Prelude.{◌≡◌, ◌<◌, ℕ, ℤ, Bool, true, List, Option, length, take, nat_lt};
 ghost use Rattle.std.specs.List.{list_all};
 ghost use Rattle.solv_pool.specs.Prelude.{is_fact};
@@ -9,7 +9,7 @@ ghost use Rattle.solv_trail.specs.declared.questions.Ask.{Ask};
 use crate::known::Known;
 use crate::questions::Ask;
 
-/// Chooses the next package, over clauses each of which has an owner, a rule that may be enabled or not.
+/// Decides which package is taken next, over clauses each of which has an owner, a rule that may be enabled or not.
 pub trait Guide {
     /// It is for these clauses, with their owners.
     ghost is_for: { Self → List (List ℤ) → List ℕ → Type 0 };
@@ -30,20 +30,20 @@ pub trait Guide {
     ghost keeps_law: { (g : Self) (count : ℕ) (clauses : List (List ℤ)) (owners : List ℕ) (enabled : List Bool) → is_for g clauses owners → is_for_packages g count → KeepsLaw count (enabled_clauses enabled clauses owners) (λ known. asks g known enabled) };
 }
 
-/// A guide that remembers what it found out, for as long as nothing is taken back: whoever asks it holds what is remembered.
-pub trait Recaller: Guide {
+/// A guide with a memory of what it found out. The memory is valid until an assignment is undone, and the caller owns it.
+pub trait Remembering: Guide {
     /// What is remembered.
     type Memory;
 
-    /// What is remembered serves where these literals are known, in this order.
+    /// What is remembered is valid where these literals are known, in this order.
     ghost serves: { Self → Self.Memory → List ℤ → Type 0 };
 
-    /// What is remembered, at what is known. It takes no memory.
+    /// Lends what is remembered, valid at what is known. It takes no memory.
     fn begin(&self, known: &Known) -> Self::Memory
         ensures { serves self.now result known.now.lits };
 
     /// What is to be taken next, as `next` has it. It takes no memory.
-    fn next_recalling(
+    fn next_remembering(
         &self,
         memory: &mut Self::Memory,
         known: &Known,
@@ -57,11 +57,11 @@ pub trait Recaller: Guide {
     /// Hands back what is remembered. It takes no memory.
     fn end(&self, memory: Self::Memory);
 
-    /// The law: it serves on where more becomes known.
+    /// The law: it stays valid as the trail grows.
     ghost keeps_serving: { (g : Self) (memory : Self.Memory) (before after : List ℤ) → take (length before) after ≡ before → serves g memory before → serves g memory after };
 }
 
-/// Asks once more, at what is known.
+/// Asks the guide again, at what is known now.
 fn next_ask<G: Guide>(guide: &G, known: &Known, enabled: &[bool]) -> Option<Ask>
     requires { (clauses : List (List ℤ)) × ((owners : List ℕ) × (G.is_for guide.now clauses owners × (list_all (λ o. nat_lt o (length enabled.now)) owners ≡ true))) }
     ensures { result ≡ G.asks guide.now (is_fact known.now.lits) enabled.now }

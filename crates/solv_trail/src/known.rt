@@ -74,7 +74,7 @@ fn code_of(lit: Lit) -> u8
     if lit.is_in() { 1 } else { 2 }
 }
 
-/// Puts the package of a literal in, where the literal says so.
+/// Adds the package of a literal to the set, where the literal says that it is in.
 fn mark(ins: &mut NumberSet, lit: Lit)
     requires some { 0 < nat_abs lit }
     requires space { nat_abs lit < room ins.old }
@@ -86,7 +86,7 @@ fn mark(ins: &mut NumberSet, lit: Lit)
     }
 }
 
-/// Takes the package of a literal out, where the literal said that it is in.
+/// Removes the package of a literal from the set, where the literal said that it is in.
 fn unmark(ins: &mut NumberSet, lit: Lit)
     requires some { 0 < nat_abs lit }
     ensures space { length ins.new ≡ length ins.old }
@@ -280,7 +280,7 @@ impl Known {
         keep_question(&mut self.questions, ask.question);
     }
 
-    /// Takes back all from a choice on.
+    /// Undoes all assignments from a choice on.
     pub fn cut(&mut self, level: usize)
         requires { level < length self.old.marks }
         ensures { self.new ≡ record self.old { lits = take (slice_index self.old.marks level) self.old.lits; reasons = take (slice_index self.old.marks level) self.old.reasons; marks = take level self.old.marks; questions = take level self.old.questions } }
@@ -289,14 +289,14 @@ impl Known {
         self.take_back(end, level);
     }
 
-    /// Takes back all.
+    /// Undoes all assignments.
     pub fn clear(&mut self)
         ensures { self.new ≡ record self.old { lits = []; reasons = []; marks = []; questions = [] } }
     {
         self.take_back(0, 0);
     }
 
-    /// Takes back the literals from a place on, and the choices from a number on.
+    /// Undoes the literals from a place on, and the choices from a number on.
     fn take_back(&mut self, end: usize, level: usize)
         requires level { level ≤ length self.old.marks }
         requires end { end ≤ length self.old.lits }

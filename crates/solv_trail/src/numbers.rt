@@ -46,7 +46,7 @@ fn lowest(word: u64, from: u32) -> Option<u32>
     }
 }
 
-/// The bits of a word that the word of the other set has not.
+/// The bits of a word that the word of the other set lacks.
 fn beside(words: &[u64], other: &[u64], place: usize) -> u64
     ensures { (i : ℕ) → i < 64 → (bit_at result i == 1) ≡ (has words.now (place * 64 + i) && not (has other.now (place * 64 + i))) }
 {
@@ -96,7 +96,7 @@ fn have_all(words: &[u64], a: &[u64], b: &[u64], c: &[u64], d: &[u64]) -> bool
     true
 }
 
-/// The first number in the words from a place on that the other set has not.
+/// The first number in the words from a place on that the other set lacks.
 fn first_from(words: &[u64], other: &[u64], start: usize) -> Option<u32>
     requires { length words.now ≤ 33554432 }
     ensures small { IfSome result (λ n. n < 2147483648) }
@@ -111,7 +111,7 @@ fn first_from(words: &[u64], other: &[u64], start: usize) -> Option<u32>
     None
 }
 
-/// The first number from one on that the other set has not.
+/// The first number from one on that the other set lacks.
 fn next_beside(words: &[u64], other: &[u64], from: u32) -> Option<u32>
     requires { length words.now ≤ 33554432 }
     ensures small { IfSome result (λ n. n < 2147483648) }
@@ -188,7 +188,7 @@ impl NumberSet {
         next_beside(&self.words, &[], from)
     }
 
-    /// Whether the set has all numbers of these four; `false` tells nothing where one has more room than another.
+    /// Whether the set has all numbers of these four; `false` says nothing where one has more room than another.
     pub fn has_all(&self, a: &NumberSet, b: &NumberSet, c: &NumberSet, d: &NumberSet) -> bool
         ensures { result ≡ true → (k : ℕ) → ((has a.now k || has b.now k) || (has c.now k || has d.now k)) ≡ true → has self.now k ≡ true }
     {
@@ -202,7 +202,7 @@ impl NumberSet {
         have_all(words, &a.words, &b.words, &c.words, &d.words)
     }
 
-    /// The first number from one on that this set has and the other has not.
+    /// The first number from one on that this set has and the other lacks.
     pub fn next_beside(&self, other: &NumberSet, from: u32) -> Option<u32>
         ensures first { IsFirst (λ k. has self.now k && not (has other.now k)) from result }
         ensures small { IfSome result (λ n. n < 2147483648) }

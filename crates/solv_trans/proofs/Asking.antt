@@ -83,7 +83,7 @@ module _ (catalog : Catalog) (set : ℕ → Bool) where
   pub in_members : (p : ℕ) → is_among (packages catalog) p ≡ true → is_among (members catalog) p ≡ true
   in_members p h = or_right (eqb 0 p) (is_among (packages catalog) p) h
 
-  -- turns tell what comes and what goes
+  -- turns say what comes and what goes
   module _ (turns : List Turn) (are : AreTurns catalog set turns) where
     turn_cases : (c g : Bool) → (c ≡ true → g ≡ false) → (is_placed (if c then Early else if g then Late else Never) ≡ (c || g)) × (is_late (if c then Early else if g then Late else Never) ≡ g)
     turn_cases true g h = (refl, sym (h refl))

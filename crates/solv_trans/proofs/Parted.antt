@@ -59,7 +59,7 @@ module _ (parts : List ℕ) where
   pub puts_more : (xs ys : List Link) (old mid new : Edges) → Puts parts xs old mid → Puts parts ys mid new → Puts parts (xs ++ ys) old new
   puts_more xs ys old mid new f g = record { all = adds_more (joins_places parts) xs ys old.all mid.all new.all f.all g.all; pre = adds_more (pre_joins_places parts) xs ys old.pre mid.pre new.pre f.pre g.pre }
 
--- an edge of a list is told by it
+-- an edge of a list is held by it
 pub link_told : (links : List Link) (k : ℕ) (d : Link) → k < length links → linked links (get_or links k d).from (get_or links k d).to ≡ true
 link_told [] k d lt = absurd (omega arith)
 link_told (x ∷ links) zero d lt = or_left (eqb x.from x.from && eqb x.to x.to) (linked links x.from x.to) (and_from (eqb x.from x.from) (eqb x.to x.to) (eq-eqb x.from x.from refl) (eq-eqb x.to x.to refl))
@@ -79,7 +79,7 @@ pub few_more : (b : Bool) (parts now : List ℕ) (pack : ℕ) → now ≡ parts 
 few_more true parts now pack is few = omega (arith, ap length is, length-append parts (pack ∷ []), few)
 few_more false parts now pack is few = omega (arith, ap length is, length-append parts [], few)
 
--- graphs over places tell the edges between the parts at them
+-- graphs over places have the edges between the parts at them
 inside_all : (c d : Bool) (f : Link → Bool) (links : List Link) → list_any (λ (l : Link). (c && d) && f l) links ≡ true → (c ≡ true) × (d ≡ true)
 inside_all c d f [] h = absurd (false≢true h)
 inside_all c d f (l ∷ links) h = elim (or_cases ((c && d) && f l) (list_any (λ (m : Link). (c && d) && f m) links) h) [

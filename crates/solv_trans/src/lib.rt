@@ -7,7 +7,7 @@
 //!
 //! `specs/Changes` says which line a package has, and `specs/Effects` what is there after the changes: the set.
 //! `specs/Moving` says what comes and goes, `specs/Edges` which part comes before which, and `specs/Orders` what a good order
-//! is, in the words of `solv_graph`; `specs/Inner/Readiness` says what a task has to be for it. A requirement is looked at
+//! is, in the words of `solv_graph`; `specs/Inner/Readiness` says what a task has to be for it. A requirement is read
 //! by its parts. The graphs of an order are over the packages that come or go alone, by their places among them
 //! (`specs/Inner/Parting`).
 #![tactic(auto)]

@@ -18,7 +18,7 @@ pub(crate) struct Edges {
     pub(crate) pre: Graph,
 }
 
-/// Puts a package behind the parts, if it has a turn.
+/// Appends a package to the parts, if it has a turn.
 fn add_part(turn: Turn, pack: u32, parts: &mut Vec<u32>) -> Result<(), AllocError>
     ensures { OnOk result (parts.new.items ≡ parts.old.items ++ (if is_placed turn then pack ∷ [] else [])) }
 {
@@ -88,7 +88,7 @@ fn place_of(parts: &[u32], pack: u32) -> u32
 }
 
 /// Puts an edge to the others.
-fn put_edge(edges: &mut Edges, from: u32, to: u32, pre: bool) -> Result<(), AllocError>
+fn add_edge(edges: &mut Edges, from: u32, to: u32, pre: bool) -> Result<(), AllocError>
     requires from { from < length edges.old.all }
     requires to { to < length edges.old.all }
     requires same { length edges.old.pre ≡ length edges.old.all }
@@ -116,7 +116,7 @@ fn put_between(parts: &[u32], link: &Link, edges: &mut Edges) -> Result<(), Allo
 {
     let from = place_of(parts, link.from);
     let to = place_of(parts, link.to);
-    put_edge(edges, from, to, link.pre)?;
+    add_edge(edges, from, to, link.pre)?;
     Ok(())
 }
 

@@ -29,7 +29,8 @@ module _ (catalog : Catalog) (rules : List HardRule) where
   judged p GoodLog = if are_among p.rules (rested_on catalog rules p.log.steps) then Yes else NoRules
   judged p (BadStep n) = NoStep n
 
-  -- what is said of a proof over some hard rules: a place that no rule has is told before the log is checked, over the clauses of all rules
+  -- what is said of a proof over some hard rules: a place that no rule has is reported before the log is checked, over the clauses of all
+  -- rules
   abbrev pub verdict_on : Proof → Verdict
   verdict_on p = if are_there p.rules then judged p (checked (flat_map (rule_clauses catalog) rules) p.log.steps) else NoRules
 
@@ -42,7 +43,7 @@ abbrev pub of_round : {T : Type 0} → List T → ℕ → Option T
 of_round each zero = None
 of_round each (suc n) = slice_get each n
 
--- what is said of a proof against the tasks of rounds: that there is none of its number is told first
+-- what is said of a proof against the tasks of rounds: that there is none of its number is reported first
 abbrev pub verdict_of : List Task → Proof → Verdict
 verdict_of tasks p = elim (of_round tasks p.round) [ None ↦ NoRound | Some task ↦ verdict_on (catalog_of task) (hard_rules task) p ]
 

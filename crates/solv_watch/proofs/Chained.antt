@@ -284,7 +284,7 @@ narrow_none rules r c numbers found wide h =
           ];
     }
 
--- more links behind change no chain
+-- further links change no chain
 chain_more : (links more : List ℕ) (from : ℕ) (ws : List ℕ) → ((w : ℕ) → Has ws w → w < length links) → IsChain links from ws → IsChain (links ++ more) from ws
 chain_more links more from [] within h = h
 chain_more links more from (w ∷ ws) within h =
@@ -292,7 +292,7 @@ chain_more links more from (w ∷ ws) within h =
     let P : ℕ → Type 0 = λ n. IsChain (links ++ more) n ws in
     (h.0, subst P (sym e) (chain_more links more (get_or links w 0) ws (λ v k. within v (inr k)) h.1))
 
--- a rule was put behind those that are chained, with two links
+-- a rule was appended to those that are chained, with two links
 pub chained_more : (count : ℕ) (rules : List (List ℤ)) (heads links : List ℕ) (watched : List ℤ) (d : List ℤ) (one two : ℕ) → length rules < 2 ^ 28 → AreChained count rules heads links watched
     → AreChainedTo count (length rules) (rules ++ d ∷ []) heads (links ++ one ∷ two ∷ []) watched
 chained_more count rules heads links watched d one two small h =

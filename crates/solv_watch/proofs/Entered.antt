@@ -133,7 +133,7 @@ concluded book learnt2 learnt used watches new lits watched marks e f g h b l =
       record { guards = bu.guards; narrow = λ k. bu.narrow; learnt_guards = (here lu).guards; learnt_narrow = λ k. (here lu).narrow },
     )
 
--- a rule was put behind and hung
+-- a rule was appended and hung
 pub chained_after : (count n : ℕ) (rules : List (List ℤ)) (d : List ℤ) (heads links : List ℕ) (watched : List ℤ) (rules1 : List (List ℤ)) (links1 : List ℕ) (watched1 : List ℤ) (heads2 links2 : List ℕ) (watched2 : List ℤ)
     → AreChained count rules heads links watched → length rules < 2 ^ 28 → n ≡ length rules → rules1 ≡ rules ++ d ∷ [] → links1 ≡ links ++ no_link ∷ no_link ∷ [] → watched1 ≡ watched
     → (AreChainedTo count n rules1 heads links1 watched1 → AreChainedTo count (n + 1) rules1 heads2 links2 watched2) → AreChained count rules1 heads2 links2 watched2

@@ -16,7 +16,7 @@ use Rattle.solv_trail.specs.Inner.Derivation.{IsConsistent}
 use Rattle.solv_trail.proofs.Walk.{take_known, known_at}
 use Rattle.solv_watch.specs.Inner.Chains.{no_link, Has, AreOnce, IsChain, AreHung, AreAllHung, other, heads_past, links_past}
 use Rattle.solv_watch.specs.Inner.Spares.{AreTwoOf}
-use Rattle.solv_watch.specs.Inner.Watching.{literal_of, place_at, IsWatch, ArePairs, AreGuards, AreGuardsAtChoices, Each, AreChained, IsPart, Looked, stays, falsified, forces, moves}
+use Rattle.solv_watch.specs.Inner.Watching.{literal_of, place_at, IsWatch, ArePairs, AreGuards, AreGuardsAtChoices, Each, AreChained, IsPart, Visited, stays, falsified, forces, moves}
 use Rattle.solv_watch.specs.declared.walking.Visit.TheVariants.{Stays, Falsified, Forces, Moves}
 use Rattle.solv_derive.specs.Forced.{is_falsified, forced}
 use Rattle.solv_derive.proofs.Tables.{place_of-injective}
@@ -28,7 +28,7 @@ use Rattle.solv_watch.proofs.Guards.{moved_guards, moved_pairs, guards_next, gua
 place_even : (n m : ℕ) → 2 * n ≡ 2 * (m + 1) + 1 → ⊥
 place_even n m e = omega arith
 
--- what holds where a walk stands before the watch, and behind last
+-- what holds where a walk stands before the watch, and after last
 pub record IsWalk (count : ℕ) (rules : List (List ℤ)) (used : ℕ → Bool) (heads links : List ℕ) (watched lits : List ℤ) (marks : List ℕ) (at place last watch : ℕ) : Type 0 where
   pub two : length watched ≡ 2 * length rules
   pub linked : length links ≡ 2 * length rules
@@ -315,17 +315,17 @@ module _ (count : ℕ) (rules : List (List ℤ)) (used : ℕ → Bool) (heads li
       go v front (upto u f less) m has = let k : v < length links = has v (Has-right f (v ∷ []) v (inl refl)) in omega (arith, h.linked)
 
 -- what a look found
-pub looked_stays : {rules : List (List ℤ)} {used : ℕ → Bool} {lits : List ℤ} {rule : ℕ} {b : ℤ} → Looked rules used lits rule b Stays → used rule ≡ true → is_fact lits b ≡ true
-looked_stays (stays h) = h
+pub visited_stays : {rules : List (List ℤ)} {used : ℕ → Bool} {lits : List ℤ} {rule : ℕ} {b : ℤ} → Visited rules used lits rule b Stays → used rule ≡ true → is_fact lits b ≡ true
+visited_stays (stays h) = h
 
-pub looked_false : {rules : List (List ℤ)} {used : ℕ → Bool} {lits : List ℤ} {rule : ℕ} {b : ℤ} → Looked rules used lits rule b Falsified → (c : List ℤ) × IsUsed rules used rule c × (is_falsified lits c ≡ true)
-looked_false (falsified c u f) = (c, u, f)
+pub visited_false : {rules : List (List ℤ)} {used : ℕ → Bool} {lits : List ℤ} {rule : ℕ} {b : ℤ} → Visited rules used lits rule b Falsified → (c : List ℤ) × IsUsed rules used rule c × (is_falsified lits c ≡ true)
+visited_false (falsified c u f) = (c, u, f)
 
-pub looked_forces : {rules : List (List ℤ)} {used : ℕ → Bool} {lits : List ℤ} {rule : ℕ} {b : ℤ} → Looked rules used lits rule b Forces → (c : List ℤ) × IsUsed rules used rule c × (forced lits c ≡ Some b)
-looked_forces (forces c u f) = (c, u, f)
+pub visited_forces : {rules : List (List ℤ)} {used : ℕ → Bool} {lits : List ℤ} {rule : ℕ} {b : ℤ} → Visited rules used lits rule b Forces → (c : List ℤ) × IsUsed rules used rule c × (forced lits c ≡ Some b)
+visited_forces (forces c u f) = (c, u, f)
 
-pub looked_moves : {rules : List (List ℤ)} {used : ℕ → Bool} {lits : List ℤ} {rule : ℕ} {b y : ℤ} → Looked rules used lits rule b (Moves y) → (c : List ℤ) × IsUsed rules used rule c × AreTwoOf y b c × (is_refuted lits y ≡ false)
-looked_moves (moves y c u t f) = (c, u, t, f)
+pub visited_moves : {rules : List (List ℤ)} {used : ℕ → Bool} {lits : List ℤ} {rule : ℕ} {b y : ℤ} → Visited rules used lits rule b (Moves y) → (c : List ℤ) × IsUsed rules used rule c × AreTwoOf y b c × (is_refuted lits y ≡ false)
+visited_moves (moves y c u t f) = (c, u, t, f)
 
 -- a rule in use among these is one among all
 pub used_among : (all : List (List ℤ)) (inuse : ℕ → Bool) (base : ℕ) (rules : List (List ℤ)) (own : ℕ → Bool) → IsPart all inuse base rules own → (r : ℕ) (c : List ℤ) → IsUsed rules own r c → IsUsed all inuse (base + r) c

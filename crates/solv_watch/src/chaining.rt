@@ -1,4 +1,4 @@
-//! Rules are hung at the literals that they watch.
+//! Links rules into the chains of the literals that they watch.
 ghost use Rattle.std.specs.Prelude.{◌≡◌, ◌<◌, ◌≤◌, ◌+◌, ◌*◌, ◌^◌, ◌++◌, ◌∷◌, [], ℕ, ℤ, pos, true, List, Some, length, take, slice_get, slice_index, slice_set, IfOk, OnOk, vec_capacity};
 ghost use Rattle.solv_pack.specs.Inner.Literals.{place_of};
 ghost use Rattle.solv_pool.specs.Prelude.{are_over};
@@ -19,7 +19,7 @@ fn add_pair(watched: &mut Vec<Lit>, first: Lit, second: Lit)
     let _ = watched.extend_from_slice(&[first, second]);
 }
 
-/// Hangs a rule at two literals.
+/// Makes a rule watch two literals.
 fn hang_both(heads: &mut [u32], links: &mut [u32], rule: u32, first: Lit, second: Lit)
     requires rule { 2 * rule + 2 ≤ length links.old }
     requires few { length links.old ≤ 2 ^ 29 }
@@ -32,7 +32,7 @@ fn hang_both(heads: &mut [u32], links: &mut [u32], rule: u32, first: Lit, second
     hang(heads, links, second.place(), 2 * rule + 1);
 }
 
-/// Lets the chains of these literals begin nowhere.
+/// Empties the chains of these literals.
 fn clear_heads(heads: &mut [u32], watched: &[Lit])
     ensures cleared { AreHeadsFrom 0 heads.old watched.now → (p : ℕ) → p < length heads.new → slice_index heads.new p ≡ no_link }
     ensures same_length { length heads.new ≡ length heads.old }
@@ -46,7 +46,7 @@ fn clear_heads(heads: &mut [u32], watched: &[Lit])
 }
 
 impl Chains {
-    /// No rule hangs, over packages from 1 to `packages`. There are links for so many rules, and room for their watches.
+    /// No watches, over packages from 1 to `packages`. There are links for so many rules, and room for their watches.
     fn with_room(alloc: Global, packages: u32, rules: usize) -> Result<Chains, AllocError>
         requires packages { packages ≤ 1048575 }
         requires rules { rules ≤ 2 ^ 28 }
@@ -66,7 +66,7 @@ impl Chains {
         })
     }
 
-    /// Links for one rule more, which lead nowhere, where there is room for them.
+    /// Adds null links for one more rule, where there is room for them.
     pub fn link_next(&mut self)
         requires { length self.old.links.items + 2 ≤ vec_capacity self.old.links }
         ensures heads { self.new.heads ≡ self.old.heads }
@@ -76,7 +76,7 @@ impl Chains {
         let _ = self.links.extend_from_slice(&[NOWHERE, NOWHERE]);
     }
 
-    /// Hangs the next rule at these two literals of it.
+    /// Makes the next rule watch these two literals of it.
     pub fn add(&mut self, rule: u32, first: Lit, second: Lit)
         requires room { length self.old.watched.items + 2 ≤ vec_capacity self.old.watched }
         requires rule { 2 * rule + 2 ≤ length self.old.links.items }
@@ -110,7 +110,7 @@ impl Chains {
         add_pair(&mut self.watched, Lit::new(1), Lit::new(1));
     }
 
-    /// Lets all rules go. It takes as long as there are rules, however many literals there are.
+    /// Removes the watches of all rules. It takes time in proportion to the rules, not to the literals.
     pub fn forget(&mut self)
         ensures chained { (count : ℕ) → AreHeads count self.old.heads.items self.old.watched.items → AreChained count [] self.new.heads.items self.new.links.items self.new.watched.items }
     {
@@ -120,7 +120,7 @@ impl Chains {
     }
 }
 
-/// Hangs the next rule at its first two literals, or passes it, where it has fewer.
+/// Makes the next rule watch its first two literals, or passes it, where it has fewer.
 fn hang_rule(chains: &mut Chains, rules: &RuleMem, rule: u32, packages: u32)
     requires room { length chains.old.watched.items + 2 ≤ vec_capacity chains.old.watched }
     requires over { are_over packages rules.now.rules ≡ true }
@@ -140,7 +140,7 @@ fn hang_rule(chains: &mut Chains, rules: &RuleMem, rule: u32, packages: u32)
     chains.add(rule, first, second);
 }
 
-/// Hangs the next rule, or notes that it has fewer than two literals.
+/// Makes the next rule watch two literals, or records that it has fewer.
 fn chain_rule(
     chains: &mut Chains,
     narrow: &mut Vec<u32>,
@@ -170,7 +170,7 @@ fn chain_rule(
     Ok(())
 }
 
-/// Hangs all rules of a book, and gives the numbers of those with fewer than two literals.
+/// Makes all rules of a book watch two literals, and gives the numbers of those with fewer.
 fn chain_all(
     alloc: Global,
     chains: &mut Chains,
@@ -191,7 +191,7 @@ fn chain_all(
     Ok(narrow)
 }
 
-/// Hangs all rules, of which none hangs yet.
+/// Makes all rules watch two literals, where none does yet.
 fn hang_all(chains: &mut Chains, rules: &RuleMem, packages: u32)
     requires room { 2 * length rules.now.rules ≤ vec_capacity chains.old.watched }
     requires over { are_over packages rules.now.rules ≡ true }
@@ -206,7 +206,7 @@ fn hang_all(chains: &mut Chains, rules: &RuleMem, packages: u32)
 }
 
 impl Chains {
-    /// Lets all rules go, and hangs these. Where memory runs out, none hangs.
+    /// Removes all watches, and makes those of these rules. Where memory runs out, there are none.
     pub fn hang_anew(&mut self, rules: &RuleMem, packages: u32) -> Result<(), AllocError>
         requires over { are_over packages rules.now.rules ≡ true }
         requires few { length rules.now.rules ≤ 2 ^ 28 }

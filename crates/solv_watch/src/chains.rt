@@ -1,11 +1,11 @@
-//! Chains of watches: from the head of a literal one link after another leads through the watches of that literal.
+//! Chains of watches: a linked list for each literal, from its head through all watches of that literal.
 ghost use Rattle.std.specs.Prelude.{◌≡◌, ◌<◌, length, slice_index, slice_set};
 ghost use Rattle.solv_pack.specs.Inner.Literals.{place_of};
 ghost use Rattle.solv_watch.specs.Inner.Chains.{no_link, other, heads_past, links_past};
 
 use solv_pack::Lit;
 
-/// The link that leads nowhere.
+/// The null link.
 pub const NOWHERE: u32 = u32::MAX;
 
 /// For each literal the first of the watches of one memory's rules that are at it; for each watch the next one at the same literal; and
@@ -51,7 +51,7 @@ pub fn beside(watch: u32) -> u32
     2 * (watch / 2) + (1 - watch % 2)
 }
 
-/// Leaves out the watch behind `last`, or the first: what stands behind it begins at `next`.
+/// Unlinks the watch after `last`, or the first one: what comes after it begins at `next`.
 fn unhang(heads: &mut [u32], links: &mut [u32], place: usize, last: u32, next: u32)
     requires place { place < length heads.old }
     requires last { last < no_link → last < length links.old }
@@ -65,7 +65,7 @@ fn unhang(heads: &mut [u32], links: &mut [u32], place: usize, last: u32, next: u
     }
 }
 
-/// Hangs a watch at the head of a chain.
+/// Puts a watch at the head of a chain.
 pub fn hang(heads: &mut [u32], links: &mut [u32], place: usize, watch: u32)
     requires place { place < length heads.old }
     requires watch { watch < length links.old }
@@ -76,7 +76,7 @@ pub fn hang(heads: &mut [u32], links: &mut [u32], place: usize, watch: u32)
     heads[place] = watch;
 }
 
-/// Watches another literal in place of one that became false, in whose chain the walk stands behind `last`.
+/// Watches another literal in place of one that became false, in whose chain the walk stands after `last`.
 pub fn rewatch(
     heads: &mut [u32],
     links: &mut [u32],

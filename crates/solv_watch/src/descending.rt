@@ -1,4 +1,4 @@
-//! Propagation and choices in turn.
+//! A descent: propagation and decisions in turn.
 ghost use Rattle.std.specs.Prelude.{◌≡◌, ◌<◌, ◌≤◌, ◌^◌, ◌++◌, ℕ, ℤ, true, List, length, nat_lt};
 ghost use Rattle.std.specs.List.{list_all};
 ghost use Rattle.solv_pool.specs.Prelude.{are_over};
@@ -9,11 +9,11 @@ ghost use Rattle.solv_watch.specs.Inner.Propagating.{AreWatched, AreKeptAtChoice
 use crate::chains::Watches;
 use crate::propagation::propagate;
 use solv_pack::RuleMem;
-use solv_trail::{Guide, Known, Recaller, taken};
+use solv_trail::{Guide, Known, Remembering, taken};
 
-/// Propagates and takes what the guide asks for, until a rule is falsified (which it names) or nothing is asked. Nothing is taken
-/// back meanwhile, so the guide is asked to begin once. It takes no memory.
-pub fn descend<G: Guide + Recaller>(
+/// Propagates and decides as the guide asks, until a rule is falsified (which it names) or nothing is asked. Nothing is undone
+/// meanwhile, so the guide is asked to begin once. It takes no memory.
+pub fn descend<G: Guide + Remembering>(
     known: &mut Known,
     book: &RuleMem,
     learnt: &RuleMem,
@@ -46,7 +46,7 @@ pub fn descend<G: Guide + Recaller>(
             return Some(rule);
         }
         known.keep_apart();
-        match guide.next_recalling(&mut memory, known, enabled) {
+        match guide.next_remembering(&mut memory, known, enabled) {
             None => {
                 guide.end(memory);
                 return None;

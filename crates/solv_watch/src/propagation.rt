@@ -53,7 +53,7 @@ fn walk_in(
     )
 }
 
-/// Follows what the literals from a place on force, until a rule is falsified (which it names) or nothing more is forced.
+/// Propagates the literals from a place on, until a rule is falsified (which it names) or nothing more is forced.
 fn follow(
     known: &mut Known,
     book: &RuleMem,
@@ -99,7 +99,7 @@ fn follow(
     None
 }
 
-/// Looks at a rule with fewer than two literals, and adds what it forces, where the rules begin at base among all. Answers whether it is not
+/// Visits a rule with fewer than two literals, and adds what it forces, where the rules begin at base among all. Returns whether it is not
 /// falsified.
 fn visit_narrow(
     known: &mut Known,
@@ -136,8 +136,8 @@ fn visit_narrow(
     true
 }
 
-/// Looks at all rules of the book with fewer than two literals, until one is falsified, which it names.
-fn look_at_narrow(
+/// Visits all rules of the book with fewer than two literals, until one is falsified, which it names.
+fn visit_all_narrow(
     known: &mut Known,
     rules: &RuleMem,
     narrow: &[u32],
@@ -160,7 +160,7 @@ fn look_at_narrow(
     None
 }
 
-/// Looks at a learnt rule, and adds what it forces, if it has fewer than two literals. Answers whether it is not falsified then.
+/// Visits a learnt rule, and adds what it forces, if it has fewer than two literals. Returns whether it is not falsified then.
 fn visit_learnt(known: &mut Known, rules: &RuleMem, base: u32, rule: u32) -> bool
     requires over { are_over known.old.count rules.now.rules ≡ true }
     requires base { base + length rules.now.rules ≤ 2 ^ 28 }
@@ -176,8 +176,8 @@ fn visit_learnt(known: &mut Known, rules: &RuleMem, base: u32, rule: u32) -> boo
     visit_narrow(known, rules, &[], &[], base, rule)
 }
 
-/// Looks at all learnt rules with fewer than two literals, until one is falsified, which it names, by its number among all rules.
-fn look_at_learnt(known: &mut Known, rules: &RuleMem, base: u32) -> Option<u32>
+/// Visits all learnt rules with fewer than two literals, until one is falsified, which it names, by its number among all rules.
+fn visit_all_learnt(known: &mut Known, rules: &RuleMem, base: u32) -> Option<u32>
     requires over { are_over known.old.count rules.now.rules ≡ true }
     requires base { base + length rules.now.rules ≤ 2 ^ 28 }
     ensures grown { (all : List (List ℤ)) (used : ℕ → Bool) → IsPart all used base rules.now.rules always → IsGrown all used known.old known.new }
@@ -193,7 +193,7 @@ fn look_at_learnt(known: &mut Known, rules: &RuleMem, base: u32) -> Option<u32>
     None
 }
 
-/// Looks at the rules with fewer than two literals, where nothing is known yet.
+/// Visits the rules with fewer than two literals, where nothing is known yet.
 fn begin(
     known: &mut Known,
     book: &RuleMem,
@@ -217,14 +217,14 @@ fn begin(
     if known.len() > 0 {
         return None;
     }
-    if let Some(rule) = look_at_narrow(known, book, narrow, owners, enabled) {
+    if let Some(rule) = visit_all_narrow(known, book, narrow, owners, enabled) {
         return Some(rule);
     }
-    look_at_learnt(known, learnt, book.len() as u32)
+    visit_all_learnt(known, learnt, book.len() as u32)
 }
 
-/// Adds what the rules in use force, until one is falsified (which it names) or nothing more is forced. All literals but the last are to have
-/// been looked at. It takes no memory.
+/// Adds what the rules in use force, until one is falsified (which it names) or nothing more is forced. All literals but the last must have
+/// been propagated before. It takes no memory.
 pub fn propagate(
     known: &mut Known,
     book: &RuleMem,

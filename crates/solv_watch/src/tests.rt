@@ -4,7 +4,7 @@ ghost use Rattle.solv_watch.specs.Examples.{chain, four, asks_for_one, IsNone};
 use crate::*;
 use solv_pack::{Lit, PackFault, RuleMem};
 use solv_pool::PackNo;
-use solv_trail::{Ask, Guide, Known, Question, Recaller};
+use solv_trail::{Ask, Guide, Known, Question, Remembering};
 use std::alloc::Global;
 use std::test::Fail;
 
@@ -99,7 +99,7 @@ impl Guide for OnePackage {
     ghost keeps_law = { λ guide count clauses owners enabled none some. absurd some };
 }
 
-impl Recaller for OnePackage {
+impl Remembering for OnePackage {
     type Memory = ();
 
     ghost serves = { λ guide memory lits. ⊤ };
@@ -108,7 +108,7 @@ impl Recaller for OnePackage {
         let _ = known;
     }
 
-    fn next_recalling(&self, memory: &mut (), known: &Known, enabled: &[bool]) -> Option<Ask> {
+    fn next_remembering(&self, memory: &mut (), known: &Known, enabled: &[bool]) -> Option<Ask> {
         let _ = memory;
         self.next(known, enabled)
     }
@@ -168,7 +168,7 @@ fn one_package_is_taken(rt: HostRuntime) -> Result<(), Fail> {
     Ok(())
 }
 
-/// Two learnt rules are hung, the second with fewer than two literals, and forgotten.
+/// Two learnt rules are added, the second with fewer than two literals, and forgotten.
 #[test]
 fn learnt_rules_are_hung_and_forgotten(rt: HostRuntime) -> Result<(), Fail> {
     let book = RuleMem::new(rt.alloc());

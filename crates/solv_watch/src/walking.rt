@@ -1,4 +1,4 @@
-//! A walk through the watches of a literal that became false.
+//! Visits the watches of a literal that became false.
 ghost use Rattle.std.specs.Prelude.{◌≡◌, ◌<◌, ◌≤◌, ◌+◌, ◌*◌, ◌/◌, ◌%◌, ◌^◌, ℕ, ℤ, pos, neg_ℤ, Bool, true, List, Some, None, length, take, nat_lt, slice_get, slice_index, slice_index_or, slice_set, Option, IfSome};
 ghost use Rattle.std.specs.List.{list_all};
 ghost use Rattle.solv_pool.specs.Prelude.{is_fact, is_over, are_over, names_package};
@@ -7,15 +7,15 @@ ghost use Rattle.solv_derive.specs.Forced.{is_falsified};
 ghost use Rattle.solv_trail.specs.Propagated.{in_use};
 ghost use Rattle.solv_trail.specs.Inner.Propagated.{IsUsed, IsGrown};
 ghost use Rattle.solv_watch.specs.Inner.Chains.{no_link, other, heads_past, links_past};
-ghost use Rattle.solv_watch.specs.Inner.Watching.{literal_of, AreChained, AreGuards, AreGuardsAtChoices, Each, IsPart, Looked};
+ghost use Rattle.solv_watch.specs.Inner.Watching.{literal_of, AreChained, AreGuards, AreGuardsAtChoices, Each, IsPart, Visited};
 
 use crate::chains::{NOWHERE, beside, rewatch};
 use crate::spares::spare;
 use solv_pack::{Lit, RuleMem, RuleNo};
 use solv_trail::{Known, is_in_use};
 
-/// What a look at a rule finds, beside one of its watched literals: nothing has to change; it is falsified; it forces that literal; or
-/// another is to be watched.
+/// What a visit of a rule finds, where its other watched literal is given: nothing has to change; it is falsified; it forces that literal;
+/// or another is to be watched.
 #[derive(Clone, Copy)]
 pub enum Visit {
     Stays,
@@ -33,8 +33,8 @@ pub struct Part<'a> {
     pub base: u32,
 }
 
-/// Looks at a rule, beside one of its watched literals.
-fn look(
+/// Visits a rule, where its other watched literal is given.
+fn visit_rule(
     known: &Known,
     rules: &RuleMem,
     owners: &[usize],
@@ -46,7 +46,7 @@ fn look(
     requires owners { list_all (λ o. nat_lt o (length enabled.now)) owners.now ≡ true }
     requires rule { rule < length rules.now.rules }
     requires beside { (c : List ℤ) → slice_get rules.now.rules rule ≡ Some c → is_fact c beside ≡ true }
-    ensures { Looked rules.now.rules (in_use owners.now enabled.now) known.now.lits rule beside result }
+    ensures { Visited rules.now.rules (in_use owners.now enabled.now) known.now.lits rule beside result }
 {
     let clause = rules.lits(RuleNo(rule));
     known.keep_apart();
@@ -99,7 +99,7 @@ pub fn walk(
         let next = links[watch as usize];
         let other = watched[beside(watch) as usize];
         known.keep_apart();
-        match look(known, part.rules, part.owners, part.enabled, rule, other) {
+        match visit_rule(known, part.rules, part.owners, part.enabled, rule, other) {
             Visit::Falsified => return Some(part.base + rule),
             Visit::Stays => last = watch,
             Visit::Forces => {

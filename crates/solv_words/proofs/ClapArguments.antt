@@ -28,7 +28,7 @@ rule_by file = with_index 1 (filled (told_of file))
 pub rules_are : rules ≡ rule_by lines ∷ rule_by budget ∷ rule_by proofs ∷ rule_by written ∷ rule_by seed ∷ rule_by file ∷ []
 rules_are = refl
 
--- what a use has behind its name
+-- what a use has after its name
 abbrev pub raw_of : Kind → List ℕ → List Text
 raw_of lines value = []
 raw_of budget value = value ∷ []

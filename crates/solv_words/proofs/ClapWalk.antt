@@ -21,7 +21,7 @@ use Rattle.solv_list.proofs.Booleans.{first_of_both, false_of_not, true_or_false
 abbrev pub shape : Shape
 shape = (simple.built form).top
 
--- ---- the arguments that are accepted behind others
+-- ---- the arguments that are accepted after others
 
 abbrev pub checked : List Argument → List Argument → Bool
 checked seen [] = true
@@ -224,7 +224,7 @@ trailing_walked args p waiting word = refl
 trailing_second : (args : List Argument) (p : Pend) (waiting : Waiting) (word : Text) → is_calm (turn_fault shape [] (walk_by args p true true waiting) word) ≡ false
 trailing_second args p waiting word = refl
 
--- ---- words behind `--`
+-- ---- words after `--`
 
 pub trail : (words : List Text) (args : List Argument) (p : Pend) (has_file : Bool) (waiting : Waiting) → is_ready p ≡ true → HasFile has_file args p
     → Right (walk_by args p has_file true waiting) words (accepted args (behind p (Some (map (argument file) words))))
@@ -465,7 +465,7 @@ word_ready word rest later text args p has_file ready has =
       | is_strange w ↦ strange_ready word rest args p has_file w ready
     ]
 
--- a word behind an option that waits for its value
+-- a word after an option that waits for its value
 value_fault : (args : List Argument) (k : Kind) (has_file : Bool) (word : Text) → IsPlain word → turn_fault shape [] (walk_by args (waits k) has_file false (option (id_of k))) word ≡ []
 value_fault args k has_file word w = rw (w.no_end, w.no_long, w.no_short) refl
 

@@ -18,7 +18,7 @@ pub record Argument : Type 0 where
 abbrev pub argument : List ℕ → List ℕ → Argument
 argument name value = record { name = name; value = value }
 
--- what a word is, where no option waits for its value: an argument; an option whose value is the next word; `--`, behind which each word is a FILE; or unknown
+-- what a word is, where no option waits for its value: an argument; an option whose value is the next word; `--`, after which each word is a FILE; or unknown
 pub data Word : Type 0 where
   whole : Argument → Word
   option : List ℕ → Word
@@ -49,7 +49,7 @@ arguments_from None (word ∷ words) = elim (word_of word) [
   | unknown ↦ None
 ]
 
--- a number as it may be written: digits, behind a sign or none
+-- a number as it may be written: digits, after a sign or none
 abbrev pub number_of : List ℕ → ℕ
 number_of text = digits_value 10 (without_leading_sign text)
 

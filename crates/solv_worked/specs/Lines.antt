@@ -1,4 +1,4 @@
--- A task with rules of every kind, small enough to be told by hand.
+-- A task with rules of every kind, small enough to be worked out by hand.
 use Rattle.std.specs.Prelude.{ℕ, Bool, true, false, List, [], ◌∷◌, Some, None, codes, map, pos, negsuc}
 use Rattle.solv_base.specs.declared.comparison.Cmp.{Cmp}
 use Rattle.solv_base.specs.declared.relation.DepNode.TheVariants.{Simple, Versioned, And}

@@ -50,9 +50,9 @@ pub fn rows_of_compared_lines()
 {}
 
 /// The texts of solutions, one for each kind of rule that may be dropped: an update rule alone names what may take the
-/// package's place, if the set has it, and beside the package's feature rule it is told with that; so it is with the rule on
+/// package's place, if the set has it, and beside the package's feature rule it is printed with that; so it is with the rule on
 /// its distribution upgrade, which says that the package stays, or goes. A rule that may not be
-/// dropped, and a number behind the last one, have no text.
+/// dropped, and a number after the last one, have no text.
 pub fn rows_of_solution_texts()
     ensures inferior { said_of (7 ∷ []) (0 ∷ []) ≡ codes "allow P-1-1.i686@available" ∷ [] }
     ensures erased { said_of (9 ∷ []) (0 ∷ 1 ∷ []) ≡ codes "erase B-1-1.noarch@system" ∷ [] }

@@ -5,7 +5,7 @@ ghost use Rattle.solv_policy.specs.declared.policy.Asked.TheVariants.{Kept, Othe
 ghost use Rattle.solv_worked.specs.Reading.{ordered_in, policy_in};
 ghost use Rattle.solv_worked.specs.Tasks.{every_difference};
 
-/// Each difference decides against the one behind it, and against all further ones that can say otherwise: what stays installed,
+/// Each difference decides against the one after it, and against all further ones that can say otherwise: what stays installed,
 /// then what is favoured, priority, architecture, whom no candidate obsoletes, the name that comes first, the greater EVR, what
 /// is installed, and last the number.
 pub fn each_difference_before_the_next()

@@ -128,7 +128,7 @@ pub fn jobs_of_scripts()
     ensures entered { map_given (λ s. s.held.names) (given (codes "job install name A >= 1\njob erase provides A")) ≡ Some (codes "A" ∷ codes "1" ∷ []) }
 {}
 
-/// What may stand behind a `nextjob` line: that a line of packages may not is tried before its words.
+/// What may come after a `nextjob` line: that a line of packages may not is tried before its words.
 pub fn lines_behind_nextjob()
     ensures late { refused (codes "repo a 0 empty\nnextjob\nrepo a 0 empty") ≡ at 3 AfterNextjob }
     ensures late_before_words { refused (codes "nextjob\nrepo a") ≡ at 2 AfterNextjob }

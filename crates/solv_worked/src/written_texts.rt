@@ -11,7 +11,7 @@ pub fn whole_scripts()
     ensures refused { written (codes "repo a") ≡ None }
 {}
 
-/// A requirement that is once due before the install stands as `=Prq:`, and equal ones once.
+/// A requirement that is a pre-requirement in any entry stands as `=Prq:`, and equal ones once.
 pub fn requirements_of_packages()
     ensures { written (codes "repo a 0 testtags <inline>\n#>=Pkg: A 1 1 noarch\n#>=Req: B\n#>=Req: C\n#>=Prq: B\n#>=Req: C") ≡ Some (codes "repo a 0 testtags <inline>\n#>=Pkg: A 1 1 noarch\n#>=Prq: B\n#>=Req: C\n" ++ flags_line) }
 {}

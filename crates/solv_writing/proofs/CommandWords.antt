@@ -16,7 +16,7 @@ use Rattle.solv_commands.specs.declared.causes.Cause.TheVariants.{BadNumber, Bad
 use Rattle.solv_list.proofs.Booleans.{first_of_both, second_of_both}
 use Rattle.solv_writing.proofs.Priorities.{IsPriority, priority_again}
 
--- the words of a namespace line behind its name
+-- the words of a namespace line after its name
 pub record AreSome (words : List (List ℕ)) : Type 0 where
   pub first : List ℕ
   pub rest : List (List ℕ)

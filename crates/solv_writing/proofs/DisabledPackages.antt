@@ -1,4 +1,4 @@
--- Lines of disabled packages, put one behind another.
+-- Lines of disabled packages, appended one after another.
 use Rattle.std.proofs.Common.{◌≡◌, ◌<◌, ℕ, Bool, true, false, List, [], ◌∷◌, ◌++◌, ◌+◌, drop, length, slice_get, Some, refl, sym, ap, ◌∙◌, add-one, append_assoc}
 use Rattle.std.specs.Prelude.{unwrap_or}
 use Rattle.solv_io.specs.Lines.{ended_lines}

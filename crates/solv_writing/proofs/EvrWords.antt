@@ -30,7 +30,7 @@ record HasNone (xs : List ℕ) : Type 0 where
   whole : suffix_len other xs ≡ length xs
   others : list_all other xs ≡ true
 
--- a text has one, and what stands before and behind the last one is the text with it between
+-- a text has one, and what stands before and after the last one is the text with it between
 record HasLast (xs : List ℕ) : Type 0 where
   less : suffix_len other xs < length xs
   is : before_last is_dash xs ++ 45 ∷ after_last is_dash xs ≡ xs

@@ -26,7 +26,7 @@ pub record IsGood (s : State) : Type 0 where
 pub counted_good : (s : State) (bytes : ℕ) (held : Held) → IsGood s → IsGood (record s { bytes = bytes; held = held })
 counted_good s bytes held g = record { universe = g.universe; checks = g.checks; earlier = g.earlier; jobs = g.jobs; kinds = g.kinds; own = g.own }
 
--- all rounds, the one in hand behind the others
+-- all rounds, the one in hand after the others
 pub rounds_good : (s : State) → IsGood s → All (IsReadRound (view_of s.task)) (s.earlier ++ in_hand s ∷ [])
 rounds_good s g = All-push (IsReadRound (view_of s.task)) s.earlier (in_hand s) g.earlier (record { jobs = g.jobs; kinds = g.kinds })
 

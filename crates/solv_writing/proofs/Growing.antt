@@ -1,4 +1,4 @@
--- What was read of a script stays so when a repository with its packages comes behind the others.
+-- What was read of a script stays so when a repository with its packages comes after the others.
 use Rattle.std.proofs.Common.{◌≡◌, ℕ, suc, ◌+◌, ◌==◌, ◌≤◌, ◌<◌, Bool, true, false, not, List, [], ◌∷◌, ◌++◌, map, filter, length, slice_get, Option, Some, None, cond, refl, sym, ap, subst, ◌∙◌, arith, append_assoc, append-nil, nat_lt, All}
 use Rattle.std.specs.Prelude.{position, get_or}
 use Rattle.std.specs.List.{list_any, position_or_len}

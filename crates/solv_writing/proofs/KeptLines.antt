@@ -117,7 +117,7 @@ name_entered s text p right g =
     }))
 
 module _ (again : PrintedIsReadAgain) (written : ReadIsWritten) (script : List ℕ) where
-  -- its packages come behind the others
+  -- its packages come after the others
   repository_more : (t : State) (n : IsNamed t) (held : Held) (ps : List WrittenPackage) → All (IsGiven (length n.before)) ps → length t.task.packages + length ps ≤ most_packages
       → IsGood (record t { held = held; task = record t.task { packages = t.task.packages ++ ps; disabled = t.task.disabled ++ map (λ a. false) ps } })
   repository_more t n held ps given few =

@@ -46,7 +46,7 @@ lines_both : (xs ys : List Entry) → map entry_line (xs ++ ys) ≡ map entry_li
 lines_both [] ys = refl
 lines_both (x ∷ xs) ys = ap (λ ls. entry_line x ∷ ls) (lines_both xs ys)
 
--- behind a front: ten parts of lines are the lines of ten parts
+-- after a front: ten parts of lines are the lines of ten parts
 parts : (xs ys : List Entry) (l m : List (List ℕ)) → l ≡ map entry_line xs → m ≡ map entry_line ys → l ++ m ≡ map entry_line (xs ++ ys)
 parts xs ys l m e f = ap (λ x. x ++ m) e ∙ ap (λ y. map entry_line xs ++ y) f ∙ sym (lines_both xs ys)
 

@@ -1,4 +1,4 @@
--- Repositories with their packages, put one behind another.
+-- Repositories with their packages, appended one after another.
 use Rattle.std.proofs.Common.{◌≡◌, ◌<◌, ℕ, ◌==◌, List, [], ◌∷◌, ◌++◌, ◌+◌, map, drop, length, slice_get, Some, refl, sym, ap, ◌∙◌, nat_lt, append_assoc}
 use Rattle.std.specs.Prelude.{codes, if◌then◌else◌}
 use Rattle.std.specs.Fmt.{signed_decimal}

@@ -132,7 +132,7 @@ module _ (pool : Held) (repo : ℕ) where
     pub span_begins : packages_of repo (map (written_package pool) (drop s.first packages)) ≡ packages_of repo (map (written_package pool) packages)
     span_begins = front_out s.first packages (λ k a at e. (span.holds k a (place_there packages k a at) at e).0)
 
-    -- behind its end there is none
+    -- after its end there is none
     pub span_ends : (n : ℕ) → s.end ≤ n → packages_of repo (map (written_package pool) (drop n packages)) ≡ []
     span_ends n h = back_out n packages (λ k a at e. let l : k < s.end = (span.holds k a (place_there packages k a at) at e).1 in omega (arith, l, h))
 

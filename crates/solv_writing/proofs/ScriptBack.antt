@@ -57,7 +57,7 @@ in_rounds x (first ∷ later) = record { task = record x.task { flags = first.fl
 abbrev script_of : SoFar → WrittenScript
 script_of x = in_rounds x (x.earlier ++ hand_of x ∷ [])
 
--- what a state gives is told by what its lines gave
+-- what a state gives is determined by what its lines gave
 given_is : (t : State) → script_given t ≡ script_of (so_far t)
 given_is t = on (t.earlier ++ in_hand t ∷ [])
   where
@@ -106,7 +106,7 @@ module _ (whole : Held) (p : IsPool whole) (again : HeldIsEntered) (script : Lis
   abbrev no_disabled : List WrittenPackage → List Bool
   no_disabled ps = map (λ a. false) ps
 
-  -- repositories behind others
+  -- repositories after others
   module _ (packages : List WrittenPackage) (are : All IsReadPackage packages) (hold : All (HoldsPackage whole) packages) where
     abbrev before_rest : List WrittenRepo → List WrittenPackage → SoFar
     before_rest done ps = made done ps (no_disabled ps) None None [] []
@@ -151,7 +151,7 @@ module _ (whole : Held) (p : IsPool whole) (again : HeldIsEntered) (script : Lis
     abbrev with_checks : List WrittenCheck → SoFar
     with_checks checks = made w.task.repos w.task.packages w.task.disabled w.task.arch w.task.installed w.task.namespaces checks
 
-    -- this round behind others
+    -- this round after others
     abbrev in_round : List WrittenRound → WrittenRound → SoFar
     in_round done r = record { task = record w.task { flags = r.flags; jobs = r.jobs }; kinds = r.kinds; wanted = r.wanted; checks = w.checks; earlier = done }
 
@@ -193,7 +193,7 @@ module _ (whole : Held) (p : IsPool whole) (again : HeldIsEntered) (script : Lis
     ends done r [] = in_round done r
     ends done r (next ∷ later) = ends (done ++ r ∷ []) next later
 
-    -- the rounds behind the first one
+    -- the rounds after the first one
     later_on : (later done : List WrittenRound) (r : WrittenRound) → All (IsReadRound (view_of w.task)) later → All (λ (q : WrittenRound). All (λ (j : WrittenJob). HoldsChoice whole j.choice) q.jobs) later
         → To (in_round done r) (later_lines later) (ends done r later)
     later_on [] done r good held = at_end whole p again script (in_round done r)

@@ -70,7 +70,7 @@ module _ (whole : Held) (p : IsPool whole) (again : HeldIsEntered) (script : Lis
     pub given : (fetched : List (List ℕ)) → IsOkAnd (lines_given script s lines fetched) (Reads end)
     pub due : (fetched : List (List ℕ)) → lines_due script s lines fetched ≡ []
 
-  -- lines behind what was given before; they do not begin with the lines of a block
+  -- lines after what was given before; they do not begin with the lines of a block
   pub record Leads (w : SoFar) (lines : List (List ℕ)) (end : SoFar) : Type 0 where
     pub goes : (s : State) → Reads w s → (n : ℕ) → Goes s (script_lines n lines) end
     pub closed : (k : ℕ) → inline_lines k lines ≡ []

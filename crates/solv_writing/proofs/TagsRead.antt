@@ -233,7 +233,7 @@ module _ (again : HeldIsEntered) (whole : Held) (p : IsPool whole) (repo before 
       (deps_reach Enh (λ x. x.enhances) (λ x l. record x { enhances = l }) (λ h x d. refl) (λ d x. refl) (λ x l. refl) (λ x l m. refl) (λ x. refl) a.enhances a8 is.enhances.each holds.enhances is.enhances.once)
       (subst (Reaches a9 e10) end (files_reach a.files a9 is.files holds.files is.files_once))))))))))
 
--- what the lines of packages give behind other packages
+-- what the lines of packages give after other packages
 record Between (whole : Held) (repo before : ℕ) (packages : List WrittenPackage) (s : Tagged) : Type 0 where
   part : IsPart s.held whole
   no_block : s.block ≡ None
@@ -251,7 +251,7 @@ module _ (again : HeldIsEntered) (whole : Held) (p : IsPool whole) (repo before 
         (words_again (a.name ∷ e.version ∷ e.release ∷ a.arch ∷ [])
         (and_from (is_word a.name) _ is.name (and_from (is_word e.version) _ e.are.version_word (and_from (is_word e.release) _ e.are.release_word (and_from (is_word a.arch) true is.arch refl)))))
 
-    -- a package of these texts is in hand, behind those before
+    -- a package of these texts is in hand, after those before
     record Begun (s t : Tagged) : Type 0 where
       held : Held
       part : IsPart held whole

@@ -1,4 +1,4 @@
--- A package that is told by its text is told by it when more repositories and packages are there.
+-- A package that is identified by its text is still identified by it when more repositories and packages are there.
 use Rattle.std.proofs.Common.{◌≡◌, ℕ, zero, suc, ◌+◌, ◌≤◌, ◌<◌, Bool, true, false, List, [], ◌∷◌, ◌++◌, length, Option, Some, None, Result, Ok, Err, refl, sym, ap, subst, ◌∙◌, arith, nat_lt}
 use Rattle.std.specs.Prelude.{find}
 use Rattle.std.specs.List.{list_all, range_with_len}
@@ -79,7 +79,7 @@ module _ (repos more : List WrittenRepo) (packages added : List WrittenPackage) 
   pub number_below : (text : List ℕ) (p : ℕ) → package_number now text ≡ Some p → p ≤ length packages
   number_below text p h = let l = found_below (λ q. bytes_eq text (text_of_number now q)) (suc (length packages)) 0 p h in omega (arith, l)
 
-  -- a package that is told stays told
+  -- a package that is identified stays so
   pub told_stays : (p : ℕ) → IsToldByText now p → IsToldByText later p
   told_stays p told =
       let below : p ≤ length packages = number_below (text_of_number now p) p told.0 in

@@ -17,7 +17,7 @@ use Rattle.solv_writing.specs.Inner.LineNames.{check_line, later_lines}
 use Rattle.solv_writing.proofs.ByTexts.{checks_are, disabled_are, later_are, namespaces_are, round_is, system_is}
 use Rattle.solv_io.proofs.WrittenLines.{ended_lines-append}
 
--- four parts one behind another
+-- four parts one after another
 four_put : (p1 p2 p3 p4 : List (List ℕ)) (l0 l1 l2 l3 l4 : List ℕ) → l1 ≡ l0 ++ ended_lines p1 → l2 ≡ l1 ++ ended_lines p2 → l3 ≡ l2 ++ ended_lines p3 → l4 ≡ l3 ++ ended_lines p4
     → l4 ≡ l0 ++ ended_lines (p1 ++ (p2 ++ (p3 ++ p4)))
 four_put p1 p2 p3 p4 l0 l1 l2 l3 l4 e1 e2 e3 e4 =

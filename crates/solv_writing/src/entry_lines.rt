@@ -14,7 +14,7 @@ use std::alloc::{AllocError, Global};
 /// Most lines are no longer than this.
 const LINE_ROOM: usize = 64;
 
-/// The beginning of a line: a sign, three letters, and a colon with a space behind it.
+/// The beginning of a line: a sign, three letters, and a colon with a space after it.
 pub(crate) fn heading(alloc: Global, letters: &[u8]) -> Result<Vec<u8>, AllocError>
     ensures { IfOk result (λ line. line.items ≡ codes "=" ++ (letters.now ++ codes ": ")) }
 {

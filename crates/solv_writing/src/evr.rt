@@ -24,7 +24,7 @@ fn last_dash(text: &[u8]) -> Option<usize>
     None
 }
 
-/// What stands before this `-` and behind it, where something stands on both sides.
+/// What stands before this `-` and after it, where something stands on both sides.
 fn sides(evr: &[u8], place: usize) -> Option<(&[u8], &[u8])>
     requires within { place < length evr.now }
     requires before { take place evr.now ≡ before_last is_dash evr.now }
@@ -40,7 +40,7 @@ fn sides(evr: &[u8], place: usize) -> Option<(&[u8], &[u8])>
     Some((before, behind))
 }
 
-/// What stands before the last `-` and behind it, where something stands on both sides.
+/// What stands before the last `-` and after it, where something stands on both sides.
 #[tactic(auto, using(crate::proofs::EvrWords::unparted))]
 fn parted(evr: &[u8]) -> Option<(&[u8], &[u8])>
     ensures both { IfSome result (λ sides. (sides.0.now ≡ before_last is_dash evr.now) × (sides.1.now ≡ after_last is_dash evr.now)) }
@@ -52,7 +52,7 @@ fn parted(evr: &[u8]) -> Option<(&[u8], &[u8])>
     }
 }
 
-/// Appends the version and the release of an EVR, each behind a space.
+/// Appends the version and the release of an EVR, with a space before each.
 pub(crate) fn append_evr(line: &mut Vec<u8>, evr: &[u8]) -> Result<(), AllocError>
     ensures { OnOk result (line.new.items ≡ line.old.items ++ flat_map (λ word. 32 ∷ word) (evr_words evr.now)) }
 {

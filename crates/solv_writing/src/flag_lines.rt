@@ -7,7 +7,7 @@ use crate::line_words::add_word;
 use solv_pool::Flags;
 use std::alloc::{AllocError, Global};
 
-/// Appends a flag behind a space, with `!` before it where it is off.
+/// Appends a space and a flag, with `!` before the flag where it is off.
 fn add_flag(line: &mut Vec<u8>, on: bool, name: &[u8]) -> Result<(), AllocError>
     ensures { OnOk result (line.new.items ≡ line.old.items ++ 32 ∷ flag_word on name.now) }
 {

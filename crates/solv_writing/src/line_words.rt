@@ -6,7 +6,7 @@ ghost use Rattle.solv_writing.specs.ScriptTexts.{inlined};
 use solv_list::Bytes;
 use std::alloc::AllocError;
 
-/// Appends a word behind a space.
+/// Appends a space and a word.
 pub(crate) fn add_word(line: &mut Vec<u8>, word: &[u8]) -> Result<(), AllocError>
     ensures { OnOk result (line.new.items ≡ line.old.items ++ 32 ∷ word.now) }
 {

@@ -12,7 +12,7 @@ use solv_base::Pool;
 use solv_pool::{PackNo, Universe};
 use std::alloc::AllocError;
 
-/// Appends the text of a package behind a space.
+/// Appends a space and the text of a package.
 fn add_package(
     pool: &Pool,
     universe: &Universe,
@@ -27,7 +27,7 @@ fn add_package(
     universe.package_text(pool, pack, line)
 }
 
-/// Appends the texts of packages, each behind a space.
+/// Appends the texts of packages, with a space before each.
 pub(crate) fn add_packages(
     pool: &Pool,
     universe: &Universe,

@@ -10,7 +10,7 @@ use solv_base::Pool;
 use solv_pool::Repo;
 use std::alloc::{AllocError, Global};
 
-/// Appends a number behind a space.
+/// Appends a space and a number.
 fn add_number(alloc: Global, line: &mut Vec<u8>, number: i32) -> Result<(), AllocError>
     ensures { OnOk result (line.new.items ≡ line.old.items ++ 32 ∷ signed_decimal number) }
 {

@@ -10,7 +10,7 @@ use solv_list::{Bytes, Items};
 use solv_script::Kinds;
 use std::alloc::{AllocError, Global};
 
-/// Appends a kind, behind a comma where another stands before it.
+/// Appends a kind, with a comma before it unless it is the first.
 fn add_kind(text: &mut Vec<u8>, on: bool, name: &[u8]) -> Result<(), AllocError>
     ensures { OnOk result (text.new.items ≡ (if on then behind_comma text.old.items name.now else text.old.items)) }
 {

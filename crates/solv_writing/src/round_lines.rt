@@ -56,7 +56,7 @@ pub(crate) fn put_round(
     Ok(())
 }
 
-/// Appends the lines of a round behind the first one.
+/// Appends the lines of a round after the first one.
 fn put_next(alloc: Global, round: &Round, into: &mut Vec<u8>) -> Result<(), AllocError>
     ensures { OnOk result (into.new.items ≡ into.old.items ++ ended_lines (codes "nextjob" ∷ round_text round.now)) }
 {
@@ -71,7 +71,7 @@ fn put_next(alloc: Global, round: &Round, into: &mut Vec<u8>) -> Result<(), Allo
     )
 }
 
-/// Appends the lines of all rounds behind the first one.
+/// Appends the lines of all rounds after the first one.
 pub(crate) fn put_later(
     alloc: Global,
     rounds: &[Round],

@@ -6,21 +6,21 @@ ghost use Rattle.solv_writing.specs.Inner.Spans.{AreSpans};
 use solv_pool::{PackNo, RepoNo, Universe};
 use std::alloc::{AllocError, Global};
 
-/// The place of a repository's first package, and the place behind its last one. Both are 0 where it has none.
+/// The place of a repository's first package, and the place after its last one. Both are 0 where it has none.
 #[derive(Clone, Copy)]
 pub(crate) struct Span {
     pub(crate) first: u32,
     pub(crate) end: u32,
 }
 
-/// Where a span begins that takes in this place behind the others.
+/// Where a span begins that takes in this place after the others.
 fn begin(span: Span, place: u32) -> u32
     ensures { result ≡ (if span.end == 0 then place else span.first) }
 {
     if span.end == 0 { place } else { span.first }
 }
 
-/// Takes in the package at this place, which is behind the others.
+/// Takes in the package at this place, which is after the others.
 fn widen(spans: &mut [Span], repo: RepoNo, place: u32)
     requires { place + 1 < 2 ^ 32 }
     ensures each { length spans.new ≡ length spans.old }

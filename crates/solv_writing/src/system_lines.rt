@@ -35,7 +35,7 @@ fn repo_name<'a>(pool: &'a Pool, universe: &Universe, repo: RepoNo) -> &'a [u8]
     &[]
 }
 
-/// Appends the name of the installed repository behind a space, if there is one.
+/// Appends a space and the name of the installed repository, if there is one.
 fn add_installed(pool: &Pool, universe: &Universe, line: &mut Vec<u8>) -> Result<(), AllocError>
     requires { IsOver pool.now universe.now }
     ensures { OnOk result (line.new.items ≡ line.old.items ++ flat_map (λ word. 32 ∷ word) (installed_texts pool.now universe.now universe.now.installed)) }

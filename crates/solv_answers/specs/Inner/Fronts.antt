@@ -14,7 +14,7 @@ use Rattle.solv_answers.specs.declared.preparing.Prepared.{Prepared}
 abbrev pub front_rules : Catalog → Flags → Marks → List HardRule
 front_rules catalog flags marks = package_rules catalog marks ++ infarch_rules catalog flags
 
--- the rules are read so, whatever sets come behind theirs
+-- the rules are read so, whatever sets come after theirs
 abbrev pub Reads : Rules → List HardRule → Type 0
 Reads rules made = (more : List (List ℕ)) → map (rule_with (rules.sets ++ more)) rules.list ≡ made
 

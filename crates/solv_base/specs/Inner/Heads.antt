@@ -24,7 +24,7 @@ HasDigits Caret = ⊤
 HasDigits (Letters cs) = ⊤
 HasDigits (Digits cs) = AllDigits 10 cs.now
 
--- the tokens of a text that begins with this one; behind the end there are none
+-- the tokens of a text that begins with this one; after the end there are none
 abbrev pub tokens_from : Option Token → List Token → List Token
 tokens_from None ts = []
 tokens_from (Some t) ts = t ∷ ts

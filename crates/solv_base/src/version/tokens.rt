@@ -19,7 +19,7 @@ enum Head<'a> {
     Digits(&'a [u8]),
 }
 
-/// The first token of a text, and the text behind it.
+/// The first token of a text, and the text after it.
 #[derive(Clone, Copy)]
 struct Cut<'a> {
     head: Head<'a>,

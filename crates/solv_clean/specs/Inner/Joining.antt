@@ -1,4 +1,4 @@
--- Supplements that are put into a graph, for inner contracts alone. Its vertices are the members by number, and behind them the relations by id: walks lead over relations from what serves a supplement to the members that have it.
+-- Supplements that are put into a graph, for inner contracts alone. Its vertices are the members by number, and after them the relations by id: walks lead over relations from what serves a supplement to the members that have it.
 use Rattle.std.specs.Prelude.{◌≡◌, ℕ, ◌<◌, ◌+◌, Bool, true, ◌&&◌, ◌||◌, ◌==◌, List, length}
 use Rattle.std.specs.List.{list_any}
 use Rattle.solv_pool.specs.Prelude.{is_among, passes, Catalog, package_at, dependency, holds}
@@ -45,13 +45,13 @@ module _ (catalog : Catalog) (may : List Bool) (rows : List (List ℕ)) where
   abbrev pub LeadTo : ℕ → Type 0
   LeadTo q = (p : ℕ) → is_marked may p ≡ true → is_marked may q ≡ true → supplements catalog (is_marked may) q p ≡ true → Leads (edge_to rows) p q
 
--- each edge says something, and walks lead to the relations that were gone through
+-- each edge says something, and walks lead to the relations that were visited
 pub record AreJoined (catalog : Catalog) (may passed : List Bool) (rows : List (List ℕ)) : Type 0 where
   pub size : length rows ≡ length may + length catalog.pool.nodes
   pub sound : (a b : ℕ) → edge_to rows a b ≡ true → Says catalog may a b
   pub served : (id : ℕ) → is_marked passed id ≡ true → LeadFromServing catalog may rows id
 
--- the graph tells what supplements what among the members
+-- the graph has an edge for each supplement among the members
 pub record AreSupplements (catalog : Catalog) (may : List Bool) (rows : List (List ℕ)) : Type 0 where
   pub size : length rows ≡ length may + length catalog.pool.nodes
   pub sound : (a b : ℕ) → edge_to rows a b ≡ true → Says catalog may a b

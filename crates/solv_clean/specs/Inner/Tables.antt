@@ -26,7 +26,7 @@ root_by left asked touched p = is_marked left p && (is_marked asked p || not (is
 abbrev pub gone_by : List Bool → List Bool → List Bool → List Bool → ℕ → Bool
 gone_by erased left touched kept p = is_marked erased p || (not (p == 0) && (is_marked left p && (is_marked touched p && not (is_marked kept p))))
 
--- the members of a set, and behind them so many relations
+-- the members of a set, and after them so many relations
 pub record IsWithRelations (in_set : List Bool) (relations : ℕ) (may : List Bool) : Type 0 where
   pub size : length may ≡ length in_set + relations
   pub members : (q : ℕ) → q < length in_set → is_marked may q ≡ is_marked in_set q

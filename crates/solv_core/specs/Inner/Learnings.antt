@@ -32,7 +32,7 @@ abbrev pub AreLearnt : List (List ℤ) → (ℕ → Bool) → ((ℤ → Bool) �
 AreLearnt rules used asks count first packages run [] = Unit {0}
 AreLearnt rules used asks count first packages run (e ∷ entries) = IsEntry rules used asks count first packages run e × AreLearnt (rules ++ e.clause ∷ []) used asks count first packages run entries
 
--- a conflict over these rules was analysed: the learnt clause is an entry, whose hints name learnt rules by the numbers of their entries; the last choices are taken back, and its first literal is known
+-- a conflict over these rules was analysed: the learnt clause is an entry, whose hints name learnt rules by the numbers of their entries; the last decisions are undone, and its first literal is known
 pub record IsEntered (rules : List (List ℤ)) (count : ℕ) (number : ℕ → ℕ) (run rule : ℕ) (old new : Held) (before after : List Entry) (entry : Entry) (back : ℕ) (lit : ℤ) (rest : List ℤ) : Type 0 where
   pub added : after ≡ before ++ numbered_entry number entry ∷ []
   pub of_run : entry.run ≡ run

@@ -20,7 +20,7 @@ entry_leaves entries = leaves_after [] entries
 abbrev pub are_of_run : ℕ → List Entry → Bool
 are_of_run run entries = list_all (λ e. e.run == run) entries
 
--- what a run leaves of a ledger: its budget, and the earlier runs and entries; behind these it puts entries of its own, so that there are at most one more than the budget
+-- what a run leaves of a ledger: its budget, and the earlier runs and entries; after these it puts entries of its own, so that there are at most one more than the budget
 pub record GrowsLedger (old new : Ledger) : Type 0 where
   pub budget : new.budget ≡ old.budget
   pub few : length new.entries ≤ new.budget + 1
@@ -32,7 +32,7 @@ pub record GrowsLedger (old new : Ledger) : Type 0 where
 abbrev pub run_of : LearningCore → List Bool → List Entry → Run
 run_of core enabled entries = record { enabled = enabled; kept = filter (rests_on_enabled core.made.clauses core.made.owners enabled entries) (numbers_in_use core.in_use) }
 
--- the entries in use at the end of a run: those that it kept, and those behind the earlier ones
+-- the entries in use at the end of a run: those that it kept, and those after the earlier ones
 abbrev pub in_use_after : Run → List Entry → List Entry → List ℕ
 in_use_after run before after = run.kept ++ range_with_len (length before) (length after - length before)
 

@@ -3,7 +3,7 @@ use Rattle.std.specs.Prelude.{◌≡◌}
 use Rattle.solv_pool.specs.Prelude.{Catalog}
 use Rattle.solv_pool.specs.declared.job_marks.Marks.{Marks}
 use Rattle.solv_pool.specs.declared.tasks.Flags.{Flags}
-use Rattle.solv_plan.specs.Inner.Behind.{rest_by}
+use Rattle.solv_plan.specs.Inner.RestOfPlan.{rest_by}
 use Rattle.solv_decide.specs.declared.deciding.Left.{Left}
 
 -- what a decision left serves each task for these packages, flags and marks, on which its plan rests

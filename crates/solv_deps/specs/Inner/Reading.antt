@@ -56,12 +56,12 @@ same_joint i j = false
 abbrev pub going_on_if : Bool → Hand → Option Hand
 going_on_if b h = if b then Some h else None
 
--- `<ELSE>` behind the first operand in parentheses: it belongs to the `<IF>` or `<UNLESS>` before them, if one stands there
+-- `<ELSE>` after the first operand in parentheses: it belongs to the `<IF>` or `<UNLESS>` before them, if one stands there
 abbrev pub inner_else : List Hand → Dep (List ℕ) → Option Hand
 inner_else (in_condition k a ∷ outer) b = Some (in_inner_else k a b)
 inner_else outer b = None
 
--- the rule in hand behind an operand and an operator, where it goes on with this one
+-- the rule in hand after an operand and an operator, where it goes on with this one
 abbrev pub goes_on : List Hand → Hand → Dep (List ℕ) → Operator → Option Hand
 goes_on outer nothing d (Link j) = Some (in_chain j d)
 goes_on outer nothing d Minus = Some (in_difference d)
@@ -76,7 +76,7 @@ abbrev pub refused_operator : Operator → DepFault
 refused_operator Else = BadOperator
 refused_operator o = MixedOperators
 
--- what is due behind a closing parenthesis: `A <IF> (B <ELSE> C)` is `A <IF> B <ELSE> C`
+-- what is due after a closing parenthesis: `A <IF> (B <ELSE> C)` is `A <IF> B <ELSE> C`
 abbrev pub closed : Hand → Hand → Dep (List ℕ) → Due
 closed (in_inner_else k a b) outer c = operator_due (in_else k a b) None c
 closed h outer d = operator_due outer None (whole h d)
@@ -104,7 +104,7 @@ at_evr outer n h name c w =
     if is_plain w then Ok (record { outer = outer; operators = n; due = operator_due h None (one (versioned name c w)) })
     else Err MissingOperand
 
--- a word behind an operand that is no operator and no comparison
+-- a word after an operand that is no operator and no comparison
 abbrev pub at_other : List Hand → ℕ → Hand → Dep (List ℕ) → List ℕ → Result Point DepFault
 at_other outer n h d w = if closes w then close outer n h d else Err BadOperator
 
@@ -113,7 +113,7 @@ abbrev pub comparison_due : Option Cmp → Option (List ℕ) → Option (List �
 comparison_due (Some c) (Some name) = Some (name, c)
 comparison_due c name = None
 
--- a word behind an operand
+-- a word after an operand
 abbrev pub at_operator : List Hand → ℕ → Hand → Dep (List ℕ) → List ℕ → Option (List ℕ × Cmp) → Option Operator → Result Point DepFault
 at_operator outer n h d w (Some x) o = Ok (record { outer = outer; operators = n; due = evr_due h x.0 x.1 })
 at_operator outer n h d w None (Some o) = go_on outer n o (goes_on outer h d o)
@@ -135,7 +135,7 @@ end_due outer (evr_due h name c) = Err MissingOperand
 end_due [] (operator_due h name d) = Ok (whole h d)
 end_due (o ∷ outer) (operator_due h name d) = Err UnclosedParenthesis
 
--- what the words behind a point give
+-- what the words after a point give
 abbrev pub reading_from : Point → List (List ℕ) → Result (Dep (List ℕ)) DepFault
 reading_from p [] = end_due p.outer p.due
 reading_from p (w ∷ ws) = and_then (step p w) (λ q. reading_from q ws)

@@ -14,6 +14,6 @@ pub record IsRead (pool : Held) (row : Row) : Type 0 where
   pub read : 0 < row.len → dependency row.place (row_text row) ≡ Ok (text_tree pool row.id)
   pub below : 0 < row.len → row.id < length pool.nodes
 
--- so do all rows
+-- every row is such a row
 abbrev pub AreRead : Held → Recent → Type 0
 AreRead pool recent = (n : ℕ) (row : Row) → slice_get recent.rows.items n ≡ Some row → IsRead pool row

@@ -10,10 +10,10 @@ abbrev pub capability_of : Single → Capability (List ℕ)
 capability_of (Name name) = plain name.now
 capability_of (Versioned name c evr) = versioned name.now c evr.now
 
--- an operand is due behind this, in no parentheses, and so many operators stand before it
+-- an operand is due after this, in no parentheses, and so many operators stand before it
 abbrev pub operand_at : ℕ → Hand → Point
 operand_at n hand = record { outer = []; operators = n; due = operand_due hand }
 
--- behind a first operand and `|`
+-- after a first operand and `|`
 abbrev pub behind_either : Dep (List ℕ) → Point
 behind_either left = operand_at 1 (in_chain Either left)

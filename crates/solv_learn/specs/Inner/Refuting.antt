@@ -6,7 +6,7 @@ use Rattle.solv_derive.specs.declared.logs.Hint.{Hint}
 use Rattle.solv_derive.specs.declared.logs.Hint.TheVariants as hint
 use Rattle.solv_trail.specs.Inner.Derivation.{Within}
 
--- the hint at a rule: those of the book come first, and the learnt ones behind them are steps from this number on
+-- the hint at a rule: those of the book come first, and the learnt ones after them are steps from this number on
 abbrev pub hint_for : ℕ → ℕ → ℕ → Hint
 hint_for count first rule = if nat_lt rule count then hint.Book rule else hint.Step (first + (rule - count))
 

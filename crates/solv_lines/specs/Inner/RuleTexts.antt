@@ -7,6 +7,6 @@ use Rattle.solv_pool.specs.declared.tasks.Task.{Task}
 use Rattle.solv_lines.specs.RuleTexts.{text_of_rule}
 
 module _ (task : Task) where
-  -- the text of the rule at a place; a place behind the last one has none
+  -- the text of the rule at a place; a place after the last one has none
   abbrev pub rule_text_at : Rules → ℕ → List ℕ
   rule_text_at rules place = option_map_or (λ r. text_of_rule task (rule_with rules.sets r)) (slice_get rules.list place) []

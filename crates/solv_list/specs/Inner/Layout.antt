@@ -1,4 +1,4 @@
--- Lists one behind another in one list.
+-- Lists one after another in one list.
 use Rattle.std.specs.Prelude.{ℕ, zero, suc, ◌≡◌, ◌≤◌, List, [], ◌∷◌, length, slice_get, slice_index, slice_range, unwrap_or}
 
 -- the pieces of a list: the first begins at a place, and each ends at one of these and begins where the one before it ends
@@ -16,7 +16,7 @@ abbrev pub AreEnds : ℕ → List ℕ → ℕ → Type 0
 AreEnds from [] upto = from ≡ upto
 AreEnds from (end ∷ ends) upto = (from ≤ end) × AreEnds end ends upto
 
--- the pieces lie in order up to a place, and what is open behind them
+-- the pieces lie in order up to a place, and what is open after them
 pub record IsInOrder {X : Type 0} (items : List X) (ends : List ℕ) (open_from : ℕ) : Type 0 where
   pub closed : AreEnds 0 ends open_from
   pub inside : open_from ≤ length items

@@ -33,7 +33,7 @@ abbrev pub AreInside : {X : Type 0} → List (List X) → List Place → Type 0
 AreInside words [] = ⊤
 AreInside words (p ∷ ps) = IsInside words p × AreInside words ps
 
--- places in order, none before a place of a block, and each behind the one before it
+-- places in order, none before a place of a block, and each after the one before it
 abbrev pub AreBehind : ℕ → ℕ → List Place → Type 0
 AreBehind block start [] = ⊤
 AreBehind block start (p ∷ ps) = (block ≤ p.block) × (block ≡ p.block → start ≤ p.start) × AreBehind p.block (p.start + p.len) ps

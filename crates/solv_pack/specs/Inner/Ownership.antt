@@ -1,4 +1,4 @@
--- What a block owns and lends: the words that are written, room behind them, and the right to free all of it.
+-- What a block owns and lends: the words that are written, room after them, and the right to free all of it.
 use Rattle.std.specs.Prelude.{ℕ, List}
 use mir.Syntax.{Ty}
 use base.Fml.{Fml, Lft}

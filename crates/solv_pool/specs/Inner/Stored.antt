@@ -41,7 +41,7 @@ abbrev pub packages_from : Lists → ℕ → List Head → List Package
 packages_from lists k [] = []
 packages_from lists k (head ∷ heads) = package_of lists k head ∷ packages_from lists (suc k) heads
 
--- the lists with those of a package behind them
+-- the lists with those of a package after them
 abbrev pub with_lists : Lists → Package → Lists
 with_lists lists a = record {
   relations = lists.relations ++ relation_rows a;

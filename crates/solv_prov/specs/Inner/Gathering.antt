@@ -23,7 +23,7 @@ each_once pack test last [] = []
 each_once pack test last (x ∷ xs) =
     if test x && not (option_eq nat_eq last (Some (pack x))) then pack x ∷ each_once pack test (Some (pack x)) xs else each_once pack test last xs
 
--- packages, those that stand together once, behind one
+-- packages, those that stand together once, after one
 abbrev pub distinct_after : Option ℕ → List ℕ → List ℕ
 distinct_after last ps = each_once (λ p. p) (λ p. true) last ps
 
@@ -31,7 +31,7 @@ distinct_after last ps = each_once (λ p. p) (λ p. true) last ps
 abbrev pub provided : Catalog → ℕ → List (ℕ × Provide)
 provided catalog p = option_map_or (entries catalog.pool p) (package_at catalog p) []
 
--- the packages behind one whose versions of a name meet the wanted ones
+-- the packages after one whose versions of a name meet the wanted ones
 abbrev pub meeting_after : Held → Version → Option ℕ → List Provide → List ℕ
 meeting_after pool wanted last xs = each_once (λ x. x.pack) (λ x. versions_meet pool x.version wanted) last xs
 

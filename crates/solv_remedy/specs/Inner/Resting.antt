@@ -14,7 +14,7 @@ pub record IsSound (core : CoreOf) (log : Log) : Type 0 where
   pub over : steps_over core.packages log.steps ≡ true
   pub within : list_all (λ n. nat_lt n (length core.clauses)) (leaves log.steps) ≡ true
 
--- so is that of each of these rules
+-- the log of each of these rules is such a log
 abbrev pub AreSound : CoreOf → List RefutedRule → Type 0
 AreSound core [] = Unit {0}
 AreSound core (one ∷ more) = IsSound core one.log × AreSound core more

@@ -11,7 +11,7 @@ package_of (is_out p) = p
 abbrev pub has_number : Literal → Bool
 has_number l = nat_le (package_of l) 1048575
 
--- each literal behind others that is none of them, and none of the system
+-- each literal after others that is none of them, and none of the system
 abbrev pub each_first : Clause → Clause → Clause
 each_first before [] = []
 each_first before (l ∷ ls) = if nat_lt 0 (package_of l) && not (contains_literal before l) then l ∷ each_first (before ++ l ∷ []) ls else each_first (before ++ l ∷ []) ls

@@ -73,9 +73,9 @@ abbrev pub asks_answers : Output → Bool
 asks_answers output.Script = false
 asks_answers o = true
 
--- What is due for a script that was read, and what is reported of its rounds: nothing, where the clauses of one pass a limit, the first of which is told; and
--- else their answers, within the budget of the words. Where the words ask for proofs, these are due in place of lines. Where they ask for the script itself,
--- its text is due, and no round is looked at.
+-- What is due for a script that was read, and what is reported of its rounds: nothing, where the clauses of one pass a limit, the first of which is reported;
+-- and else their answers, within the budget of the words. Where the words ask for proofs, these are due in place of lines. Where they ask for the script
+-- itself, its text is due, and no round is looked at.
 pub data IsDueForScript (command : Command) (script : Script) : Due → Reached → Type 0 where
   passes : (fault : BookFault) → asks_answers command.output ≡ true → first_limit (tasks script) ≡ Some fault → IsDueForScript command script (limit_due program script.task fault) nothing_reached
   answered : (reached : Reached) → command.output ≡ output.Lines → first_limit (tasks script) ≡ None → AreAnswers command.budget (tasks script) reached.answers reached.ledgers

@@ -21,11 +21,11 @@ abbrev pub prints_lines : Output → Bool
 prints_lines output.Lines = true
 prints_lines o = false
 
--- the lines of a round behind another
+-- the lines of a round after another
 abbrev pub next_lines : Bool → Turn → Answer → List (List ℕ)
 next_lines shows turn answer = codes "nextjob" ∷ round_lines shows turn answer
 
--- the lines of rounds behind another
+-- the lines of rounds after another
 abbrev pub later_lines : Command → List Turn → List Answer → List (List ℕ)
 later_lines command turns answers = flat_map (λ x. next_lines command.shows x.0 x.1) (zip turns answers)
 
@@ -66,7 +66,7 @@ pub record IsOneMore (command : Command) (before : List (List ℕ)) (turn : Turn
   pub left : is_spent answer ≡ false → new.left ≡ old.left - length ledger.entries
   pub whole : prints_lines command.output ≡ false → is_whole answer ≡ true
 
--- One round more behind others: where the budget is spent all is as before, and else it was begun, with the line before a later round.
+-- One round more after others: where the budget is spent all is as before, and else it was begun, with the line before a later round.
 pub record GoesOn (command : Command) (turn : Turn) (old new : Begun) : Type 0 where
   pub spent : old.spent ≡ true → new ≡ old
   pub one_more : old.spent ≡ false → IsOneMore command (codes "nextjob" ∷ []) turn old new

@@ -8,6 +8,6 @@ use Rattle.solv_said.specs.declared.dues.Due.{Due}
 abbrev pub usage_due : List ℕ → Due
 usage_due usage = line_due status.Usage usage
 
--- a file that cannot be read, behind the program's name
+-- a file that cannot be read, after the program's name
 abbrev pub read_fault_line : List ℕ → List ℕ → List ℕ
 read_fault_line program file = program ++ (codes ": cannot read " ++ (file ++ codes "\n"))

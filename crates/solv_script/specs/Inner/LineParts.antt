@@ -69,7 +69,7 @@ next_row s = Ok (record s { task = record s.task { jobs = [] }; kinds = default_
 abbrev pub disable_row : State → List ℕ → Result State Cause
 disable_row s word = and_then (ok_or (package_number s.task word) UnknownPackage) (disabled s)
 
--- the packages of a repository's lines, which stand behind the others and are not disabled
+-- the packages of a repository's lines, which come after the others and are not disabled
 abbrev pub with_repository : State → Repository → State
 with_repository s r = record s {
   held = r.held;

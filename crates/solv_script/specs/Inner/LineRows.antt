@@ -49,7 +49,7 @@ abbrev pub answered : List (List ℕ) → Row → Result State Bad
 answered fetched (done given) = given
 answered fetched (asks name next) = next (next_bytes fetched)
 
--- the files that are fetched behind a line
+-- the files that are fetched after a line
 abbrev pub fetched_behind : List (List ℕ) → Row → List (List ℕ)
 fetched_behind fetched (done given) = fetched
 fetched_behind fetched (asks name next) = drop 1 fetched
@@ -64,7 +64,7 @@ abbrev pub then_row : Result State Bad → (State → Row) → Row
 then_row (Ok s) next = next s
 then_row (Err b) next = done (Err b)
 
--- the names behind a line that is not bad
+-- the names after a line that is not bad
 abbrev pub due_behind : Result State Bad → (State → List (List ℕ)) → List (List ℕ)
 due_behind (Ok s) due = due s
 due_behind (Err b) due = []
@@ -101,7 +101,7 @@ module _ (script : List ℕ) where
   said_row s line (Ok c) = command_row s line c
   said_row s line (Err c) = done (at_line line.number (Err c))
 
-  -- the words of a line; a comment has none. That a line of packages stands behind `nextjob` is tried first
+  -- the words of a line; a comment has none. That a line of packages comes after `nextjob` is tried first
   abbrev pub words_row : State → ScriptLine → List (List ℕ) → Row
   words_row s line [] = done (Ok s)
   words_row s line (first ∷ words) = if is_too_late s first then done (at_line line.number (Err AfterNextjob)) else said_row s line (command first words)

@@ -8,7 +8,7 @@ use Rattle.solv_script.specs.declared.scripts.Script.{Script}
 abbrev pub first_turn : Script → Turn
 first_turn script = turn_of script (first_round script)
 
--- a script with another round in front, and these behind it
+-- a script with another round in front, and these after it
 abbrev pub with_front : Script → Round → List Round → Script
 with_front script r later = record { task = with_jobs_of script.task r; kinds = r.kinds; wanted = r.wanted; checks = script.checks; later = later }
 

@@ -18,6 +18,6 @@ is_yes _ = false
 abbrev pub is_proved : Task → Proof → Bool
 is_proved task p = are_listed (p ∷ []) && is_yes (verdict_of (task ∷ []) p)
 
--- so may that of each problem
+-- the proof of each problem may be written by itself, and yes is said of it
 abbrev pub are_proved : Task → List Problem → Bool
 are_proved task problems = list_all (is_proved task) (proofs_of 1 problems)

@@ -112,7 +112,7 @@ line_by_block s (Some name) line = inside_block s name line
 abbrev pub line_read : Tagged → List ℕ → Result Tagged TagCause
 line_read s line = line_by_block s s.block line
 
--- the end of the file behind the line of this number, where no block may be open
+-- the end of the file after the line of this number, where no block may be open
 abbrev pub end_read : ℕ → Tagged → Result Repository TagFault
 end_read last s =
     if is_some s.block then Err (record { line = last; cause = cause.UnclosedBlock })
@@ -123,7 +123,7 @@ abbrev pub or_bad : ℕ → Result Tagged TagCause → (Tagged → Result Reposi
 or_bad n (Ok s) next = next s
 or_bad n (Err c) next = Err (record { line = n; cause = c })
 
--- what numbered lines give behind the line of this number
+-- what numbered lines give after the line of this number
 abbrev pub lines_read : ℕ → Tagged → List (ℕ × List ℕ) → Result Repository TagFault
 lines_read last s [] = end_read last s
 lines_read last s (line ∷ others) = or_bad line.0 (line_read s line.1) (λ t. lines_read line.0 t others)

@@ -10,7 +10,7 @@ use Rattle.solv_tags.specs.declared.tag_fault.TagCause.TheVariants.{Memory, Dep}
 use Rattle.solv_deps.specs.declared.fault.DepFault.TheVariants as of_text
 use Rattle.solv_tags.specs.Testtags.{Repository}
 
--- these packages, seen through their texts, stand behind the others, none of them disabled; all else is as before
+-- these packages, seen through their texts, come after the others, none of them disabled; all else is as before
 pub record HasAdded (packages : List WrittenPackage) (pool : Held) (old new : Contents) : Type 0 where
   pub added : List Package
   pub texts : map (written_package pool) added ≡ packages

@@ -18,15 +18,15 @@ use Rattle.solv_tags.specs.declared.tag_fault.TagFault.{TagFault}
 use Rattle.solv_tags.specs.Testtags.{Tagged, Repository}
 use Rattle.solv_tags.specs.Inner.Lines.{end_read}
 
--- a list with an id, which stands in it once, at its first place
+-- the list with the id, added if it is new
 abbrev pub with_id : ℕ → List ℕ → List ℕ
 with_id id ids = if list_any (λ other. id == other) ids then ids else ids ++ id ∷ []
 
--- a requirement, which is due before the install where it is of this relation and that is said now
+-- a requirement, which becomes a pre-requirement if it is of this relation and is said to be one now
 abbrev pub also_pre_id : ℕ → Bool → Need → Need
 also_pre_id dep pre need = if dep == need.dep then record { dep = need.dep; pre = need.pre || pre } else need
 
--- a list with a requirement, which stands in it once, at its first place, and is due before the install where that was said once
+-- the list with the requirement, added if it is new; it is a pre-requirement if any of its entries was
 abbrev pub with_need_id : ℕ → Bool → List Need → List Need
 with_need_id dep pre needs =
     if list_any (λ need. dep == need.dep) needs then map (also_pre_id dep pre) needs
@@ -137,12 +137,12 @@ pub record IsReading (r : TagReader) (pool : Held) (universe : Contents) : Type 
   pub before : r.before ≤ length universe.packages
   pub recent : AreRead pool r.recent
 
--- a universe with these packages behind the others, none of them disabled
+-- a universe with these packages after the others, none of them disabled
 abbrev pub with_packages : Contents → List Package → Contents
 with_packages universe added =
     record universe { packages = universe.packages ++ added; disabled = universe.disabled ++ map (λ a. false) added }
 
--- packages stand behind the others, none of them disabled, and all else is as before
+-- packages come after the others, none of them disabled, and all else is as before
 pub record HasMore (old new : Contents) : Type 0 where
   pub added : List Package
   pub is : new ≡ with_packages old added

@@ -55,11 +55,11 @@ place_of tag = Requires
 abbrev pub without_back_blanks : List ℕ → List ℕ
 without_back_blanks text = reverse (without_front_blanks (reverse text))
 
--- a list with a path, which stands in it once, at its first place
+-- the list with the path, added if it is new
 abbrev pub with_path : List ℕ → List (List ℕ) → List (List ℕ)
 with_path path paths = with_name paths path
 
--- a requirement, which is due before the install where it is of this dependency and that is said now
+-- a requirement, which becomes a pre-requirement if it is of this dependency and is said to be one now
 abbrev pub also_pre : Dep (List ℕ) → Bool → WrittenNeed → WrittenNeed
 also_pre d pre need = if is_same d need.dep then record { dep = need.dep; pre = need.pre || pre } else need
 

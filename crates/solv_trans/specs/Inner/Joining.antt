@@ -29,7 +29,7 @@ pub record AreTurns (catalog : Catalog) (set : ℕ → Bool) (turns : List Turn)
   pub size : length turns ≡ length catalog.universe.packages + 1
   pub each : (p : ℕ) → p ≤ length catalog.universe.packages → turn_at turns p ≡ turn_of catalog set p
 
--- the edges that a list tells, and the pre edges among them
+-- the edges that a list holds, and the pre edges among them
 abbrev pub linked : List Link → ℕ → ℕ → Bool
 linked links a b = list_any (λ (link : Link). link.from == a && link.to == b) links
 
@@ -80,7 +80,7 @@ owned_by catalog set these p a b =
     (p == b && (comes catalog set a && (comes catalog set p && requires_some catalog set these (brings catalog set a p) p)))
     || (p == a && (not (p == b) && (goes catalog set b && (goes catalog set p && requires_some catalog set these (serves catalog b) p))))
 
--- a list tells the edges of a set
+-- a list holds the edges of a set
 pub record AreEdges (catalog : Catalog) (set : ℕ → Bool) (links : List Link) : Type 0 where
   pub all : (a b : ℕ) → linked links a b ≡ edge catalog set a b
   pub pre : (a b : ℕ) → pre_linked links a b ≡ pre_edge catalog set a b

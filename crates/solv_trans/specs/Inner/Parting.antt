@@ -34,7 +34,7 @@ pub record Puts (parts : List ℕ) (links : List Link) (old new : Edges) : Type 
   pub all : Adds (joins_places parts) links old.all new.all
   pub pre : Adds (pre_joins_places parts) links old.pre new.pre
 
--- both graphs are over the places, and tell these edges
+-- both graphs are over the places, and have these edges
 pub record AreJoined (parts : List ℕ) (links : List Link) (edges : Edges) : Type 0 where
   pub size : length edges.all ≡ length parts
   pub pre_size : length edges.pre ≡ length parts

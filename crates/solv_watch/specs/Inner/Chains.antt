@@ -33,7 +33,7 @@ pub record AreHung (heads links : List ℕ) (is : ℕ → Type 0) (at : ℕ → 
 abbrev pub AreAllHung : (ℕ → Type 0) → (ℕ → ℕ) → (ℕ → List ℕ) → Type 0
 AreAllHung is at chain = (w : ℕ) → is w → Has (chain (at w)) w
 
--- the heads and the links where what stands behind the watch last, or first of all, begins at a number
+-- the heads and the links where what comes after the watch last, or first of all, begins at a number
 abbrev pub heads_past : List ℕ → ℕ → ℕ → ℕ → List ℕ
 heads_past heads p last next = if last == no_link then slice_set heads p next else heads
 

@@ -27,7 +27,7 @@ ArePairs rules watched = (w : ℕ) (c : List ℤ) → slice_get rules (w / 2) �
 abbrev pub IsGuard : List ℤ → List ℤ → List ℤ → ℕ → Type 0
 IsGuard watched seen known w = is_refuted seen (literal_of watched w) ≡ true → is_fact known (literal_of watched (other w)) ≡ true
 
--- so it is with each watch in use for which the promise holds
+-- each watch in use for which the promise holds is such a guard
 abbrev pub AreGuards : List (List ℤ) → (ℕ → Bool) → List ℤ → (ℕ → Type 0) → List ℤ → List ℤ → Type 0
 AreGuards rules used watched holds seen known = (w : ℕ) → IsWatch rules w → used (w / 2) ≡ true → holds w → IsGuard watched seen known w
 
@@ -72,12 +72,12 @@ pub record IsPart (all : List (List ℤ)) (used : ℕ → Bool) (base : ℕ) (ru
   pub clause : (r : ℕ) (c : List ℤ) → slice_get rules r ≡ Some c → slice_get all (base + r) ≡ Some c
   pub in_use : (r : ℕ) → own r ≡ true → used (base + r) ≡ true
 
--- what a look at a rule finds, beside one of its watched literals
-pub data Looked (rules : List (List ℤ)) (used : ℕ → Bool) (lits : List ℤ) (rule : ℕ) (b : ℤ) : Visit → Type 0 where
-  stays : (used rule ≡ true → is_fact lits b ≡ true) → Looked rules used lits rule b Stays
-  falsified : (c : List ℤ) → IsUsed rules used rule c → is_falsified lits c ≡ true → Looked rules used lits rule b Falsified
-  forces : (c : List ℤ) → IsUsed rules used rule c → forced lits c ≡ Some b → Looked rules used lits rule b Forces
-  moves : (y : ℤ) (c : List ℤ) → IsUsed rules used rule c → AreTwoOf y b c → is_refuted lits y ≡ false → Looked rules used lits rule b (Moves y)
+-- what a visit of a rule finds, where its other watched literal is given
+pub data Visited (rules : List (List ℤ)) (used : ℕ → Bool) (lits : List ℤ) (rule : ℕ) (b : ℤ) : Visit → Type 0 where
+  stays : (used rule ≡ true → is_fact lits b ≡ true) → Visited rules used lits rule b Stays
+  falsified : (c : List ℤ) → IsUsed rules used rule c → is_falsified lits c ≡ true → Visited rules used lits rule b Falsified
+  forces : (c : List ℤ) → IsUsed rules used rule c → forced lits c ≡ Some b → Visited rules used lits rule b Forces
+  moves : (y : ℤ) (c : List ℤ) → IsUsed rules used rule c → AreTwoOf y b c → is_refuted lits y ≡ false → Visited rules used lits rule b (Moves y)
 
 -- those with fewer than two literals are true at each choice
 abbrev pub AreNarrowTrueAtChoices : List (List ℤ) → (ℕ → Bool) → List ℤ → List ℕ → Type 0

@@ -28,7 +28,7 @@ pub record Argument : Type 0 where
 abbrev pub argument : Kind → List ℕ → Argument
 argument kind value = record { kind = kind; value = value }
 
--- what a word is, where no option waits for its value: an argument; an option whose value is the next word; `--`, behind which each word is a FILE; or unknown
+-- what a word is, where no option waits for its value: an argument; an option whose value is the next word; `--`, after which each word is a FILE; or unknown
 pub data Word : Type 0 where
   whole : Argument → Word
   option : Kind → Word

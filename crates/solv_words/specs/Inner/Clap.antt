@@ -20,7 +20,7 @@ id_of written = codes "write"
 id_of seed = codes "grow"
 id_of file = codes "FILE"
 
--- what is told of an argument of each kind
+-- what `clap` is given of an argument of each kind
 abbrev pub told_of : Kind → Rule
 told_of lines = record (new_rule (codes "lines")) { short = Some 114; action = Some SetTrue }
 told_of budget = record (new_rule (codes "budget")) { long = Some (codes "budget"); parser = Some (Signed (pos 0) (pos 1000000)) }

@@ -20,11 +20,11 @@ check_line c = joined (codes "evrcmp" ∷ c.left ∷ comparison_text c.op ∷ c.
 abbrev pub job_line : WrittenJob → List ℕ
 job_line j = codes "job " ++ j.text
 
--- rounds behind the first one
+-- rounds after the first one
 abbrev pub later_lines : List WrittenRound → List (List ℕ)
 later_lines rounds = flat_map (λ r. codes "nextjob" ∷ round_lines r) rounds
 
--- stands something before the last `-` of an EVR, and behind it?
+-- stands something before the last `-` of an EVR, and after it?
 abbrev pub is_parted : List ℕ → Bool
 is_parted evr = nat_lt 0 (length (before_last is_dash evr)) && nat_lt 0 (length (after_last is_dash evr))
 

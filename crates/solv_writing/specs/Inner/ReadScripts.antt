@@ -73,11 +73,11 @@ pub record IsReadRepo (r : WrittenRepo) : Type 0 where
   pub number : is_word (signed_decimal r.priority) ≡ true
   pub priority : priority (signed_decimal r.priority) ≡ Some r.priority
 
--- a package is told by its text: it is the first one with it
+-- a package is identified by its text: it is the first one with it
 abbrev pub IsToldByText : WrittenTask → ℕ → Type 0
 IsToldByText task p = (package_number task (text_of_number task p) ≡ Some p) × (is_word (text_of_number task p) ≡ true)
 
--- a namespace's name, and packages, one at least, that are told by their texts
+-- a namespace's name, and packages, one at least, that are identified by their texts
 pub record IsReadNamespace (task : WrittenTask) (n : List ℕ × List ℕ) : Type 0 where
   pub name : is_word n.0 ≡ true
   pub namespace : is_namespace n.0 ≡ true
@@ -91,7 +91,7 @@ abbrev pub packages_from : ℕ → List WrittenRepo → List WrittenPackage → 
 packages_from place [] packages = []
 packages_from place (r ∷ others) packages = packages_of place packages ++ packages_from (place + 1) others packages
 
--- a repository is told by its name
+-- a repository is identified by its name
 pub record IsToldByName (task : WrittenTask) (place : ℕ) : Type 0 where
   pub word : is_word (repo_name task place) ≡ true
   pub place_is : repo_place task (repo_name task place) ≡ Some place
@@ -102,7 +102,7 @@ IsReadSystem task None installed = installed ≡ None
 IsReadSystem task (Some arch) None = Unit {0}
 IsReadSystem task (Some arch) (Some place) = IsToldByName task place
 
--- the disabled packages among these, of which the first has this number less one, are told by their texts
+-- the disabled packages among these, of which the first has this number less one, are identified by their texts
 abbrev pub AreDisabledTold : WrittenTask → ℕ → List WrittenPackage → List Bool → Type 0
 AreDisabledTold task k [] [] = Unit {0}
 AreDisabledTold task k (a ∷ packages) (true ∷ others) = (is_word (text_of task a) ≡ true) × (package_number task (text_of task a) ≡ Some (suc k)) × AreDisabledTold task (suc k) packages others

@@ -7,6 +7,6 @@ use Rattle.solv_writing.specs.Inner.ScriptParts.{flag_words, result_lines}
 abbrev pub round_text : Round → List (List ℕ)
 round_text r = joined (codes "solverflags" ∷ flag_words r.flags) ∷ (map (λ job. codes "job " ++ job.text) r.jobs ++ result_lines r.kinds r.wanted)
 
--- those behind the first one
+-- those after the first one
 abbrev pub later_text : List Round → List (List ℕ)
 later_text rounds = flat_map (λ r. codes "nextjob" ∷ round_text r) rounds

@@ -4,10 +4,10 @@ use Rattle.solv_core.specs.Cores.{CoreOf}
 use Rattle.solv_questions.specs.Questions.{Request}
 use Rattle.solv_remedy.specs.Inner.Runs.{is_spent, IsOf}
 use Rattle.solv_remedy.specs.Inner.Trying.{IsLogOf}
-use Rattle.solv_remedy.specs.Inner.Conflicts.{listed_of, is_spent_rest, look_runs, AreSettled, IsRest, IsClashIn}
+use Rattle.solv_remedy.specs.Inner.Conflicts.{listed_of, is_spent_rest, probe_runs, AreSettled, IsRest, IsClashIn}
 use Rattle.solv_remedy.specs.declared.collecting.Rest.{Rest}
 use Rattle.solv_remedy.proofs.Ran.{ran_then, ran_within, may_still}
-use Rattle.solv_remedy.proofs.More.{few_looks}
+use Rattle.solv_remedy.proofs.More.{few_probes}
 use Rattle.solv_remedy.proofs.collecting.go_round.Goals as goal
 use Rattle.solv_remedy.proofs.collecting.go_round.Goals.{In-Clash}
 
@@ -50,14 +50,14 @@ returns-in-Spent-clause-more c = λ open_.
     let more_now = c.in_ok-trail.ensures.more open_ in
     (let one = more_now.0 in omega (arith, one), more_now.1)
 
-pub look_on-requires-clause-rules : goal.look_on-requires-clause-rules
-look_on-requires-clause-rules c =
+pub probe_on-requires-clause-rules : goal.probe_on-requires-clause-rules
+probe_on-requires-clause-rules c =
     let R : Rest → Type 0 = λ v. IsClashIn c.args.setting.now.fixed.now v in
     subst R c.in-Clash.is c.in_ok-trail.ensures.rules
 
-pub look_on-requires-clause-may_run : goal.look_on-requires-clause-may_run
-look_on-requires-clause-may_run c =
-    let d = (goal.at.look_on-requires-clause-may_run c).In-Clash in
+pub probe_on-requires-clause-may_run : goal.probe_on-requires-clause-may_run
+probe_on-requires-clause-may_run c =
+    let d = (goal.at.probe_on-requires-clause-may_run c).In-Clash in
     may_still c.requires.may_run c.go_on.ensures.has_run (sym (not_spent d))
 
 pub returns-in-Found-clause-rest : goal.returns-in-Found-clause-rest
@@ -73,21 +73,21 @@ returns-then-not-is_time-clause-rules c =
 pub returns-then-not-is_time-clause-rest : goal.returns-then-not-is_time-clause-rest
 returns-then-not-is_time-clause-rest c = λ r up. its_rest ((goal.at.returns-then-not-is_time-clause-rest c).In-Clash) r up
 
-pub returns-in_err-rest-in-Clash-clause-looked : goal.returns-in_err-rest-in-Clash-clause-looked
-returns-in_err-rest-in-Clash-clause-looked c = few_looks c.args.looks.now.made
+pub returns-in_err-rest-in-Clash-clause-probed : goal.returns-in_err-rest-in-Clash-clause-probed
+returns-in_err-rest-in-Clash-clause-probed c = few_probes c.args.probes.now.made
 
-pub returns-in_ok-rest-in-Clash-clause-looked : goal.returns-in_ok-rest-in-Clash-clause-looked
-returns-in_ok-rest-in-Clash-clause-looked c = few_looks c.args.looks.now.made
+pub returns-in_ok-rest-in-Clash-clause-probed : goal.returns-in_ok-rest-in-Clash-clause-probed
+returns-in_ok-rest-in-Clash-clause-probed c = few_probes c.args.probes.now.made
 
 pub returns-in_err-rest-in-Clash-clause-has_run : goal.returns-in_err-rest-in-Clash-clause-has_run
 returns-in_err-rest-in-Clash-clause-has_run c =
-    let none : look_runs c.args.looks.now.made ≡ 0 = ap look_runs (c.is_time.ensures c.if-not-is_time.false) in
-    ran_then (omega (arith, none)) c.go_on.ensures.has_run c.look_on.ensures.has_run
+    let none : probe_runs c.args.probes.now.made ≡ 0 = ap probe_runs (c.is_time.ensures c.if-not-is_time.false) in
+    ran_then (omega (arith, none)) c.go_on.ensures.has_run c.probe_on.ensures.has_run
 
 pub returns-in_ok-rest-in-Clash-clause-has_run : goal.returns-in_ok-rest-in-Clash-clause-has_run
 returns-in_ok-rest-in-Clash-clause-has_run c =
-    let none : look_runs c.args.looks.now.made ≡ 0 = ap look_runs (c.is_time.ensures c.if-not-is_time.false) in
-    ran_then (omega (arith, none)) c.go_on.ensures.has_run c.look_on.ensures.has_run
+    let none : probe_runs c.args.probes.now.made ≡ 0 = ap probe_runs (c.is_time.ensures c.if-not-is_time.false) in
+    ran_then (omega (arith, none)) c.go_on.ensures.has_run c.probe_on.ensures.has_run
 
 pub returns-in_ok-rest-in-Clash-clause-more : goal.returns-in_ok-rest-in-Clash-clause-more
 returns-in_ok-rest-in-Clash-clause-more c = λ open_.
@@ -101,11 +101,11 @@ returns-in_ok-rest-in-Clash-clause-more c = λ open_.
 
 pub returns-in_ok-rest-in-Clash-clause-settled : goal.returns-in_ok-rest-in-Clash-clause-settled
 returns-in_ok-rest-in-Clash-clause-settled c = λ r up log all.
-    let P : CoreOf → Type 0 = λ v. IsOf r c.args.setting.now v → AreSettled r v c.go_on.new.conflicts.items → AreSettled r v c.look_on.new.conflicts.items in
+    let P : CoreOf → Type 0 = λ v. IsOf r c.args.setting.now v → AreSettled r v c.go_on.new.conflicts.items → AreSettled r v c.probe_on.new.conflicts.items in
     subst P c.go_on.ensures.has_run.core (c.in_ok-rest-in-Clash.ensures.settled r) up (c.in_ok-trail.ensures.settled r up log all)
 
 pub returns-in_ok-rest-in-Clash-clause-rest : goal.returns-in_ok-rest-in-Clash-clause-rest
 returns-in_ok-rest-in-Clash-clause-rest c = λ r up.
     let d = (goal.at.returns-in_ok-rest-in-Clash-clause-rest c).In-Clash in
-    let P : CoreOf → Type 0 = λ v. IsOf r c.args.setting.now v → IsLogOf r v c.in-Clash.next.rules c.in-Clash.next.log → IsRest r v (listed_of c.look_on.new.conflicts.items) c.in_ok-rest-in-Clash.rest in
+    let P : CoreOf → Type 0 = λ v. IsOf r c.args.setting.now v → IsLogOf r v c.in-Clash.next.rules c.in-Clash.next.log → IsRest r v (listed_of c.probe_on.new.conflicts.items) c.in_ok-rest-in-Clash.rest in
     subst P c.go_on.ensures.has_run.core (c.in_ok-rest-in-Clash.ensures.rest r) up (its_rest d r up).0

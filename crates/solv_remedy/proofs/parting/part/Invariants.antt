@@ -1,6 +1,6 @@
 use Rattle.std.proofs.Common.{◌≡◌, ◌++◌, drop, not}
 use Rattle.std.specs.Prelude.{filter}
-use Rattle.solv_remedy.specs.Inner.Dropping.{goes_with}
+use Rattle.solv_remedy.specs.Inner.Correcting.{goes_with}
 use Rattle.solv_remedy.proofs.parting.part.Given as goal
 
 abbrev pub invariant-loop-one : goal.invariant-loop-one

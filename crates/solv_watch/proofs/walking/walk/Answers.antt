@@ -12,10 +12,10 @@ use Rattle.solv_trail.specs.Inner.Propagated.{IsUsed, IsGrown}
 use Rattle.solv_trail.proofs.Growth.{grown_self, grown_push}
 use Rattle.solv_watch.specs.Inner.Chains.{no_link, other, heads_past, links_past}
 use Rattle.solv_watch.specs.Inner.Spares.{AreTwoOf}
-use Rattle.solv_watch.specs.Inner.Watching.{literal_of, IsPart, Looked}
+use Rattle.solv_watch.specs.Inner.Watching.{literal_of, IsPart, Visited}
 use Rattle.solv_watch.specs.declared.walking.Visit.TheVariants.{Stays, Falsified, Forces, Moves}
 use Rattle.solv_watch.proofs.Pairs.{of_others}
-use Rattle.solv_watch.proofs.Walks.{IsWalk, walk_at, walk_start, walk_end, walk_past, walk_moved, walk_more, walk_beside, walk_last, looked_stays, looked_false, looked_forces, looked_moves, used_among, beside_few, beside_within, rule_within, pushed_known}
+use Rattle.solv_watch.proofs.Walks.{IsWalk, walk_at, walk_start, walk_end, walk_past, walk_moved, walk_more, walk_beside, walk_last, visited_stays, visited_false, visited_forces, visited_moves, used_among, beside_few, beside_within, rule_within, pushed_known}
 use Rattle.solv_watch.proofs.walking.walk.Goals as goal
 use Rattle.solv_watch.proofs.walking.walk.Goals.{After-index-watched-beside, In-loop-watch}
 
@@ -44,8 +44,8 @@ beside-requires c = beside_few (length c.args.part.rules.now.rules) c.loop-watch
 pub bounds-watched-beside : goal.bounds-watched-beside
 bounds-watched-beside c = let m : other c.loop-watch.watch < 2 * length c.args.part.rules.now.rules = beside_within (length c.args.part.rules.now.rules) c.loop-watch.watch (bound (goal.at.bounds-watched-beside c).In-loop-watch) in let e : length c.loop-watch.watched ≡ 2 * length c.args.part.rules.now.rules = c.loop-watch.invariant.walk.two in omega (arith, c.beside.ensures)
 
-pub look-requires-clause-rule : goal.look-requires-clause-rule
-look-requires-clause-rule c = (rule_within (length c.args.part.rules.now.rules) c.loop-watch.watch (bound (goal.at.look-requires-clause-rule c).In-loop-watch))
+pub visit_rule-requires-clause-rule : goal.visit_rule-requires-clause-rule
+visit_rule-requires-clause-rule c = (rule_within (length c.args.part.rules.now.rules) c.loop-watch.watch (bound (goal.at.visit_rule-requires-clause-rule c).In-loop-watch))
 
 -- the other watched literal
 beside_is : (c : After-index-watched-beside) → c.index-watched-beside.result ≡ literal_of c.loop-watch.watched (other c.loop-watch.watch)
@@ -55,10 +55,10 @@ beside_is c =
     let within : c.beside.result < length c.loop-watch.watched = omega (arith, c.beside.ensures) in
     get_or_read c.loop-watch.watched c.beside.result c.index-watched-beside.result within c.index-watched-beside.is (pos 0) ∙ ap (literal_of c.loop-watch.watched) c.beside.ensures
 
-pub look-requires-clause-beside : goal.look-requires-clause-beside
-look-requires-clause-beside c = λ clause found.
+pub visit_rule-requires-clause-beside : goal.visit_rule-requires-clause-beside
+visit_rule-requires-clause-beside c = λ clause found.
     let f : slice_get c.args.part.rules.now.rules (c.loop-watch.watch / 2) ≡ Some clause = found in
-    rw (beside_is (goal.at.look-requires-clause-beside c).After-index-watched-beside) (walk_beside c.args.known.now.count c.args.part.rules.now.rules (in_use c.args.part.owners.now c.args.part.enabled.now) c.loop-watch.heads c.loop-watch.links c.loop-watch.watched c.loop-watch.known.lits c.loop-watch.known.marks c.args.at c.place-place.result c.loop-watch.last c.loop-watch.watch c.loop-watch.invariant.walk c.loop-watch-test.true clause f)
+    rw (beside_is (goal.at.visit_rule-requires-clause-beside c).After-index-watched-beside) (walk_beside c.args.known.now.count c.args.part.rules.now.rules (in_use c.args.part.owners.now c.args.part.enabled.now) c.loop-watch.heads c.loop-watch.links c.loop-watch.watched c.loop-watch.known.lits c.loop-watch.known.marks c.args.at c.place-place.result c.loop-watch.last c.loop-watch.watch c.loop-watch.invariant.walk c.loop-watch-test.true clause f)
 
 pub returns-clause-guards : goal.returns-clause-guards
 returns-clause-guards c = λ e.
@@ -76,8 +76,8 @@ rewatch-requires-clause-last c = λ h.
 
 pub rewatch-requires-clause-to : goal.rewatch-requires-clause-to
 rewatch-requires-clause-to c =
-    let l : Looked c.args.part.rules.now.rules (in_use c.args.part.owners.now c.args.part.enabled.now) c.loop-watch.known.lits (c.loop-watch.watch / 2) c.index-watched-beside.result (Moves c.in-Moves.to) = c.in-Moves.ensures in
-    let m = looked_moves l in
+    let l : Visited c.args.part.rules.now.rules (in_use c.args.part.owners.now c.args.part.enabled.now) c.loop-watch.known.lits (c.loop-watch.watch / 2) c.index-watched-beside.result (Moves c.in-Moves.to) = c.in-Moves.ensures in
+    let m = visited_moves l in
     let over : is_over c.args.known.now.count m.0 ≡ true = clause_over c.args.known.now.count c.args.part.rules.now.rules (c.loop-watch.watch / 2) m.0 c.requires.over m.1.found in
     let named : names_package c.args.known.now.count c.in-Moves.to ≡ true = all_member (names_package c.args.known.now.count) m.0 over c.in-Moves.to (of_others c.index-watched-beside.result c.in-Moves.to m.0 m.2.first) in
     let small : place_of c.in-Moves.to < 2 * c.args.known.now.count + 2 = place_within c.args.known.now.count c.in-Moves.to named in
@@ -85,41 +85,41 @@ rewatch-requires-clause-to c =
 
 pub push-requires-clause-over : goal.push-requires-clause-over
 push-requires-clause-over c =
-    let l : Looked c.args.part.rules.now.rules (in_use c.args.part.owners.now c.args.part.enabled.now) c.loop-watch.known.lits (c.loop-watch.watch / 2) c.index-watched-beside.result Forces = c.in-Forces.ensures in
-    let m = looked_forces l in
+    let l : Visited c.args.part.rules.now.rules (in_use c.args.part.owners.now c.args.part.enabled.now) c.loop-watch.known.lits (c.loop-watch.watch / 2) c.index-watched-beside.result Forces = c.in-Forces.ensures in
+    let m = visited_forces l in
     let over : is_over c.args.known.now.count m.0 ≡ true = clause_over c.args.known.now.count c.args.part.rules.now.rules (c.loop-watch.watch / 2) m.0 c.requires.over m.1.found in
     rw (c.loop-watch.invariant.count) (forced_over c.args.known.now.count (is_fact c.loop-watch.known.lits) m.0 c.index-watched-beside.result over m.2)
 
 pub push-requires-clause-unknown : goal.push-requires-clause-unknown
 push-requires-clause-unknown c =
-    let l : Looked c.args.part.rules.now.rules (in_use c.args.part.owners.now c.args.part.enabled.now) c.loop-watch.known.lits (c.loop-watch.watch / 2) c.index-watched-beside.result Forces = c.in-Forces.ensures in
-    let m = looked_forces l in
+    let l : Visited c.args.part.rules.now.rules (in_use c.args.part.owners.now c.args.part.enabled.now) c.loop-watch.known.lits (c.loop-watch.watch / 2) c.index-watched-beside.result Forces = c.in-Forces.ensures in
+    let m = visited_forces l in
     (open_parts c.loop-watch.known.lits c.index-watched-beside.result (forced_member c.loop-watch.known.lits m.0 c.index-watched-beside.result (forces_from c.loop-watch.known.lits m.0 c.index-watched-beside.result m.2)).1).0
 
 pub push-requires-clause-not_false : goal.push-requires-clause-not_false
 push-requires-clause-not_false c =
-    let l : Looked c.args.part.rules.now.rules (in_use c.args.part.owners.now c.args.part.enabled.now) c.loop-watch.known.lits (c.loop-watch.watch / 2) c.index-watched-beside.result Forces = c.in-Forces.ensures in
-    let m = looked_forces l in
+    let l : Visited c.args.part.rules.now.rules (in_use c.args.part.owners.now c.args.part.enabled.now) c.loop-watch.known.lits (c.loop-watch.watch / 2) c.index-watched-beside.result Forces = c.in-Forces.ensures in
+    let m = visited_forces l in
     (open_parts c.loop-watch.known.lits c.index-watched-beside.result (forced_member c.loop-watch.known.lits m.0 c.index-watched-beside.result (forces_from c.loop-watch.known.lits m.0 c.index-watched-beside.result m.2)).1).1
 
 pub returns-in-Falsified-clause-clash : goal.returns-in-Falsified-clause-clash
 returns-in-Falsified-clause-clash c = λ all used part.
-    let l : Looked c.args.part.rules.now.rules (in_use c.args.part.owners.now c.args.part.enabled.now) c.loop-watch.known.lits (c.loop-watch.watch / 2) c.index-watched-beside.result Falsified = c.in-Falsified.ensures in
-    let m = looked_false l in
+    let l : Visited c.args.part.rules.now.rules (in_use c.args.part.owners.now c.args.part.enabled.now) c.loop-watch.known.lits (c.loop-watch.watch / 2) c.index-watched-beside.result Falsified = c.in-Falsified.ensures in
+    let m = visited_false l in
     (m.0, used_among all used c.args.part.base c.args.part.rules.now.rules (in_use c.args.part.owners.now c.args.part.enabled.now) part (c.loop-watch.watch / 2) m.0 m.1, m.2)
 
 pub loop-watch-smaller-in-Stays : goal.loop-watch-smaller-in-Stays
 loop-watch-smaller-in-Stays c =
-    let l : Looked c.args.part.rules.now.rules (in_use c.args.part.owners.now c.args.part.enabled.now) c.loop-watch.known.lits (c.loop-watch.watch / 2) c.index-watched-beside.result Stays = c.in-Stays.ensures in
+    let l : Visited c.args.part.rules.now.rules (in_use c.args.part.owners.now c.args.part.enabled.now) c.loop-watch.known.lits (c.loop-watch.watch / 2) c.index-watched-beside.result Stays = c.in-Stays.ensures in
     let beside : c.index-watched-beside.result ≡ literal_of c.loop-watch.watched (other c.loop-watch.watch) = beside_is (goal.at.loop-watch-smaller-in-Stays c).After-index-watched-beside in
-    let w = walk_past c.args.known.now.count c.args.part.rules.now.rules (in_use c.args.part.owners.now c.args.part.enabled.now) c.loop-watch.heads c.loop-watch.links c.loop-watch.watched c.loop-watch.known.lits c.loop-watch.known.marks c.args.at c.place-place.result c.loop-watch.last c.loop-watch.watch c.loop-watch.invariant.walk c.loop-watch-test.true (λ on. ap (is_fact c.loop-watch.known.lits) (sym beside) ∙ looked_stays l on) in
+    let w = walk_past c.args.known.now.count c.args.part.rules.now.rules (in_use c.args.part.owners.now c.args.part.enabled.now) c.loop-watch.heads c.loop-watch.links c.loop-watch.watched c.loop-watch.known.lits c.loop-watch.known.marks c.args.at c.place-place.result c.loop-watch.last c.loop-watch.watch c.loop-watch.invariant.walk c.loop-watch-test.true (λ on. ap (is_fact c.loop-watch.known.lits) (sym beside) ∙ visited_stays l on) in
     w.1
 
 pub loop-watch-preserved-in-Stays : goal.loop-watch-preserved-in-Stays
 loop-watch-preserved-in-Stays c =
-    let l : Looked c.args.part.rules.now.rules (in_use c.args.part.owners.now c.args.part.enabled.now) c.loop-watch.known.lits (c.loop-watch.watch / 2) c.index-watched-beside.result Stays = c.in-Stays.ensures in
+    let l : Visited c.args.part.rules.now.rules (in_use c.args.part.owners.now c.args.part.enabled.now) c.loop-watch.known.lits (c.loop-watch.watch / 2) c.index-watched-beside.result Stays = c.in-Stays.ensures in
     let beside : c.index-watched-beside.result ≡ literal_of c.loop-watch.watched (other c.loop-watch.watch) = beside_is (goal.at.loop-watch-preserved-in-Stays c).After-index-watched-beside in
-    let w = walk_past c.args.known.now.count c.args.part.rules.now.rules (in_use c.args.part.owners.now c.args.part.enabled.now) c.loop-watch.heads c.loop-watch.links c.loop-watch.watched c.loop-watch.known.lits c.loop-watch.known.marks c.args.at c.place-place.result c.loop-watch.last c.loop-watch.watch c.loop-watch.invariant.walk c.loop-watch-test.true (λ on. ap (is_fact c.loop-watch.known.lits) (sym beside) ∙ looked_stays l on) in
+    let w = walk_past c.args.known.now.count c.args.part.rules.now.rules (in_use c.args.part.owners.now c.args.part.enabled.now) c.loop-watch.heads c.loop-watch.links c.loop-watch.watched c.loop-watch.known.lits c.loop-watch.known.marks c.args.at c.place-place.result c.loop-watch.last c.loop-watch.watch c.loop-watch.invariant.walk c.loop-watch-test.true (λ on. ap (is_fact c.loop-watch.known.lits) (sym beside) ∙ visited_stays l on) in
     record {
       walk = w.0;
       grown = c.loop-watch.invariant.grown;
@@ -129,8 +129,8 @@ loop-watch-preserved-in-Stays c =
 
 pub loop-watch-smaller-in-Forces : goal.loop-watch-smaller-in-Forces
 loop-watch-smaller-in-Forces c =
-    let l : Looked c.args.part.rules.now.rules (in_use c.args.part.owners.now c.args.part.enabled.now) c.loop-watch.known.lits (c.loop-watch.watch / 2) c.index-watched-beside.result Forces = c.in-Forces.ensures in
-    let m = looked_forces l in
+    let l : Visited c.args.part.rules.now.rules (in_use c.args.part.owners.now c.args.part.enabled.now) c.loop-watch.known.lits (c.loop-watch.watch / 2) c.index-watched-beside.result Forces = c.in-Forces.ensures in
+    let m = visited_forces l in
     let x : ℤ = c.index-watched-beside.result in
     let e : c.push.new.self ≡ record c.loop-watch.known { lits = c.loop-watch.known.lits ++ x ∷ []; reasons = c.loop-watch.known.reasons ++ (c.args.part.base + c.loop-watch.watch / 2) ∷ [] } = c.push.ensures.added in
     let beside : x ≡ literal_of c.loop-watch.watched (other c.loop-watch.watch) = beside_is (goal.at.loop-watch-smaller-in-Forces c).After-index-watched-beside in
@@ -141,8 +141,8 @@ loop-watch-smaller-in-Forces c =
 
 pub loop-watch-preserved-in-Forces : goal.loop-watch-preserved-in-Forces
 loop-watch-preserved-in-Forces c =
-    let l : Looked c.args.part.rules.now.rules (in_use c.args.part.owners.now c.args.part.enabled.now) c.loop-watch.known.lits (c.loop-watch.watch / 2) c.index-watched-beside.result Forces = c.in-Forces.ensures in
-    let m = looked_forces l in
+    let l : Visited c.args.part.rules.now.rules (in_use c.args.part.owners.now c.args.part.enabled.now) c.loop-watch.known.lits (c.loop-watch.watch / 2) c.index-watched-beside.result Forces = c.in-Forces.ensures in
+    let m = visited_forces l in
     let x : ℤ = c.index-watched-beside.result in
     let e : c.push.new.self ≡ record c.loop-watch.known { lits = c.loop-watch.known.lits ++ x ∷ []; reasons = c.loop-watch.known.reasons ++ (c.args.part.base + c.loop-watch.watch / 2) ∷ [] } = c.push.ensures.added in
     let beside : x ≡ literal_of c.loop-watch.watched (other c.loop-watch.watch) = beside_is (goal.at.loop-watch-preserved-in-Forces c).After-index-watched-beside in
@@ -167,8 +167,8 @@ loop-watch-preserved-in-Forces c =
 
 pub loop-watch-smaller : goal.loop-watch-smaller
 loop-watch-smaller c =
-    let l : Looked c.args.part.rules.now.rules (in_use c.args.part.owners.now c.args.part.enabled.now) c.loop-watch.known.lits (c.loop-watch.watch / 2) c.index-watched-beside.result (Moves c.in-Moves.to) = c.in-Moves.ensures in
-    let m = looked_moves l in
+    let l : Visited c.args.part.rules.now.rules (in_use c.args.part.owners.now c.args.part.enabled.now) c.loop-watch.known.lits (c.loop-watch.watch / 2) c.index-watched-beside.result (Moves c.in-Moves.to) = c.in-Moves.ensures in
+    let m = visited_moves l in
     let beside : c.index-watched-beside.result ≡ literal_of c.loop-watch.watched (other c.loop-watch.watch) = beside_is (goal.at.loop-watch-smaller c).After-index-watched-beside in
     let Q : ℤ → Type 0 = λ b. AreTwoOf c.in-Moves.to b m.0 in
     let over : is_over c.args.known.now.count m.0 ≡ true = clause_over c.args.known.now.count c.args.part.rules.now.rules (c.loop-watch.watch / 2) m.0 c.requires.over m.1.found in
@@ -180,8 +180,8 @@ loop-watch-smaller c =
 
 pub loop-watch-preserved : goal.loop-watch-preserved
 loop-watch-preserved c =
-    let l : Looked c.args.part.rules.now.rules (in_use c.args.part.owners.now c.args.part.enabled.now) c.loop-watch.known.lits (c.loop-watch.watch / 2) c.index-watched-beside.result (Moves c.in-Moves.to) = c.in-Moves.ensures in
-    let m = looked_moves l in
+    let l : Visited c.args.part.rules.now.rules (in_use c.args.part.owners.now c.args.part.enabled.now) c.loop-watch.known.lits (c.loop-watch.watch / 2) c.index-watched-beside.result (Moves c.in-Moves.to) = c.in-Moves.ensures in
+    let m = visited_moves l in
     let beside : c.index-watched-beside.result ≡ literal_of c.loop-watch.watched (other c.loop-watch.watch) = beside_is (goal.at.loop-watch-preserved c).After-index-watched-beside in
     let Q : ℤ → Type 0 = λ b. AreTwoOf c.in-Moves.to b m.0 in
     let over : is_over c.args.known.now.count m.0 ≡ true = clause_over c.args.known.now.count c.args.part.rules.now.rules (c.loop-watch.watch / 2) m.0 c.requires.over m.1.found in

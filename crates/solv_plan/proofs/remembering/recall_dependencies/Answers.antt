@@ -1,0 +1,42 @@
+use Rattle.std.proofs.Common.{Bool, ◌++◌, map, sym, ap, ◌∙◌}
+use Rattle.std.specs.Prelude.{ℤ, flat_map}
+use Rattle.solv_pool.specs.Prelude.{is_fact}
+use Rattle.solv_trail.specs.declared.questions.Question.TheVariants as question
+use Rattle.solv_questions.specs.Questions.{first_ask}
+use Rattle.solv_plan.specs.Inner.Plans.{want_queries, named_query}
+use Rattle.solv_plan.proofs.Joining.{asked_first, asked_later, each_single}
+use Rattle.solv_plan.proofs.remembering.recall_dependencies.Goals as goal
+
+pub returns-then-is_some-clause-asked : goal.returns-then-is_some-clause-asked
+returns-then-is_some-clause-asked c =
+    let known : ℤ → Bool = is_fact c.args.known.now.lits in
+    let plan = c.args.plan.now in
+    asked_first known (flat_map (want_queries known plan.relations question.Requires) plan.required) (flat_map (want_queries known plan.relations question.Recommends) plan.recommended ++ map (named_query known plan.relations) plan.supplements)
+    c.recall_wants-required.result
+    (c.recall_wants-required.ensures.asked)
+    (sym c.is_some.ensures ∙ c.if-is_some.true)
+
+pub returns-then-is_some-2-clause-asked : goal.returns-then-is_some-2-clause-asked
+returns-then-is_some-2-clause-asked c =
+    let known : ℤ → Bool = is_fact c.args.known.now.lits in
+    let plan = c.args.plan.now in
+    asked_later known (flat_map (want_queries known plan.relations question.Requires) plan.required) (flat_map (want_queries known plan.relations question.Recommends) plan.recommended ++ map (named_query known plan.relations) plan.supplements)
+    c.recall_wants-required.result c.recall_wants-recommended.result
+    (c.recall_wants-required.ensures.asked)
+    (sym c.is_some.ensures ∙ c.if-is_some.false)
+    (asked_first known (flat_map (want_queries known plan.relations question.Recommends) plan.recommended) (map (named_query known plan.relations) plan.supplements) c.recall_wants-recommended.result
+    (c.recall_wants-recommended.ensures.asked)
+    (sym c.is_some-2.ensures ∙ c.if-is_some-2.true))
+
+pub returns-clause-asked : goal.returns-clause-asked
+returns-clause-asked c =
+    let known : ℤ → Bool = is_fact c.args.known.now.lits in
+    let plan = c.args.plan.now in
+    asked_later known (flat_map (want_queries known plan.relations question.Requires) plan.required) (flat_map (want_queries known plan.relations question.Recommends) plan.recommended ++ map (named_query known plan.relations) plan.supplements)
+    c.recall_wants-required.result c.recall_names.result
+    (c.recall_wants-required.ensures.asked)
+    (sym c.is_some.ensures ∙ c.if-is_some.false)
+    (asked_later known (flat_map (want_queries known plan.relations question.Recommends) plan.recommended) (map (named_query known plan.relations) plan.supplements) c.recall_wants-recommended.result c.recall_names.result
+    (c.recall_wants-recommended.ensures.asked)
+    (sym c.is_some-2.ensures ∙ c.if-is_some-2.false)
+    (c.recall_names.ensures.asked ∙ ap (first_ask known) (sym (each_single (named_query known plan.relations) c.held.result.now)) ∙ ap (λ xs. first_ask known (map (named_query known plan.relations) xs)) c.held.ensures))
