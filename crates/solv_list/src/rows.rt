@@ -68,6 +68,17 @@ impl<T> Rows<T> {
         }
     }
 
+    /// No rows, and room for the ends of so many.
+    pub fn with_room(alloc: Global, rows: usize) -> Result<Rows<T>, AllocError>
+        ensures { IfOk result (λ made. made ≡ []) }
+    {
+        let ends = Vec::with_capacity(alloc, rows)?;
+        Ok(Rows {
+            items: Vec::new(alloc),
+            ends,
+        })
+    }
+
     /// How many rows there are.
     pub fn len(&self) -> usize
         ensures { result ≡ length self.now }
@@ -86,6 +97,21 @@ impl<T> Rows<T> {
     }
 }
 
+/// Appends a row's items. Most rows have one or none, which needs no copy of a block.
+fn append<T: Copy>(items: &mut Vec<T>, row: &[T]) -> Result<(), AllocError>
+    ensures ok { OnOk result (items.new.items ≡ items.old.items ++ row.now) }
+    ensures err { OnErr result (items.new.items ≡ items.old.items) }
+{
+    match row {
+        [] => Ok(()),
+        [item] => {
+            items.push(*item)?;
+            Ok(())
+        }
+        _ => items.extend_from_slice(row),
+    }
+}
+
 /// Appends a row's items to the others, and records where they end. More than 2^32 - 1 items are refused as too little
 /// memory is.
 fn extend<T: Copy>(items: &mut Vec<T>, row: &[T]) -> Result<u32, AllocError>
@@ -94,7 +120,7 @@ fn extend<T: Copy>(items: &mut Vec<T>, row: &[T]) -> Result<u32, AllocError>
     ensures err { OnErr result (items.new.items ≡ items.old.items) }
 {
     let before = items.len();
-    items.extend_from_slice(row)?;
+    append(items, row)?;
     let end = items.len();
     if end > u32::MAX as usize {
         items.truncate(before);
@@ -109,9 +135,12 @@ impl<T: Copy> Rows<T> {
         ensures ok { OnOk result (self.new ≡ self.old ++ row.now ∷ []) }
         ensures err { OnErr result (self.new ≡ self.old) }
     {
-        self.ends.try_reserve(1)?;
+        let before = self.items.len();
         let end = extend(&mut self.items, row)?;
-        let _ = self.ends.push(end);
+        if self.ends.push(end).is_err() {
+            self.items.truncate(before);
+            return Err(AllocError);
+        }
         Ok(())
     }
 }
