@@ -1,4 +1,4 @@
--- A text or a relation that is entered, whether it is new or not.
+-- A relation that is entered, whether it is new or not.
 use Rattle.std.proofs.Common.{◌≡◌, ◌<◌, ◌∙◌, ◌||◌, ◌+◌, ℕ, suc, Bool, true, false, not, cond, List, ◌∷◌, [], ◌++◌, Some, Contains, slice_get, length, inl, inr, refl, ap, arith}
 use Rattle.std.specs.Prelude.{if◌then◌else◌}
 use Rattle.std.proofs.lemmas.Bool.{cases_Bool}
@@ -7,33 +7,13 @@ use Rattle.indexmap.proofs.CallerLemmas.{Contains-list_any}
 use Rattle.solv_base.specs.Dependency.{tree, tree_of_node}
 use Rattle.solv_base.specs.Inner.Pool.{is_node, node_id, with_node, uses_below, text_tree_of_node}
 use Rattle.solv_base.specs.contracts.relation.DepNodePartialEq.TheImpl.{eq-value}
-use Rattle.solv_base.specs.Pool.{IsPool, Grows, is_name, name_id, with_name, most, text_at, text_tree}
+use Rattle.solv_base.specs.Pool.{IsPool, Grows, most, text_at, text_tree}
 use Rattle.solv_base.specs.declared.relation.DepNode.{DepNode}
-use Rattle.solv_base.proofs.Growth.{Grows-name, Grows-itself, text_tree-is}
+use Rattle.solv_base.proofs.Growth.{Grows-itself, text_tree-is}
 use Rattle.solv_base.proofs.Places.{absent, place_found}
 use Rattle.solv_base.proofs.Trees.{tree-is}
-use Rattle.solv_base.proofs.Names.{id_of_new}
-use Rattle.solv_base.proofs.Pools.{name_at, same_relation, relation_itself, IsPool-name, IsPool-node, Grows-node, tree_of_new, text_tree_of_new}
+use Rattle.solv_base.proofs.Pools.{same_relation, relation_itself, IsPool-node, Grows-node, tree_of_new, text_tree_of_new}
 use Rattle.solv_list.proofs.Lists.{at_end}
-
-module _ (names : List (List ℕ)) (nodes : List DepNode) (text : List ℕ) (pool : IsPool (record { names = names; nodes = nodes })) where
-  -- what holds of the names as they are, and with one more that is new, holds with this one among them
-  either : (P : List (List ℕ) → Type 0) → (is_name names text ≡ true → P names) → (is_name names text ≡ false → P (names ++ text ∷ [])) → P (with_name names text)
-  either P held fresh = by (is_name names text) refl
-    where
-      by : (b : Bool) → is_name names text ≡ b → P (if b then names else names ++ text ∷ [])
-      by true e = held e
-      by false e = fresh e
-
-  pub pool_with : length names < most → IsPool (record { names = with_name names text; nodes = nodes })
-  pool_with room = either (λ ns. IsPool (record { names = ns; nodes = nodes })) (λ e. pool) (λ e. IsPool-name names nodes text pool e room)
-
-  pub grows_with : Grows (record { names = names; nodes = nodes }) (record { names = with_name names text; nodes = nodes })
-  grows_with = either (λ ns. Grows (record { names = names; nodes = nodes }) (record { names = ns; nodes = nodes })) (λ e. Grows-itself (record { names = names; nodes = nodes })) (λ e. Grows-name names nodes text pool.names_held pool.operands_before)
-
-  pub text_with : (i : ℕ) → i ≡ name_id names text → i < length (with_name names text) → slice_get (with_name names text) i ≡ Some text
-  text_with i at = either (λ ns. i < length ns → slice_get ns i ≡ Some text) (λ e inside. name_at names text i at inside)
-      (λ e inside. ap (slice_get (names ++ text ∷ [])) (at ∙ id_of_new names text e) ∙ at_end names text)
 
 pub id_of_new_node : (nodes : List DepNode) (node : DepNode) → is_node nodes node ≡ false → node_id nodes node ≡ length nodes
 id_of_new_node [] node h = refl

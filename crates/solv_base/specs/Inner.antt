@@ -3,7 +3,6 @@ pub mod Comparisons
 pub mod Evr
 pub mod Hashing
 pub mod Heads
-pub mod Keys
 pub mod Pool
 pub mod Texts
 pub mod VersionLaws

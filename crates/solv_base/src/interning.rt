@@ -5,7 +5,7 @@ ghost use Rattle.solv_base.specs.Inner.Pool.{is_node, node_id, with_node};
 
 use crate::keys::{Relations, Texts};
 use crate::relation::{DepId, DepNode, NameId};
-use crate::texts::{MOST_SHORT, Text};
+use crate::texts::Text;
 use std::alloc::{AllocError, Global};
 use std::marker::Model;
 use thiserror::Error;
@@ -63,34 +63,9 @@ impl Pool {
         self.alloc
     }
 
-    /// The id of a text, which the text keeps for good. A text that is held already takes no memory.
+    /// The id of a text, which the text keeps for good. A text that is held already takes no memory: it is looked up before
+    /// one is made.
     pub fn intern(&mut self, text: &[u8]) -> Result<NameId, PoolFault>
-        ensures id { IfOk result (λ id. id ≡ name_id self.old.names text.now) }
-        ensures held { OnOk result (self.new ≡ record self.old { names = with_name self.old.names text.now }) }
-        ensures within { IfOk result (λ id. id < length self.new.names) }
-        ensures text { IfOk result (λ id. slice_get self.new.names id ≡ Some text.now) }
-        ensures grows { Grows self.old self.new }
-
-        ensures known { IsTrue (is_name self.old.names text.now) → IsOk result }
-        ensures full { IsErrOf result PoolFault.FullNames ↔ ((is_name self.old.names text.now ≡ false) × (length self.old.names ≡ most)) }
-        ensures no_relation { IsErrOf result PoolFault.FullRelations → ⊥ }
-        ensures refused { OnErr result (self.new ≡ self.old) }
-    {
-        if text.len() <= MOST_SHORT && self.has_room_for_name() {
-            return self.intern_short(text).map_err(|_| PoolFault::Memory);
-        }
-        self.intern_any(text)
-    }
-
-    /// Whether there is room for one more name.
-    fn has_room_for_name(&self) -> bool
-        ensures { result ≡ true → length self.now.names < most }
-    {
-        self.texts.held().len() < MOST
-    }
-
-    /// The id of any text. It is looked up before memory is allocated for it.
-    fn intern_any(&mut self, text: &[u8]) -> Result<NameId, PoolFault>
         ensures id { IfOk result (λ id. id ≡ name_id self.old.names text.now) }
         ensures held { OnOk result (self.new ≡ record self.old { names = with_name self.old.names text.now }) }
         ensures within { IfOk result (λ id. id < length self.new.names) }
@@ -116,31 +91,6 @@ impl Pool {
             return Err(PoolFault::Memory);
         }
         Ok(NameId(place as u32))
-    }
-
-    /// The id of a short text, where there is room for one more. It is looked up once, whether it is new or not.
-    fn intern_short(&mut self, text: &[u8]) -> Result<NameId, AllocError>
-        requires short { length text.now ≤ 30 }
-        requires room { length self.old.names < most }
-        ensures id { IfOk result (λ id. id ≡ name_id self.old.names text.now) }
-        ensures held { OnOk result (self.new ≡ record self.old { names = with_name self.old.names text.now }) }
-        ensures within { IfOk result (λ id. id < length self.new.names) }
-        ensures text { IfOk result (λ id. slice_get self.new.names id ≡ Some text.now) }
-        ensures grows { Grows self.old self.new }
-        ensures absent { OnErr result (is_name self.old.names text.now ≡ false) }
-        ensures refused { OnErr result (self.new ≡ self.old) }
-    {
-        let place = self.texts.enter(Text::short(text))?;
-        Ok(NameId(place as u32))
-    }
-
-    /// Frees the tables that find texts and relations. What is held stays, and each new text and relation is searched for
-    /// linearly from then on: for a pool to which little or nothing more comes.
-    pub fn close(&mut self)
-        ensures { self.new ≡ self.old }
-    {
-        self.texts.close(self.alloc);
-        self.relations.close(self.alloc);
     }
 
     /// How many names are held: each id is below.

@@ -1,4 +1,4 @@
-//! A pool with and without its tables.
+//! A pool, and what it finds.
 use solv_pool::{DepId, DepNode, NameId, Pool};
 use std::test::Fail;
 
@@ -25,12 +25,10 @@ fn has_relation(pool: &mut Pool, name: NameId, id: u32) -> bool {
 const LONG: &[u8] = b"a name of more than thirty bytes";
 
 #[test]
-fn a_closed_pool_finds_what_it_holds(rt: HostRuntime) -> Result<(), Fail> {
+fn a_pool_finds_what_it_holds(rt: HostRuntime) -> Result<(), Fail> {
     let mut pool = Pool::new(rt.alloc());
     assert!(rt; has_name(&mut pool, b"a", 0) && has_name(&mut pool, LONG, 1));
     assert!(rt; has_relation(&mut pool, NameId(1), 0));
-    pool.close();
-    pool.close();
     assert!(rt;
         has_name(&mut pool, LONG, 1) && has_name(&mut pool, b"b", 2) && has_name(&mut pool, b"b", 2)
     );

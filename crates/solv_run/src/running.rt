@@ -236,13 +236,6 @@ fn solved_due(
     }
 }
 
-/// Frees the tables by which each text and relation of a script was found while it was read. An answer asks for them by number alone.
-fn close_pool(script: &mut Script)
-    ensures { script.new ≡ script.old }
-{
-    script.task.pool.close();
-}
-
 /// What is due where the script itself is asked for.
 fn written_due(alloc: Global, command: &Command, script: &Script) -> Result<Conclusion, AllocError>
     requires asked { command.now.output ≡ output.Script }
@@ -270,7 +263,6 @@ pub(crate) fn script_due(
     ensures { IfOk result (λ conclusion. IsDueForScript command.now script.old conclusion.due conclusion.reached) }
 {
     if asks_answers(command.output) {
-        close_pool(script);
         solved_due(alloc, command, script)
     } else {
         written_due(alloc, command, script)

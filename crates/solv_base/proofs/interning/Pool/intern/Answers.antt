@@ -5,8 +5,8 @@ use Rattle.solv_base.proofs.Places.{if_ok}
 use Rattle.solv_base.proofs.Names.{id_of_new}
 use Rattle.solv_base.proofs.Growth.{Grows-name}
 use Rattle.solv_base.proofs.Pools.{name_at, IsPool-name}
-use Rattle.solv_base.proofs.interning.Pool.intern_any.Goals as goal
-use Rattle.solv_base.proofs.interning.Pool.intern_any.Goals.{Else-is_err}
+use Rattle.solv_base.proofs.interning.Pool.intern.Goals as goal
+use Rattle.solv_base.proofs.interning.Pool.intern.Goals.{Else-is_err}
 use Rattle.solv_list.proofs.Lists.{at_end}
 
 pub returns-in-Some-clause-text : goal.returns-in-Some-clause-text
