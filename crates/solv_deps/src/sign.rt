@@ -200,5 +200,5 @@ pub fn is_namespace_name(word: &[u8]) -> bool
     let Some((last, _)) = word.split_last() else {
         return false;
     };
-    word.len() >= 10 && word.starts_with(b"namespace:") && *last == b')' && word.contains(&b'(')
+    *last == b')' && word.len() >= 10 && word.starts_with(b"namespace:") && word.contains(&b'(')
 }
