@@ -55,3 +55,13 @@ providers_within catalog d = members_within catalog (package_meets catalog (depe
 -- the row of a relation
 pub row_is : (r : Request) (d : ℕ) → (if is_among (providers_of r.catalog d) 0 then 0 ∷ [] else by_policy r.catalog r.marks Other (providers_of r.catalog d)) ≡ row_of r d
 row_is r d = refl
+
+-- one member or none is in order
+pub few_ordered : (r : Request) (xs : List ℕ) → length xs < 2 → xs ≡ (if is_among xs 0 then 0 ∷ [] else by_policy r.catalog r.marks Other xs)
+few_ordered r [] h = refl
+few_ordered r (x ∷ []) h = one (x == 0) refl
+  where
+    one : (b : Bool) → (x == 0) ≡ b → x ∷ [] ≡ (if b || false then 0 ∷ [] else x ∷ [])
+    one true e = let zero_ : x ≡ 0 = grind (arith, nat_tests, e) in ap (λ n. n ∷ []) zero_
+    one false e = refl
+few_ordered r (x ∷ y ∷ xs) h = absurd (omega (arith, h))
