@@ -1,5 +1,5 @@
 -- Walks over relations from what serves a supplement to the members that have it.
-use Rattle.std.proofs.Common.{◌≡◌, ℕ, zero, suc, ◌+◌, ◌<◌, Bool, true, false, ◌&&◌, ◌||◌, List, [], ◌∷◌, ◌++◌, length, inl, inr, refl, sym, ap, ◌∙◌, arith, eqb, eq-eqb, Some}
+use Rattle.std.proofs.Common.{◌≡◌, ℕ, ◌+◌, ◌<◌, Bool, true, false, ◌&&◌, ◌||◌, List, [], ◌∷◌, ◌++◌, length, inl, inr, refl, sym, ap, ◌∙◌, arith, eqb, eq-eqb, Option, Some, None}
 use Rattle.std.specs.List.{list_any}
 use Rattle.std.proofs.lemmas.Bool.{and_parts, and_from, false≢true, eqb-true, or_left, or_right}
 use Rattle.solv_list.proofs.Booleans.{or_cases}
@@ -14,7 +14,7 @@ use Rattle.solv_graph.proofs.Walking.{leads_step, leads_through}
 use Rattle.solv_prov.specs.Index.{providers_of}
 use Rattle.solv_clean.specs.Inner.Tables.{is_marked}
 use Rattle.solv_clean.specs.Inner.Finding.{serving}
-use Rattle.solv_clean.specs.Inner.Joining.{Adds, from_member, Grows, Says, a_serving, a_part, a_supplement, LeadFromServing, LeadByOne, LeadTo, AreJoined, AreSupplements, has_supplement}
+use Rattle.solv_clean.specs.Inner.Joining.{Adds, from_member, Grows, Says, a_serving, a_part, a_supplement, LeadFromServing, LeadByOne, LeadTo, AreJoined, AreSupplements, has_supplement, supplements_something}
 use Rattle.solv_clean.proofs.Served.{marked_below, single, serves_both, in_members}
 
 pub grows_none : (old : List (List ℕ)) → Grows old old
@@ -38,6 +38,15 @@ walk_more old new g p [] h = refl
 walk_more old new g p (q ∷ over) h =
     let both = and_parts (edge_to old p q) (is_walk (edge_to old) q over) h in
     and_from (edge_to new p q) (is_walk (edge_to new) q over) (g.keeps p q both.0) (walk_more old new g q over both.1)
+
+-- what has no supplement has none of a kind
+nothing_passes : (o : Option Package) (f : ℕ → Bool) → passes o (λ (a : Package). list_any (λ (d : ℕ). true) a.supplements) ≡ false → passes o (λ (a : Package). list_any f a.supplements) ≡ false
+nothing_passes None f h = refl
+nothing_passes (Some a) f h = nothing_listed a.supplements h
+  where
+    nothing_listed : (xs : List ℕ) → list_any (λ (d : ℕ). true) xs ≡ false → list_any f xs ≡ false
+    nothing_listed [] e = refl
+    nothing_listed (x ∷ xs) e = absurd (false≢true (sym e))
 
 pub leads_more : (old new : List (List ℕ)) → Grows old new → (p q : ℕ) → Leads (edge_to old) p q → Leads (edge_to new) p q
 leads_more old new g p q l = record { over = l.over; is = walk_more old new g p l.over l.is; ends = l.ends }
@@ -172,13 +181,11 @@ module _ (catalog : Catalog) (may : List Bool) where
   pub leads_out : (rows : List (List ℕ)) (q : ℕ) → is_marked may q ≡ false → LeadTo catalog may rows q
   leads_out rows q h p k m s = absurd (false≢true (sym h ∙ m))
 
-  -- to all members
-  pub joined_all : (P : List Bool) (rows : List (List ℕ)) → length may ≡ length catalog.universe.packages + 1 → AreJoined catalog may P rows → ((q : ℕ) → 0 < q → q < length catalog.universe.packages + 1 → LeadTo catalog may rows q) → AreSupplements catalog may rows
-  joined_all P rows each are to = record { size = are.size; sound = are.sound; whole = all }
-    where
-      all : (q : ℕ) → LeadTo catalog may rows q
-      all zero p k m h = absurd (false≢true h)
-      all (suc q) p k m h = to (suc q) (omega arith) (omega (arith, marked_below may (suc q) m, each)) p k m h
-
-  pub joined_none : (P : List Bool) (rows : List (List ℕ)) → length rows ≡ length may + length catalog.pool.nodes → ((a b : ℕ) → edge_to rows a b ≡ false) → ((y : ℕ) → is_marked P y ≡ false) → AreJoined catalog may P rows
-  joined_none P rows size none fresh = record { size = size; sound = λ a b h. absurd (false≢true (sym (none a b) ∙ h)); served = λ y h. absurd (false≢true (sym (fresh y) ∙ h)) }
+  -- where no package supplements anything, a graph without an edge will do
+  pub supplements_none : (rows : List (List ℕ)) → length may ≡ length catalog.universe.packages + 1 → ((a b : ℕ) → edge_to rows a b ≡ false)
+      → ((q : ℕ) → q < length catalog.universe.packages + 1 → supplements_something catalog q ≡ false) → AreSupplements catalog may rows
+  supplements_none rows each none nothing = record {
+    sound = λ a b h. absurd (false≢true (sym (none a b) ∙ h));
+    whole = λ q p k m h. let low : q < length catalog.universe.packages + 1 = omega (arith, marked_below may q m, each) in
+        absurd (false≢true (sym (nothing_passes (package_at catalog q) (λ id. holds catalog (dependency catalog id) (is_marked may) && serving catalog id p) (nothing q low)) ∙ h));
+  }

@@ -3,13 +3,13 @@
 //! A supplement that many packages have, and that many packages serve, would make as many edges as there are pairs of them. So
 //! edges lead through relations: from a member to a relation that it serves, from an operand to a relation that it is a part of,
 //! and from a supplement that holds to each member that has it. A relation is visited once.
-ghost use Rattle.std.specs.Prelude.{ℕ, ◌≡◌, ◌≤◌, ◌<◌, ◌+◌, ◌∷◌, ◌||◌, ◌&&◌, ◌==◌, [], true, length, IfOk, OnOk};
+ghost use Rattle.std.specs.Prelude.{ℕ, ◌≡◌, ◌≤◌, ◌<◌, ◌+◌, ◌∷◌, ◌||◌, ◌&&◌, ◌==◌, [], true, false, length, IfOk, OnOk};
 ghost use Rattle.std.specs.List.{list_all};
 ghost use Rattle.solv_pool.specs.Prelude.{catalog_of, is_among};
 ghost use Rattle.solv_graph.specs.Inner.Graphs.{edge_to};
 ghost use Rattle.solv_prov.specs.Index.{providers_of};
 ghost use Rattle.solv_clean.specs.Inner.Tables.{is_marked};
-ghost use Rattle.solv_clean.specs.Inner.Joining.{Adds, from_member, Grows, AreJoined, LeadFromServing, LeadByOne, has_supplement, LeadTo, AreSupplements};
+ghost use Rattle.solv_clean.specs.Inner.Joining.{Adds, from_member, Grows, AreJoined, LeadFromServing, LeadByOne, has_supplement, supplements_something, LeadTo, AreSupplements};
 ghost use Rattle.solv_clean.specs.Inner.Holding.{AreKnown};
 ghost use Rattle.solv_clean.specs.Inner.Readiness.{dep_below};
 
@@ -233,10 +233,35 @@ fn vertex_count(members: usize, relations: usize) -> Result<u32, AllocError>
     Ok(count as u32)
 }
 
-/// The graph of what supplements what among the members of the set, over relations.
+/// Whether a package supplements something.
+fn supplements_something(members: &Members<'_>, pack: PackNo) -> bool
+    requires a_package { 0 < pack }
+    requires held { pack ≤ length members.now.task.now.universe.packages }
+    ensures { result ≡ supplements_something (catalog_of members.now.task.now) pack }
+{
+    !members.task.universe.package(pack).supplements().is_empty()
+}
+
+/// Whether one of the packages does.
+fn has_supplements(members: &Members<'_>) -> bool
+    ensures { result ≡ false → (q : ℕ) → q < length members.now.task.now.universe.packages + 1 → supplements_something (catalog_of members.now.task.now) q ≡ false }
+{
+    for before in 0..members.task.universe.count() {
+        if supplements_something(members, PackNo(before + 1)) {
+            return true;
+        }
+    }
+    false
+}
+
+/// The graph of what supplements what among the members of the set, over relations. Where no package supplements anything it has
+/// no vertices.
 pub(crate) fn supplements_in(alloc: Global, members: &Members<'_>) -> Result<Graph, AllocError>
     ensures { IfOk result (λ graph. AreSupplements (catalog_of members.now.task.now) members.now.in_set.now graph) }
 {
+    if !has_supplements(members) {
+        return Graph::new(alloc, 0);
+    }
     let relations = members.task.pool.relation_count();
     let count = vertex_count(members.in_set.len(), relations)?;
     let mut graph = Graph::new(alloc, count)?;

@@ -1,3 +1,4 @@
 -- Words of contracts between layers, and what holds inside.
 pub mod Fitting
 pub mod Starting
+pub mod Wise

@@ -10,6 +10,7 @@
 mod fitting;
 mod leaving;
 mod starting;
+mod wise;
 
 pub use fitting::{all_fit, all_rules_fit};
 pub use leaving::left_out;

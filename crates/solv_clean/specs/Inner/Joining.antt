@@ -26,6 +26,10 @@ pub record Grows (old new : List (List ℕ)) : Type 0 where
 abbrev pub has_supplement : Catalog → ℕ → ℕ → Bool
 has_supplement catalog q id = passes (package_at catalog q) (λ a. is_among a.supplements id)
 
+-- a package supplements something
+abbrev pub supplements_something : Catalog → ℕ → Bool
+supplements_something catalog q = passes (package_at catalog q) (λ a. list_any (λ d. true) a.supplements)
+
 -- what an edge says: a member serves a relation; what serves a relation serves another; or a member has a supplement that holds
 pub data Says (catalog : Catalog) (may : List Bool) (a b : ℕ) : Type 0 where
   a_serving : (id : ℕ) → b ≡ length may + id → id < length catalog.pool.nodes → is_marked may a ≡ true → serving catalog id a ≡ true → Says catalog may a b
@@ -51,8 +55,7 @@ pub record AreJoined (catalog : Catalog) (may passed : List Bool) (rows : List (
   pub sound : (a b : ℕ) → edge_to rows a b ≡ true → Says catalog may a b
   pub served : (id : ℕ) → is_marked passed id ≡ true → LeadFromServing catalog may rows id
 
--- the graph has an edge for each supplement among the members
+-- each edge says something, and walks lead to each member from those that supplement it
 pub record AreSupplements (catalog : Catalog) (may : List Bool) (rows : List (List ℕ)) : Type 0 where
-  pub size : length rows ≡ length may + length catalog.pool.nodes
   pub sound : (a b : ℕ) → edge_to rows a b ≡ true → Says catalog may a b
   pub whole : (q : ℕ) → LeadTo catalog may rows q

@@ -9,14 +9,14 @@ use Rattle.solv_leaving.proofs.Plain.{asks_are}
 use Rattle.solv_leaving.proofs.leaving.asks_plainly.Goals.{then-are_needs_plain, else-are_needs_plain}
 use Rattle.solv_leaving.proofs.leaving.asks_plainly.Goals as goal
 
-pub are_needs_plain-requires : goal.are_needs_plain-requires
-are_needs_plain-requires c = rw c.requires_.ensures (requires_below c.args.task.now (c.args.pack - 1) c.package-package.result c.requires.over c.package-package.ensures)
+pub are_needs_plain-requires-clause-needs : goal.are_needs_plain-requires-clause-needs
+are_needs_plain-requires-clause-needs c = rw c.requires_.ensures (requires_below c.args.task.now (c.args.pack - 1) c.package-package.result c.requires.over c.package-package.ensures)
 
-pub are_plain-requires : goal.are_plain-requires
-are_plain-requires c = rw c.recommends.ensures (recommends_below c.args.task.now (c.args.pack - 1) c.package-package.result c.requires.over c.package-package.ensures)
+pub are_plain-requires-clause-deps : goal.are_plain-requires-clause-deps
+are_plain-requires-clause-deps c = rw c.recommends.ensures (recommends_below c.args.task.now (c.args.pack - 1) c.package-package.result c.requires.over c.package-package.ensures)
 
-pub are_package_wise-requires : goal.are_package_wise-requires
-are_package_wise-requires c = rw c.conflicts.ensures (conflicts_below c.args.task.now (c.args.pack - 1) c.package-package.result c.requires.over c.package-package.ensures)
+pub are_package_wise-requires-clause-deps : goal.are_package_wise-requires-clause-deps
+are_package_wise-requires-clause-deps c = rw c.conflicts.ensures (conflicts_below c.args.task.now (c.args.pack - 1) c.package-package.result c.requires.over c.package-package.ensures)
 
 pub returns-then-are_plain : goal.returns-then-are_plain
 returns-then-are_plain c =

@@ -7,8 +7,8 @@ use Rattle.solv_leaving.specs.Inner.Starting.{is_met_alone, stands_alone}
 use Rattle.solv_clean.proofs.Below.{requires_below}
 use Rattle.solv_leaving.proofs.starting.stands_alone.Goals as goal
 
-pub are_met_alone-requires : goal.are_met_alone-requires
-are_met_alone-requires c = rw c.requires_.ensures (requires_below c.args.task.now (c.args.pack - 1) c.package-package.result c.requires.over c.package-package.ensures)
+pub are_met_alone-requires-clause-needs : goal.are_met_alone-requires-clause-needs
+are_met_alone-requires-clause-needs c = rw c.requires_.ensures (requires_below c.args.task.now (c.args.pack - 1) c.package-package.result c.requires.over c.package-package.ensures)
 
 some_listed : (xs : List ℕ) → false ≡ (length xs == 0) → list_any (λ _. true) xs ≡ true
 some_listed [] h = absurd (false≢true h)
