@@ -9,3 +9,4 @@ pub mod Bounds
 pub mod Plain
 pub mod Begun
 pub mod Left
+mod NoConditions

@@ -41,6 +41,9 @@ fn are_needs_plain(pool: &Pool, wise: &[bool], needs: &[Need]) -> bool
     requires wise { AreWise pool.now.nodes wise.now }
     ensures { result ≡ list_all (λ need. is_plainly_met (tree pool.now.nodes need.dep)) needs.now }
 {
+    if wise.is_empty() {
+        return true;
+    }
     for need in needs {
         if !is_plainly_met(pool, wise, need.dep) {
             return false;
@@ -55,6 +58,9 @@ fn are_plain(pool: &Pool, wise: &[bool], deps: &[DepId]) -> bool
     requires wise { AreWise pool.now.nodes wise.now }
     ensures { result ≡ list_all (λ d. is_plainly_met (tree pool.now.nodes d)) deps.now }
 {
+    if wise.is_empty() {
+        return true;
+    }
     for dep in deps {
         if !is_plainly_met(pool, wise, *dep) {
             return false;
@@ -69,6 +75,9 @@ fn are_package_wise(pool: &Pool, wise: &[bool], deps: &[DepId]) -> bool
     requires wise { AreWise pool.now.nodes wise.now }
     ensures { result ≡ list_all (λ d. package_wise (tree pool.now.nodes d)) deps.now }
 {
+    if wise.is_empty() {
+        return true;
+    }
     for dep in deps {
         if !is_wise(pool, wise, *dep) {
             return false;

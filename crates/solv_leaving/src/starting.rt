@@ -23,6 +23,9 @@ fn are_met_alone(pool: &Pool, wise: &[bool], needs: &[Need]) -> bool
     requires wise { AreWise pool.now.nodes wise.now }
     ensures { result ≡ list_all (λ need. package_wise (tree pool.now.nodes need.dep)) needs.now }
 {
+    if wise.is_empty() {
+        return true;
+    }
     for need in needs {
         if !is_wise(pool, wise, need.dep) {
             return false;

@@ -1,13 +1,27 @@
 //! Relations that a single package meets or does not.
-ghost use Rattle.std.specs.Prelude.{◌≡◌, ◌<◌, length, IfOk};
+ghost use Rattle.std.specs.Prelude.{ℕ, ◌≡◌, ◌<◌, true, length, IfOk};
 ghost use Rattle.solv_pool.specs.Prelude.{tree, package_wise};
 ghost use Rattle.solv_leaving.specs.Inner.Wise.{AreWise};
 
 use solv_pool::{DepId, Pool};
 use std::alloc::{AllocError, Global};
 
-/// Of each relation, whether a single package meets it or does not.
-pub(crate) fn wise_relations(alloc: Global, pool: &Pool) -> Result<Vec<bool>, AllocError>
+/// Whether a single package meets each relation or does not.
+fn are_all_wise(pool: &Pool) -> bool
+    ensures { result ≡ true → (d : ℕ) → d < length pool.now.nodes → package_wise (tree pool.now.nodes d) ≡ true }
+{
+    pool.holds_each_once();
+    let count = pool.relation_count() as u32;
+    for number in 0..count {
+        if !pool.package_wise(DepId(number)) {
+            return false;
+        }
+    }
+    true
+}
+
+/// An entry for each relation: whether a single package meets it or does not.
+fn wise_table(alloc: Global, pool: &Pool) -> Result<Vec<bool>, AllocError>
     ensures { IfOk result (λ wise. AreWise pool.now.nodes wise.items) }
 {
     pool.holds_each_once();
@@ -19,6 +33,17 @@ pub(crate) fn wise_relations(alloc: Global, pool: &Pool) -> Result<Vec<bool>, Al
     Ok(made)
 }
 
+/// Of each relation, whether a single package meets it or does not. Where all are so, as in a repository without conditions, the
+/// table is empty.
+pub(crate) fn wise_relations(alloc: Global, pool: &Pool) -> Result<Vec<bool>, AllocError>
+    ensures { IfOk result (λ wise. AreWise pool.now.nodes wise.items) }
+{
+    if are_all_wise(pool) {
+        return Ok(Vec::new(alloc));
+    }
+    wise_table(alloc, pool)
+}
+
 /// Whether a single package meets a relation or does not, as the table has it.
 pub(crate) fn is_wise(pool: &Pool, wise: &[bool], dep: DepId) -> bool
     requires dep { dep < length pool.now.nodes }
@@ -26,5 +51,8 @@ pub(crate) fn is_wise(pool: &Pool, wise: &[bool], dep: DepId) -> bool
     ensures { result ≡ package_wise (tree pool.now.nodes dep) }
 {
     let _pool = pool;
-    wise[dep.0 as usize]
+    match wise.get(dep.0 as usize) {
+        Some(is_so) => *is_so,
+        None => true,
+    }
 }
