@@ -163,7 +163,7 @@ impl Recent {
 }
 
 /// The dependency that a text spells at a place, as `read_dep` reads it, from what was read before or anew. What was read
-/// has to be of this pool.
+/// has to be of this pool. What a package provides or obsoletes is seldom said twice, and is always read anew.
 pub fn read_again(
     pool: &mut Pool,
     recent: &mut Recent,
@@ -180,6 +180,9 @@ pub fn read_again(
     ensures grows { Grows pool.old pool.new }
     ensures kept { AreRead pool.new recent.new }
 {
+    if place == Place::Plain {
+        return read_dep(pool, text, place);
+    }
     let spot = spot_of(text);
     if let Some(id) = recent.find(text, place, spot) {
         pool.holds_each_once();

@@ -7,3 +7,6 @@ returns-in-Ok-clause-kept c =
 
 pub returns-in_default-read-clause-kept : goal.returns-in_default-read-clause-kept
 returns-in_default-read-clause-kept c = read_before c.args.pool.now c.read_dep-read.new.pool c.args.recent.now c.read_dep-read.ensures.grows c.requires
+
+pub returns-then-eq-clause-kept : goal.returns-then-eq-clause-kept
+returns-then-eq-clause-kept c = read_before c.args.pool.now c.read_dep.new.pool c.args.recent.now c.read_dep.ensures.grows c.requires
