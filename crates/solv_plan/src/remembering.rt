@@ -1,5 +1,5 @@
 //! What the first open question of a plan asks for, where what is settled is passed over. Nothing here takes memory.
-ghost use Rattle.std.specs.Prelude.{◌≡◌, ◌++◌, ◌∷◌, [], ◌==◌, ℕ, Bool, true, List, flat_map, map, filter, nat_le, slice_get, Some};
+ghost use Rattle.std.specs.Prelude.{◌≡◌, ◌≤◌, ◌++◌, ◌∷◌, [], ◌==◌, ℕ, ℤ, Bool, true, List, drop, flat_map, map, filter, nat_le, slice_get, Some};
 ghost use Rattle.std.specs.List.{list_all};
 ghost use Rattle.solv_pool.specs.Prelude.{is_fact};
 ghost use Rattle.solv_questions.specs.Questions.{first_ask};
@@ -13,7 +13,7 @@ ghost use Rattle.solv_plan.specs.declared.plans.Keep.{Keep};
 ghost use Rattle.solv_plan.specs.declared.plans.Named.{Named};
 ghost use Rattle.solv_plan.specs.declared.plans.Want.{Want};
 
-use crate::asking::{Asking, ask_demand, ask_each, ask_installed, ask_named};
+use crate::asking::{Asking, ask_demand, ask_each, ask_installed, ask_named, is_on};
 use crate::holding::rest_on_tree;
 use crate::memory::Memory;
 use crate::plans::{Demand, Keep, Named, Plan, Relations, Want, Wanted};
@@ -53,6 +53,18 @@ fn recall_demand(
     ask_demand(known, enabled, demand)
 }
 
+/// The place from one on of the first demand whose rule is enabled. Those before it ask for nothing.
+fn first_enabled(enabled: &[bool], demands: &[Demand], from: usize) -> usize
+    ensures forward { from ≤ result }
+    ensures asked { (known : ℤ → Bool) → flat_map (demand_queries known enabled.now) (drop result demands.now) ≡ flat_map (demand_queries known enabled.now) (drop from demands.now) }
+{
+    let mut place = from;
+    while place < demands.len() && !is_on(enabled, demands[place].rule) {
+        place += 1;
+    }
+    place
+}
+
 /// What the first of these demands asks for.
 fn recall_demands(
     known: &Known,
@@ -69,13 +81,16 @@ fn recall_demands(
     ensures right { are_right (demands_settled demands.now) settled.new ≡ true }
     ensures quiet { AreQuiet (demands_quiet (is_fact known.now.lits) demands.now) quiet.new }
 {
-    let mut place = settled.first_unsettled();
+    let from = settled.first_unsettled();
+    let mut place = first_enabled(enabled, demands, from);
     while place < demands.len() {
         let ask = recall_demand(known, enabled, &demands[place], place, settled, quiet);
         if ask.is_some() {
             return ask;
         }
-        place = settled.first_open(place + 1);
+        let after = settled.first_open(place + 1);
+        let next = first_enabled(enabled, demands, after);
+        place = next;
     }
     None
 }

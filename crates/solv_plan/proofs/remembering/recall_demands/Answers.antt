@@ -1,6 +1,7 @@
 use Rattle.std.proofs.Common.{◌≡◌, ℕ, ◌+◌, Bool, true, List, Some, refl, sym, ap, ◌∙◌, subst, arith}
 use Rattle.std.specs.Prelude.{ℤ}
 use Rattle.solv_pool.specs.Prelude.{is_fact}
+use Rattle.solv_questions.specs.Questions.{first_ask}
 use Rattle.solv_plan.specs.declared.settled.Entry.{Entry}
 use Rattle.solv_plan.specs.declared.plans.Demand.{Demand}
 use Rattle.solv_plan.specs.Inner.Plans.{demand_queries}
@@ -17,15 +18,15 @@ loop-place-init c =
     let known : ℤ → Bool = is_fact c.args.known.now.lits in
     let on : List Bool = c.args.enabled.now in
     let xs : List Demand = c.args.demands.now in
-    let E : List Entry = c.first_unsettled-place.new.self in
-    let right : are_right (demands_settled xs) E ≡ true = ap (are_right (demands_settled xs)) c.first_unsettled-place.ensures.same ∙ c.requires.right in
-    let fits : Fits known E = subst (Fits known) (sym c.first_unsettled-place.ensures.same) c.requires.fits in
+    let E : List Entry = c.first_unsettled-from.new.self in
+    let right : are_right (demands_settled xs) E ≡ true = ap (are_right (demands_settled xs)) c.first_unsettled-from.ensures.same ∙ c.requires.right in
+    let fits : Fits known E = subst (Fits known) (sym c.first_unsettled-from.ensures.same) c.requires.fits in
     record {
       right = right;
       fits = fits;
       quiet = c.requires.quiet;
-      left = next_left known (demand_queries known on) xs (demands_settled xs) c.first_unsettled-place.new.self right fits (λ r inside i x e s. demand_at known on xs r inside i x e s)
-          0 c.first_unsettled-place.result (omega arith) c.first_unsettled-place.ensures.settled refl;
+      left = ap (first_ask known) (c.first_enabled-place.ensures.asked known) ∙ next_left known (demand_queries known on) xs (demands_settled xs) c.first_unsettled-from.new.self right fits (λ r inside i x e s. demand_at known on xs r inside i x e s)
+          0 c.first_unsettled-from.result (omega arith) c.first_unsettled-from.ensures.settled refl;
     }
 
 pub returns-then-is_some-clause-asked : goal.returns-then-is_some-clause-asked
@@ -61,7 +62,7 @@ loop-place-preserved c =
       right = right;
       fits = c.recall_demand-ask.ensures.fits;
       quiet = c.recall_demand-ask.ensures.quiet xs (slice_get-get_or xs at x c.loop-place-test.true ∙ ap Some (sym c.index-demands-place.is)) c.loop-place.invariant.quiet;
-      left = next_left known (demand_queries known on) xs (demands_settled xs) entries right c.recall_demand-ask.ensures.fits (λ r inside i y e s. demand_at known on xs r inside i y e s)
-          (at + 1) c.first_open-place.result c.first_open-place.ensures.forward c.first_open-place.ensures.settled
+      left = ap (first_ask known) (c.first_enabled-next.ensures.asked known) ∙ next_left known (demand_queries known on) xs (demands_settled xs) entries right c.recall_demand-ask.ensures.fits (λ r inside i y e s. demand_at known on xs r inside i y e s)
+          (at + 1) c.first_open-after.result c.first_open-after.ensures.forward c.first_open-after.ensures.settled
           (loop_goes_on known (demand_queries known on) xs at x c.recall_demand-ask.result c.loop-place-test.true c.index-demands-place.is c.loop-place.invariant.left c.recall_demand-ask.ensures.asked (sym c.is_some.ensures ∙ c.if-is_some.false));
     }
