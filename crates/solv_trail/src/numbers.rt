@@ -60,13 +60,49 @@ fn is_within(word: u64, other: u64) -> bool
     word & !other == 0
 }
 
+/// How many words are looked at together.
+const GROUP: usize = 8;
+
+/// Bits together with those of a word that another lacks.
+fn lacked(before: u64, word: u64, other: u64) -> u64
+    ensures { (i : ℕ) → i < 64 → (bit_at result i == 1) ≡ ((bit_at before i == 1) || ((bit_at word i == 1) && not (bit_at other i == 1))) }
+{
+    before | (word & !other)
+}
+
+/// Whether the other set has all numbers of a group of words.
+fn is_group_within(words: &[u64], other: &[u64], start: usize) -> bool
+    requires words { start + 8 ≤ length words.now }
+    requires other { start + 8 ≤ length other.now }
+    ensures { result ≡ true → (k : ℕ) → start * 64 ≤ k → k < (start + 8) * 64 → (has words.now k && not (has other.now k)) ≡ false }
+{
+    let mut lacking = 0;
+    for place in start..start + GROUP {
+        lacking = lacked(lacking, words[place], other[place]);
+    }
+    lacking == 0
+}
+
+/// A place from one on before which the other set has all numbers of the words from that one on, group by group.
+fn skip_groups(words: &[u64], other: &[u64], start: usize) -> usize
+    ensures forward { start ≤ result }
+    ensures within { (k : ℕ) → start * 64 ≤ k → k < result * 64 → (has words.now k && not (has other.now k)) ≡ false }
+{
+    let end = words.len().min(other.len());
+    let mut place = start;
+    while end.saturating_sub(place) >= GROUP && is_group_within(words, other, place) {
+        place += GROUP;
+    }
+    place
+}
+
 /// A place from one on before which the other set has all numbers of the words from that one on.
 fn skip_from(words: &[u64], other: &[u64], start: usize) -> usize
     ensures forward { start ≤ result }
     ensures within { (k : ℕ) → start * 64 ≤ k → k < result * 64 → (has words.now k && not (has other.now k)) ≡ false }
 {
     let end = words.len().min(other.len());
-    let mut place = start;
+    let mut place = skip_groups(words, other, start);
     while place < end && is_within(words[place], other[place]) {
         place += 1;
     }

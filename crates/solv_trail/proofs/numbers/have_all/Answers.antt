@@ -1,7 +1,5 @@
-use Rattle.std.proofs.Common.{◌≡◌, ◌≤◌, ◌<◌, ◌*◌, ◌+◌, ◌-◌, inl, inr, arith, true, false, eqb, get_or, ap, ◌∙◌, sym, length}
-use Rattle.std.specs.Int.{bit_at}
+use Rattle.std.proofs.Common.{◌≡◌, ◌*◌, ◌-◌, inl, inr, arith, true, false, ◌∙◌, sym}
 use Rattle.std.proofs.lemmas.Bool.{cases_lt}
-use Rattle.solv_trail.specs.Inner.Numbers.{has}
 use Rattle.solv_trail.proofs.Bits.{any_in, any_past, has_in, has_any}
 use Rattle.solv_trail.proofs.numbers.have_all.Goals as goal
 

@@ -1,5 +1,4 @@
-use Rattle.std.proofs.Common.{◌≡◌, ◌≤◌, ◌<◌, ◌*◌, ◌+◌, inl, inr, arith, true, eqb, get_or, ap, ◌∙◌, sym}
-use Rattle.std.specs.Int.{bit_at}
+use Rattle.std.proofs.Common.{◌*◌, inl, inr, arith}
 use Rattle.std.proofs.lemmas.Bool.{cases_lt}
 use Rattle.solv_trail.proofs.Bits.{none_beside}
 use Rattle.solv_trail.proofs.numbers.skip_from.Goals as goal
