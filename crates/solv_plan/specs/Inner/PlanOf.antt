@@ -1,5 +1,5 @@
 -- The plan of a task.
-use Rattle.std.specs.Prelude.{ℕ, Bool, true, false, not, ◌&&◌, List, [], ◌∷◌, ◌++◌, length, map, filter, flat_map, slice_get, ◌==◌, nat_lt, if◌then◌else◌}
+use Rattle.std.specs.Prelude.{ℕ, Bool, true, false, not, ◌&&◌, ◌||◌, List, [], ◌∷◌, ◌++◌, length, map, filter, flat_map, slice_get, ◌==◌, nat_lt, if◌then◌else◌}
 use Rattle.std.specs.List.{list_any, enumerate_from, range_with_len}
 use Rattle.std.specs.Option.{option_map_or}
 use Rattle.solv_pool.specs.Prelude.{Dep, and, or, joined, under, under_else, package_wise, operands, DepNode, when, is_among, Catalog, packages, members, package_at, dependency, is_installed, same_name, package_meets, marked, is_to_move, HardRule, install, best_job, best_update, counted_requirements, counted_rich_conflicts}
@@ -100,6 +100,10 @@ module _ (catalog : Catalog) where
   abbrev pub is_ranked : List (List ℕ) → ℕ → Bool
   is_ranked rows p = list_any (λ d. is_by_tree catalog d && list_any (λ o. is_among (row_at rows o) p) (operands_at catalog.pool.nodes d)) relation_ids
 
+-- one of these asks for d
+abbrev pub is_asked_by : List Want → ℕ → Bool
+is_asked_by wants d = list_any (λ w. w.wanted.dep == d) wants
+
 module _ (r : Request) where
   -- what is asked of an installed package
   abbrev pub keep_of : List (ℕ × HardRule) → ℕ → Keep
@@ -125,9 +129,33 @@ module _ (r : Request) where
       let meeting : List ℕ = filter (package_meets r.catalog (dependency r.catalog d)) (members r.catalog) in
       if is_among meeting 0 then 0 ∷ [] else by_policy r.catalog r.marks Other meeting
 
-  -- a row for each relation
+  -- the requirements that count, and then the conflicts that no package meets alone
+  abbrev pub required_by : ℕ → List Want
+  required_by p = option_map_or (λ a. map (λ need. want_of r.catalog p need.dep) (counted_requirements r.catalog r.marks p a) ++ map (conflict_of r.catalog p) (counted_rich_conflicts r.catalog r.marks p a)) (package_at r.catalog p) []
+
+  -- what a package recommends
+  abbrev pub recommended_by : ℕ → List Want
+  recommended_by p = option_map_or (λ a. map (want_of r.catalog p) a.recommends) (package_at r.catalog p) []
+
+  -- of all packages
+  abbrev pub all_required : List Want
+  all_required = flat_map required_by (packages r.catalog)
+
+  -- of those that are not installed, where recommendations count
+  abbrev pub all_recommended : List Want
+  all_recommended = when (not r.flags.ignore_recommended) (flat_map recommended_by (filter (λ p. not (is_installed r.catalog p)) (packages r.catalog)))
+
+  -- d is a supplement of some package
+  abbrev pub is_supplement : ℕ → Bool
+  is_supplement d = list_any (λ p. option_map_or (λ a. is_among a.supplements d) (package_at r.catalog p) false) (packages r.catalog)
+
+  -- the row of d is read: some package asks for it, or some relation is read by its tree
+  abbrev pub is_read : ℕ → Bool
+  is_read d = has_trees r.catalog || (is_asked_by all_required d || (is_asked_by all_recommended d || is_supplement d))
+
+  -- a row for each relation, which is empty where it is not read
   abbrev pub rows_of : List (List ℕ)
-  rows_of = map row_of (relation_ids r.catalog)
+  rows_of = map (λ d. when (is_read d) (row_of d)) (relation_ids r.catalog)
 
   -- what decides of p among candidates
   abbrev pub standing_of : ℕ → Standing
@@ -145,14 +173,6 @@ module _ (r : Request) where
   -- what dependencies are read from
   abbrev pub relations_of : Relations
   relations_of = record { nodes = when (has_trees r.catalog) r.catalog.pool.nodes; rows = rows_of; standings = when (has_trees r.catalog) standings_of }
-
-  -- the requirements that count, and then the conflicts that no package meets alone
-  abbrev pub required_by : ℕ → List Want
-  required_by p = option_map_or (λ a. map (λ need. want_of r.catalog p need.dep) (counted_requirements r.catalog r.marks p a) ++ map (conflict_of r.catalog p) (counted_rich_conflicts r.catalog r.marks p a)) (package_at r.catalog p) []
-
-  -- what a package recommends
-  abbrev pub recommended_by : ℕ → List Want
-  recommended_by p = option_map_or (λ a. map (want_of r.catalog p) a.recommends) (package_at r.catalog p) []
 
   -- q is of p's name, may be taken, and has a supplement
   abbrev pub is_supplemented : ℕ → ℕ → Bool
@@ -180,7 +200,7 @@ plan_of r = record {
   demands = flat_map (λ job. demands_of_job r (numbered (rules_of r)) job.0) (numbered_jobs r.jobs);
   keeps = keeps_of r (numbered (rules_of r));
   relations = relations_of r;
-  required = flat_map (required_by r) (packages r.catalog);
-  recommended = when (not r.flags.ignore_recommended) (flat_map (recommended_by r) (filter (λ p. not (is_installed r.catalog p)) (packages r.catalog)));
+  required = all_required r;
+  recommended = all_recommended r;
   supplements = when (not r.flags.ignore_recommended) (flat_map (named_by r) (filter (is_first_of_name r.catalog) (packages r.catalog)));
 }
