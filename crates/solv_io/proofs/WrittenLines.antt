@@ -16,13 +16,13 @@ others : (byte : ℕ) (line : List ℕ) → IsLine (byte ∷ line) → IsLine li
 others byte line free = All-tail (λ b. b ≢ 10) byte line free
 
 -- a line with a line feed after it is the first line
-lines_of-line : (line rest : List ℕ) → IsLine line → lines_of (line ++ 10 ∷ rest) ≡ line ∷ lines_of rest
+pub lines_of-line : (line rest : List ℕ) → IsLine line → lines_of (line ++ 10 ∷ rest) ≡ line ∷ lines_of rest
 lines_of-line [] rest free = refl
 lines_of-line (byte ∷ line) rest free =
     lines_of-other byte (line ++ 10 ∷ rest) (first byte line free) ∙ ap (begun_with byte) (lines_of-line line rest (others byte line free))
 
 -- a line that is not empty is the one line of its text
-lines_of-rest : (rest : List ℕ) → IsLine rest → 0 < length rest → lines_of rest ≡ rest ∷ []
+pub lines_of-rest : (rest : List ℕ) → IsLine rest → 0 < length rest → lines_of rest ≡ rest ∷ []
 lines_of-rest [] free some = absurd (omega arith)
 lines_of-rest (byte ∷ []) free some = lines_of-other byte [] (first byte [] free)
 lines_of-rest (byte ∷ next ∷ rest) free some =

@@ -4,4 +4,5 @@ pub mod Lines
 pub mod Words
 pub mod JoinedWords
 pub mod Fetches
+pub mod Reading
 pub mod Inner

@@ -1,15 +1,18 @@
-ghost use Rattle.std.specs.Prelude.{◌≡◌, ◌↔◌, ◌+◌, ◌≤◌, false, None, OnOk, IfErr, length};
+ghost use Rattle.std.specs.Prelude.{◌≡◌, ◌+◌, ◌≤◌, false, None, Err, OnOk, length};
 ghost use Rattle.std.specs.Io.{StartsWith};
-ghost use Rattle.std.specs.IoError.{error_kind};
-ghost use Rattle.std.specs.declared.io.ErrorKind.TheVariants.{OutOfMemory};
-ghost use Rattle.solv_io.specs.declared.faults.FileFault.TheVariants.{Memory};
+ghost use Rattle.solv_io.specs.Counters.{CountsFaults};
+ghost use Rattle.solv_io.specs.Fetches.{fault_ending};
 
+use crate::faults::file_fault;
+use crate::reading::read_piece;
 use crate::{FileFault, Files, Sink, SinkFault};
+use std::alloc::Global;
 use std::fs::OpenFile;
 use std::io::{ErrorKind, Read, Write};
 use std::{fs, io, rt};
 
-/// The files of the system that a program runs on. It exposes neither what they hold nor the names asked for.
+/// The files of the system that a program runs on. It exposes neither what they hold nor the names asked for; of an open file it
+/// exposes what is left of it where the runtime does.
 #[derive(Drop)]
 pub struct RealFiles<'a, R: rt::Files> {
     /// The runtime that opens files.
@@ -26,16 +29,6 @@ pub struct RealSink<W: io::Write> {
     pub to: W,
     /// How many calls failed.
     pub faults: u64,
-}
-
-/// Why a file of the system was not read.
-fn file_fault(error: &io::Error) -> FileFault
-    ensures { (result ≡ Memory) ↔ (error_kind error.now ≡ OutOfMemory) }
-{
-    match error.kind() {
-        ErrorKind::OutOfMemory => FileFault::Memory,
-        _ => FileFault::Failed,
-    }
 }
 
 /// Appends the first bytes of a file of the system to `into`, at most `most`. What is read before a fault
@@ -63,12 +56,30 @@ fn append_file<R: rt::Files>(
     Ok(())
 }
 
+impl<'a, R: rt::Files> RealFiles<'a, R> {
+    /// Answers a fault, and counts it where it is a failure.
+    fn fail<T>(&mut self, fault: FileFault) -> Result<T, FileFault>
+        ensures fault { result ≡ Err fault }
+        ensures faults { CountsFaults (fault_ending fault) self.old.faults self.new.faults }
+        ensures never_falls { self.old.faults ≤ self.new.faults }
+    {
+        if fault == FileFault::Failed {
+            self.faults = self.faults.saturating_add(1);
+        }
+        Err(fault)
+    }
+}
+
 impl<'a, R: rt::Files> Files for RealFiles<'a, R> {
+    type File = R::File;
+
     ghost contents = { λ _. None };
 
     ghost asked = { λ _. None };
 
     ghost faults = { λ files. files.faults };
+
+    ghost left = { λ file. R.File.remaining file };
 
     fn fetch(&mut self, name: &str, most: usize, into: &mut Vec<u8>) -> Result<(), FileFault> {
         let before = into.len();
@@ -76,10 +87,26 @@ impl<'a, R: rt::Files> Files for RealFiles<'a, R> {
             return Ok(());
         };
         into.truncate(before);
-        if fault == FileFault::Failed {
-            self.faults = self.faults.saturating_add(1);
+        self.fail(fault)
+    }
+
+    fn open(&mut self, _alloc: Global, name: &str) -> Result<R::File, FileFault> {
+        match fs::open(self.rt, name) {
+            Ok(file) => Ok(file),
+            Err(error) => self.fail(file_fault(&error)),
         }
-        Err(fault)
+    }
+
+    fn read(
+        &mut self,
+        file: &mut R::File,
+        most: usize,
+        into: &mut Vec<u8>,
+    ) -> Result<usize, FileFault> {
+        match read_piece(file, most, into) {
+            Ok(n) => Ok(n),
+            Err(fault) => self.fail(fault),
+        }
     }
 }
 

@@ -1,3 +1,10 @@
+ghost use Rattle.std.specs.Prelude.{◌≡◌, ◌↔◌};
+ghost use Rattle.std.specs.IoError.{error_kind};
+ghost use Rattle.std.specs.declared.io.ErrorKind.TheVariants.{OutOfMemory};
+ghost use Rattle.solv_io.specs.declared.faults.FileFault.TheVariants.{Memory};
+
+use std::io;
+use std::io::ErrorKind;
 use thiserror::Error;
 
 /// Why a file was not fetched.
@@ -20,4 +27,14 @@ pub enum SinkFault {
     /// No memory was left to keep it.
     #[error("Memory")]
     Memory,
+}
+
+/// Why a file of the system was not read.
+pub(crate) fn file_fault(error: &io::Error) -> FileFault
+    ensures { (result ≡ Memory) ↔ (error_kind error.now ≡ OutOfMemory) }
+{
+    match error.kind() {
+        ErrorKind::OutOfMemory => FileFault::Memory,
+        _ => FileFault::Failed,
+    }
 }

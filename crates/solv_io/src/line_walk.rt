@@ -1,6 +1,6 @@
-ghost use Rattle.std.specs.Prelude.{◌≡◌, ◌<◌, ◌∷◌, length};
+ghost use Rattle.std.specs.Prelude.{◌≡◌, ◌<◌, ◌∷◌, ◌++◌, length, IfSome, IfNone};
 ghost use Rattle.std.specs.Iterator.{YieldsFirstBy, item_count};
-ghost use Rattle.solv_io.specs.Lines.{lines_of, numbered_lines};
+ghost use Rattle.solv_io.specs.Lines.{lines_of, numbered_lines, IsLine};
 
 use memchr::memchr;
 use std::marker::Model;
@@ -45,6 +45,18 @@ pub fn split_line(text: &[u8]) -> (&[u8], &[u8])
     match memchr(b'\n', text) {
         Some(end) => (&text[..end], &text[end + 1..]),
         None => (text, &text[text.len()..]),
+    }
+}
+
+/// The first line of a text that a line feed ends, and the text after it, where there is a line feed.
+pub fn cut_line(text: &[u8]) -> Option<(&[u8], &[u8])>
+    ensures cut { IfSome result (λ cut. text.now ≡ cut.0.now ++ 10 ∷ cut.1.now) }
+    ensures line { IfSome result (λ cut. IsLine cut.0.now) }
+    ensures none { IfNone result (IsLine text.now) }
+{
+    match memchr(b'\n', text) {
+        Some(end) => Some((&text[..end], &text[end + 1..])),
+        None => None,
     }
 }
 

@@ -61,11 +61,15 @@ fn append_first(into: &mut Vec<u8>, bytes: &[u8], most: usize) -> Result<(), Fil
 }
 
 impl<'a, K: Lending> Files for LentFiles<'a, K> {
+    type File = &'a [u8];
+
     ghost contents = { λ _. Some (lent_bytes K.held) };
 
     ghost asked = { λ files. Some files.asked };
 
     ghost faults = { λ files. files.faults };
+
+    ghost left = { λ file. Some file.now };
 
     #[tactic(auto, using(crate::proofs::HeldFiles::last_behind))]
     fn fetch(&mut self, name: &str, most: usize, into: &mut Vec<u8>) -> Result<(), FileFault> {
@@ -93,5 +97,39 @@ impl<'a, K: Lending> Files for LentFiles<'a, K> {
                 Err(FileFault::Failed)
             }
         }
+    }
+
+    #[tactic(auto, using(crate::proofs::HeldFiles::last_behind))]
+    fn open(&mut self, alloc: Global, name: &str) -> Result<&'a [u8], FileFault> {
+        if self.faults > 0 {
+            return Err(FileFault::Memory);
+        }
+        let Ok(copy) = String::from_str(alloc, name) else {
+            return Err(FileFault::Memory);
+        };
+        let found = find_file(self.held, name.as_bytes());
+        if self.asked.push(Text::wrap(copy)).is_err() {
+            return Err(FileFault::Memory);
+        }
+        match found {
+            Some(bytes) => Ok(bytes),
+            None => {
+                self.faults = 1;
+                Err(FileFault::Failed)
+            }
+        }
+    }
+
+    fn read(
+        &mut self,
+        file: &mut &'a [u8],
+        most: usize,
+        into: &mut Vec<u8>,
+    ) -> Result<usize, FileFault> {
+        let rest: &'a [u8] = *file;
+        let n = rest.len().min(most);
+        append_first(into, rest, n)?;
+        *file = &rest[n..];
+        Ok(n)
     }
 }
