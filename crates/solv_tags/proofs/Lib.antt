@@ -7,3 +7,4 @@ pub mod EntriesFormed
 pub mod FormsById
 pub mod OwnCauses
 pub mod InTurn
+pub mod PieceLines

@@ -2,5 +2,6 @@
 pub mod Lines
 pub mod RepositoryReading
 pub mod TagReading
+pub mod Pieces
 pub mod Tags
 pub mod Testtags
