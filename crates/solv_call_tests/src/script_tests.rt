@@ -282,3 +282,26 @@ fn lines_that_come_again_are_read_at_their_place(rt: HostRuntime) -> Result<(), 
     assert!(rt; is_said_of_long(alloc, script, &text, "d/f:6002: OperatorNotHere")?);
     Ok(())
 }
+
+/// A repository of four lines, of which the second has so many bytes besides six, and the last is bad.
+fn long_repository(alloc: Global, vendor: usize) -> Result<Vec<u8>, AllocError> {
+    let mut text = Vec::from_slice(alloc, b"=Pkg: A 1 1 noarch\n=Vnd: ")?;
+    for _ in 0..vendor {
+        text.push(b'v')?;
+    }
+    text.extend_from_slice(b"\n=Pkg: B 1 1 noarch\n=Req:")?;
+    Ok(text)
+}
+
+/// The line feed after the vendor is one of the bytes where the first piece ends, or comes long after it.
+#[test]
+fn lines_may_end_where_a_piece_of_a_file_does(rt: HostRuntime) -> Result<(), Fail> {
+    let alloc = rt.alloc();
+    let script = b"repo a 0 testtags f\n".as_slice();
+    for vendor in [65_509, 65_510, 65_511, 65_512, 200_000] {
+        let text = long_repository(alloc, vendor)?;
+        let is_so = is_said_of_long(alloc, script, &text, "d/f:4: MissingOperand")?;
+        assert!(rt; is_so, "{vendor}");
+    }
+    Ok(())
+}
