@@ -1,5 +1,5 @@
 -- A walk through a chain.
-use Rattle.std.proofs.Common.{◌≡◌, ◌≢◌, ℕ, zero, suc, ◌+◌, ◌*◌, ◌/◌, ◌^◌, ◌<◌, ◌≤◌, Bool, true, false, eqb, List, [], ◌∷◌, ◌++◌, length, take, get_or, set, Option, Some, inl, inr, refl, sym, ap, ◌∙◌, subst, arith, append_assoc, if◌then◌else◌}
+use Rattle.std.proofs.Common.{◌≡◌, ◌≢◌, ℕ, zero, suc, ◌+◌, ◌*◌, ◌/◌, ◌^◌, ◌<◌, ◌≤◌, Bool, true, false, eqb, List, [], ◌∷◌, ◌++◌, length, take, get_or, set, Option, Some, inl, inr, refl, sym, ap, ◌∙◌, subst, arith, append_assoc, get_or-set_other, if◌then◌else◌}
 use Rattle.std.specs.Prelude.{ℤ, pos, neg_ℤ, slice_get}
 use Rattle.std.specs.List.{list_any, IsDistinct}
 use Rattle.std.proofs.lemmas.Map.Made.{IsDistinct-from_AllPairs}
@@ -15,8 +15,8 @@ use Rattle.solv_derive.proofs.Facts.{neg-neg, known_here}
 use Rattle.solv_trail.specs.Inner.Derivation.{IsConsistent}
 use Rattle.solv_trail.proofs.Walk.{take_known, known_at}
 use Rattle.solv_watch.specs.Inner.Chains.{no_link, Has, AreOnce, IsChain, AreHung, AreAllHung, other, heads_past, links_past}
-use Rattle.solv_watch.specs.Inner.Spares.{AreTwoOf}
-use Rattle.solv_watch.specs.Inner.Watching.{literal_of, place_at, IsWatch, ArePairs, AreGuards, AreGuardsAtChoices, Each, AreChained, IsPart, Visited, stays, falsified, forces, moves}
+use Rattle.solv_watch.specs.Inner.Spares.{AreTwoOf, IsBesideFalse}
+use Rattle.solv_watch.specs.Inner.Watching.{literal_of, place_at, IsWatch, ArePairs, AreGuards, AreGuardsAtChoices, Each, AreChained, AreHeadsKept, IsPart, Visited, stays, falsified, forces, moves}
 use Rattle.solv_watch.specs.declared.walking.Visit.TheVariants.{Stays, Falsified, Forces, Moves}
 use Rattle.solv_derive.specs.Forced.{is_falsified, forced}
 use Rattle.solv_derive.proofs.Tables.{place_of-injective}
@@ -296,13 +296,17 @@ module _ (count : ℕ) (rules : List (List ℤ)) (used : ℕ → Bool) (heads li
             (let f : get_or marks k 0 ≤ length lits = g.0 in omega arith, rw e (g.1));
       }
 
-  -- the other watched literal stands in the clause
-  pub walk_beside : (last watch : ℕ) → IsWalk count rules used heads links watched lits marks at place last watch → watch ≢ no_link → (c : List ℤ) → slice_get rules (watch / 2) ≡ Some c → is_fact c (literal_of watched (other watch)) ≡ true
+  -- the literal at which it stands is false, and the other watched one stands besides it in the clause
+  pub walk_beside : (last watch : ℕ) → IsWalk count rules used heads links watched lits marks at place last watch → watch ≢ no_link → (c : List ℤ) → slice_get rules (watch / 2) ≡ Some c → IsBesideFalse lits (literal_of watched (other watch)) c
   walk_beside last watch h n c found =
       let o = walk_at last watch h n in
       let e : o.1.clause ≡ c = the_one (slice_get rules (watch / 2)) o.1.clause c o.1.held found in
       let P : List ℤ → Type 0 = λ d. 2 ≤ length d in
-      (h.pairs watch c found (subst P e o.1.wide)).second
+      record {
+        own = literal_of watched watch;
+        two = h.pairs watch c found (subst P e o.1.wide);
+        now_false = ap (is_refuted lits) (place_of-injective (literal_of watched watch) h.literal (o.2 ∙ h.placed)) ∙ h.now_false;
+      }
     where
       the_one : (o : Option (List ℤ)) (c d : List ℤ) → o ≡ Some c → o ≡ Some d → c ≡ d
       the_one o c d e f = cc
@@ -313,6 +317,22 @@ module _ (count : ℕ) (rules : List (List ℤ)) (used : ℕ → Bool) (heads li
       go : (v : ℕ) (front : List ℕ) → IsFront v front → v < no_link → ((w : ℕ) → Has front w → w < length links) → v < 2 * length rules
       go v front none m has = absurd (omega arith)
       go v front (upto u f less) m has = let k : v < length links = has v (Has-right f (v ∷ []) v (inl refl)) in omega (arith, h.linked)
+
+-- the place is that of the literal that is false by the one at this place
+abbrev pub IsPlaceAt : List ℤ → ℕ → ℕ → Type 0
+IsPlaceAt lits at place = (l : ℤ) → place_of l ≡ place → get_or lits at (pos 0) ≡ neg_ℤ l
+
+-- the heads of other false literals are as they were where a watch goes to one that is not false
+pub heads_moved : (before lits : List ℤ) (at place last next watch : ℕ) (y : ℤ) (first heads : List ℕ) → ((l : ℤ) → is_fact before l ≡ true → is_fact lits l ≡ true) → IsPlaceAt before at place → is_refuted lits y ≡ false
+    → AreHeadsKept before at first heads → AreHeadsKept before at first (set (heads_past heads place last next) (place_of y) watch)
+heads_moved before lits at place last next watch y first heads kept here not_false h l refuted away =
+    let other_place : place_of l ≢ place_of y = λ e. false≢true (sym not_false ∙ ap (is_refuted lits) (sym (place_of-injective l y e)) ∙ kept (neg_ℤ l) refuted) in
+    let other_head : place_of l ≢ place = λ e. away (here l e) in
+    get_or-set_other (heads_past heads place last next) (place_of y) (place_of l) watch 0 other_place ∙ past (eqb last no_link) other_head ∙ h l refuted away
+  where
+    past : (is_first : Bool) → place_of l ≢ place → get_or (if is_first then set heads place next else heads) (place_of l) 0 ≡ get_or heads (place_of l) 0
+    past true n = get_or-set_other heads place (place_of l) next 0 n
+    past false n = refl
 
 -- what a look found
 pub visited_stays : {rules : List (List ℤ)} {used : ℕ → Bool} {lits : List ℤ} {rule : ℕ} {b : ℤ} → Visited rules used lits rule b Stays → used rule ≡ true → is_fact lits b ≡ true
@@ -343,3 +363,6 @@ rule_within n w h = omega arith
 
 pub pushed_known : (T : List ℤ) (x : ℤ) → is_fact (T ++ x ∷ []) x ≡ true
 pushed_known T x = list_any-append (int_eq x) T (x ∷ []) ∙ or_right (is_fact T x) (is_fact (x ∷ []) x) (known_here x [])
+
+pub still_known : (T : List ℤ) (x y : ℤ) → is_fact T y ≡ true → is_fact (T ++ x ∷ []) y ≡ true
+still_known T x y h = list_any-append (int_eq y) T (x ∷ []) ∙ or_left (is_fact T y) (is_fact (x ∷ []) y) h

@@ -6,41 +6,84 @@ ghost use Rattle.solv_derive.specs.Forced.{is_falsified};
 ghost use Rattle.solv_trail.specs.Propagated.{in_use};
 ghost use Rattle.solv_trail.specs.Inner.Propagated.{IsUsed, IsGrown, Propagated};
 ghost use Rattle.solv_derive.specs.Inner.Forced.{is_satisfied};
-ghost use Rattle.solv_watch.specs.Inner.Watching.{AreChained, AreNarrow, AreNarrowTrue, AreGuards, AreGuardsAtChoices, Each, IsPart, always, IsKeptAtChoices, IsKeptUpto};
+ghost use Rattle.solv_watch.specs.Inner.Watching.{AreChained, AreHeadsKept, IsHeadOf, AreNarrow, AreNarrowTrue, AreGuards, AreGuardsAtChoices, Each, IsPart, always, IsKeptAtChoices, IsKeptUpto};
 ghost use Rattle.solv_watch.specs.Inner.Propagating.{AreWatched, AreKeptAtChoices, AreReady, AreSeen};
 
 use crate::chains::{Chains, Watches};
-use crate::walking::{Part, walk};
+use crate::walking::{Part, head_at, walk};
 use solv_pack::{RuleMem, RuleNo};
 use solv_trail::{Known, is_in_use};
 
-/// Walks through the rules of a memory that watch the negation of the literal at a place.
-fn walk_in(
+/// Walks through the rules of the book that watch the negation of the literal at a place, from its first watch on.
+fn walk_book(
     known: &mut Known,
-    rules: &RuleMem,
+    book: &RuleMem,
     chains: &mut Chains,
     owners: &[usize],
     enabled: &[bool],
+    at: usize,
+    first: u32,
+) -> Option<u32>
+    requires over { are_over known.old.count book.now.rules ≡ true }
+    requires owners { list_all (λ o. nat_lt o (length enabled.now)) owners.now ≡ true }
+    requires few { length book.now.rules ≤ 2 ^ 28 }
+    requires at { at < length known.old.lits }
+    requires chained { AreChained known.old.count book.now.rules chains.old.heads.items chains.old.links.items chains.old.watched.items }
+    requires first { IsHeadOf known.old.lits at chains.old.heads.items first }
+    requires guards { AreGuards book.now.rules (in_use owners.now enabled.now) chains.old.watched.items Each (take at known.old.lits) known.old.lits }
+    requires choices { AreGuardsAtChoices book.now.rules (in_use owners.now enabled.now) chains.old.watched.items known.old.lits known.old.marks }
+    ensures grown { (all : List (List ℤ)) (used : ℕ → Bool) → IsPart all used 0 book.now.rules (in_use owners.now enabled.now) → IsGrown all used known.old known.new }
+    ensures chained { AreChained known.old.count book.now.rules chains.new.heads.items chains.new.links.items chains.new.watched.items }
+    ensures heads { AreHeadsKept known.old.lits at chains.old.heads.items chains.new.heads.items }
+    ensures choices { AreGuardsAtChoices book.now.rules (in_use owners.now enabled.now) chains.new.watched.items known.new.lits known.new.marks }
+    ensures guards { result ≡ None → AreGuards book.now.rules (in_use owners.now enabled.now) chains.new.watched.items Each (take (at + 1) known.new.lits) known.new.lits }
+    ensures clash { IfSome result (λ rule. (all : List (List ℤ)) (used : ℕ → Bool) → IsPart all used 0 book.now.rules (in_use owners.now enabled.now) → (c : List ℤ) × IsUsed all used rule c × (is_falsified known.new.lits c ≡ true)) }
+{
+    let part = Part {
+        rules: book,
+        owners,
+        enabled,
+        base: 0,
+    };
+    walk(
+        known,
+        part,
+        chains.heads.as_mut_slice(),
+        chains.links.as_mut_slice(),
+        chains.watched.as_mut_slice(),
+        at,
+        first,
+    )
+}
+
+/// Walks through the learnt rules that watch the negation of the literal at a place. Where there are none, no head of theirs is looked at.
+fn walk_learnt(
+    known: &mut Known,
+    learnt: &RuleMem,
+    chains: &mut Chains,
     base: u32,
     at: usize,
 ) -> Option<u32>
-    requires over { are_over known.old.count rules.now.rules ≡ true }
-    requires owners { list_all (λ o. nat_lt o (length enabled.now)) owners.now ≡ true }
-    requires base { base + length rules.now.rules ≤ 2 ^ 28 }
+    requires over { are_over known.old.count learnt.now.rules ≡ true }
+    requires base { base + length learnt.now.rules ≤ 2 ^ 28 }
     requires at { at < length known.old.lits }
-    requires chained { AreChained known.old.count rules.now.rules chains.old.heads.items chains.old.links.items chains.old.watched.items }
-    requires guards { AreGuards rules.now.rules (in_use owners.now enabled.now) chains.old.watched.items Each (take at known.old.lits) known.old.lits }
-    requires choices { AreGuardsAtChoices rules.now.rules (in_use owners.now enabled.now) chains.old.watched.items known.old.lits known.old.marks }
-    ensures grown { (all : List (List ℤ)) (used : ℕ → Bool) → IsPart all used base rules.now.rules (in_use owners.now enabled.now) → IsGrown all used known.old known.new }
-    ensures chained { AreChained known.old.count rules.now.rules chains.new.heads.items chains.new.links.items chains.new.watched.items }
-    ensures choices { AreGuardsAtChoices rules.now.rules (in_use owners.now enabled.now) chains.new.watched.items known.new.lits known.new.marks }
-    ensures guards { result ≡ None → AreGuards rules.now.rules (in_use owners.now enabled.now) chains.new.watched.items Each (take (at + 1) known.new.lits) known.new.lits }
-    ensures clash { IfSome result (λ rule. (all : List (List ℤ)) (used : ℕ → Bool) → IsPart all used base rules.now.rules (in_use owners.now enabled.now) → (c : List ℤ) × IsUsed all used rule c × (is_falsified known.new.lits c ≡ true)) }
+    requires chained { AreChained known.old.count learnt.now.rules chains.old.heads.items chains.old.links.items chains.old.watched.items }
+    requires guards { AreGuards learnt.now.rules always chains.old.watched.items Each (take at known.old.lits) known.old.lits }
+    requires choices { AreGuardsAtChoices learnt.now.rules always chains.old.watched.items known.old.lits known.old.marks }
+    ensures grown { (all : List (List ℤ)) (used : ℕ → Bool) → IsPart all used base learnt.now.rules always → IsGrown all used known.old known.new }
+    ensures chained { AreChained known.old.count learnt.now.rules chains.new.heads.items chains.new.links.items chains.new.watched.items }
+    ensures choices { AreGuardsAtChoices learnt.now.rules always chains.new.watched.items known.new.lits known.new.marks }
+    ensures guards { result ≡ None → AreGuards learnt.now.rules always chains.new.watched.items Each (take (at + 1) known.new.lits) known.new.lits }
+    ensures clash { IfSome result (λ rule. (all : List (List ℤ)) (used : ℕ → Bool) → IsPart all used base learnt.now.rules always → (c : List ℤ) × IsUsed all used rule c × (is_falsified known.new.lits c ≡ true)) }
 {
+    if learnt.is_empty() {
+        return None;
+    }
+    let first = head_at(known, chains, at);
     let part = Part {
-        rules,
-        owners,
-        enabled,
+        rules: learnt,
+        owners: &[],
+        enabled: &[],
         base,
     };
     walk(
@@ -50,10 +93,24 @@ fn walk_in(
         chains.links.as_mut_slice(),
         chains.watched.as_mut_slice(),
         at,
+        first,
     )
 }
 
-/// Propagates the literals from a place on, until a rule is falsified (which it names) or nothing more is forced.
+/// The first watch at the literal that is false by the one at a place: what was read where fewer literals were known, if it stood there then.
+fn read_head(known: &Known, chains: &Chains, at: usize, count: usize, read: u32) -> u32
+    requires room { length chains.now.heads.items ≡ 2 * known.now.count + 2 }
+    requires read { at < count → IsHeadOf known.now.lits at chains.now.heads.items read }
+    ensures { IsHeadOf known.now.lits at chains.now.heads.items result }
+{
+    if at < count {
+        return read;
+    }
+    head_at(known, chains, at)
+}
+
+/// Propagates the literals from a place on, until a rule is falsified (which it names) or nothing more is forced. The head of the next literal
+/// is read before the rules of one are walked through, so that both waits for memory go beside each other.
 fn follow(
     known: &mut Known,
     book: &RuleMem,
@@ -86,14 +143,18 @@ fn follow(
 {
     let base = book.len() as u32;
     let mut at = from;
+    let mut first = head_at(known, &watches.book, at);
     while at < known.len() {
-        if let Some(rule) = walk_in(known, book, &mut watches.book, owners, enabled, 0, at) {
+        let count = known.len();
+        let read = head_at(known, &watches.book, at + 1);
+        if let Some(rule) = walk_book(known, book, &mut watches.book, owners, enabled, at, first) {
             return Some(rule);
         }
-        if let Some(rule) = walk_in(known, learnt, &mut watches.learnt, &[], &[], base, at) {
+        if let Some(rule) = walk_learnt(known, learnt, &mut watches.learnt, base, at) {
             return Some(rule);
         }
         at += 1;
+        first = read_head(known, &watches.book, at, count, read);
     }
     known.keep_apart();
     None

@@ -1,5 +1,5 @@
 //! Visits the watches of a literal that became false.
-ghost use Rattle.std.specs.Prelude.{◌≡◌, ◌<◌, ◌≤◌, ◌+◌, ◌*◌, ◌/◌, ◌%◌, ◌^◌, ℕ, ℤ, pos, neg_ℤ, Bool, true, List, Some, None, length, take, nat_lt, slice_get, slice_index, slice_index_or, slice_set, Option, IfSome};
+ghost use Rattle.std.specs.Prelude.{◌≡◌, ◌<◌, ◌≤◌, ◌+◌, ◌*◌, ◌/◌, ◌%◌, ◌^◌, ℕ, ℤ, pos, neg_ℤ, Bool, true, false, List, Some, None, length, take, nat_lt, slice_get, slice_index, slice_index_or, slice_set, Option, IfSome};
 ghost use Rattle.std.specs.List.{list_all};
 ghost use Rattle.solv_pool.specs.Prelude.{is_fact, is_over, are_over, names_package};
 ghost use Rattle.solv_pack.specs.Inner.Literals.{place_of};
@@ -7,10 +7,11 @@ ghost use Rattle.solv_derive.specs.Forced.{is_falsified};
 ghost use Rattle.solv_trail.specs.Propagated.{in_use};
 ghost use Rattle.solv_trail.specs.Inner.Propagated.{IsUsed, IsGrown};
 ghost use Rattle.solv_watch.specs.Inner.Chains.{no_link, other, heads_past, links_past};
-ghost use Rattle.solv_watch.specs.Inner.Watching.{literal_of, AreChained, AreGuards, AreGuardsAtChoices, Each, IsPart, Visited};
+ghost use Rattle.solv_watch.specs.Inner.Spares.{IsBesideFalse};
+ghost use Rattle.solv_watch.specs.Inner.Watching.{literal_of, AreHeadsKept, IsHeadOf, AreChained, AreGuards, AreGuardsAtChoices, Each, IsPart, Visited};
 
-use crate::chains::{NOWHERE, beside, rewatch};
-use crate::spares::spare;
+use crate::chains::{Chains, NOWHERE, beside, rewatch};
+use crate::spares::spare_beside;
 use solv_pack::{Lit, RuleMem, RuleNo};
 use solv_trail::{Known, is_in_use};
 
@@ -45,7 +46,7 @@ fn visit_rule(
     requires over { are_over known.now.count rules.now.rules ≡ true }
     requires owners { list_all (λ o. nat_lt o (length enabled.now)) owners.now ≡ true }
     requires rule { rule < length rules.now.rules }
-    requires beside { (c : List ℤ) → slice_get rules.now.rules rule ≡ Some c → is_fact c beside ≡ true }
+    requires beside { (c : List ℤ) → slice_get rules.now.rules rule ≡ Some c → IsBesideFalse known.now.lits beside c }
     ensures { Visited rules.now.rules (in_use owners.now enabled.now) known.now.lits rule beside result }
 {
     let clause = rules.lits(RuleNo(rule));
@@ -56,7 +57,7 @@ fn visit_rule(
     if !is_in_use(owners, enabled, rule as usize) {
         return Visit::Stays;
     }
-    match spare(known, clause, beside) {
+    match spare_beside(known, clause, beside) {
         Some(lit) => Visit::Moves(lit),
         None => {
             if known.is_fact(beside.negated()) {
@@ -68,8 +69,20 @@ fn visit_rule(
     }
 }
 
-/// Walks through the rules that watch a literal whose negation stands at a place of what is known, and adds what they force, until one is
-/// falsified, which it names by its number among all rules. It takes no memory.
+/// The first watch at the literal that is false by the one at a place of what is known, where one stands there.
+pub fn head_at(known: &Known, chains: &Chains, at: usize) -> u32
+    requires room { length chains.now.heads.items ≡ 2 * known.now.count + 2 }
+    ensures head { IsHeadOf known.now.lits at chains.now.heads.items result }
+    ensures once { at < length known.now.lits → is_fact (take at known.now.lits) (slice_index_or known.now.lits at (pos 0)) ≡ false }
+{
+    if at >= known.len() {
+        return NOWHERE;
+    }
+    chains.heads[known.lit_at(at).negated().place()]
+}
+
+/// Walks through the rules that watch a literal whose negation stands at a place of what is known, from its first watch on, and adds what they
+/// force, until one is falsified, which it names by its number among all rules. It takes no memory.
 pub fn walk(
     known: &mut Known,
     part: Part,
@@ -77,23 +90,26 @@ pub fn walk(
     links: &mut [u32],
     watched: &mut [Lit],
     at: usize,
+    first: u32,
 ) -> Option<u32>
     requires over { are_over known.old.count part.rules.now.rules ≡ true }
     requires owners { list_all (λ o. nat_lt o (length part.enabled.now)) part.owners.now ≡ true }
     requires base { part.base + length part.rules.now.rules ≤ 2 ^ 28 }
     requires at { at < length known.old.lits }
     requires chained { AreChained known.old.count part.rules.now.rules heads.old links.old watched.old }
+    requires first { IsHeadOf known.old.lits at heads.old first }
     requires guards { AreGuards part.rules.now.rules (in_use part.owners.now part.enabled.now) watched.old Each (take at known.old.lits) known.old.lits }
     requires choices { AreGuardsAtChoices part.rules.now.rules (in_use part.owners.now part.enabled.now) watched.old known.old.lits known.old.marks }
     ensures grown { (all : List (List ℤ)) (used : ℕ → Bool) → IsPart all used part.entry.base part.entry.rules.now.rules (in_use part.entry.owners.now part.entry.enabled.now) → IsGrown all used known.old known.new }
     ensures chained { AreChained known.old.count part.entry.rules.now.rules heads.new links.new watched.new }
+    ensures heads { AreHeadsKept known.old.lits at heads.old heads.new }
     ensures choices { AreGuardsAtChoices part.entry.rules.now.rules (in_use part.entry.owners.now part.entry.enabled.now) watched.new known.new.lits known.new.marks }
     ensures guards { result ≡ None → AreGuards part.entry.rules.now.rules (in_use part.entry.owners.now part.entry.enabled.now) watched.new Each (take (at + 1) known.new.lits) known.new.lits }
     ensures clash { IfSome result (λ rule. (all : List (List ℤ)) (used : ℕ → Bool) → IsPart all used part.entry.base part.entry.rules.now.rules (in_use part.entry.owners.now part.entry.enabled.now) → (c : List ℤ) × IsUsed all used rule c × (is_falsified known.new.lits c ≡ true)) }
 {
     let place = known.lit_at(at).negated().place();
     let mut last = NOWHERE;
-    let mut watch = heads[place];
+    let mut watch = first;
     while watch != NOWHERE {
         let rule = watch / 2;
         let next = links[watch as usize];

@@ -1,5 +1,5 @@
 -- What the watches of rules keep.
-use Rattle.std.specs.Prelude.{ℕ, ℤ, pos, ◌≡◌, ◌+◌, ◌*◌, ◌/◌, ◌^◌, ◌<◌, ◌≤◌, ◌⊎◌, Bool, true, false, List, length, take, slice_get, slice_index, slice_index_or, Some}
+use Rattle.std.specs.Prelude.{ℕ, ℤ, pos, neg_ℤ, ◌≡◌, ◌+◌, ◌*◌, ◌/◌, ◌^◌, ◌<◌, ◌≤◌, ◌⊎◌, Bool, true, false, List, length, take, slice_get, slice_index, slice_index_or, Some}
 use Rattle.solv_pool.specs.Prelude.{is_fact, is_refuted}
 use Rattle.solv_derive.specs.Forced.{is_falsified, forced}
 use Rattle.solv_derive.specs.Inner.Forced.{is_satisfied}
@@ -57,6 +57,14 @@ pub record AreChained (count : ℕ) (rules : List (List ℤ)) (heads links : Lis
   pub chain : ℕ → List ℕ
   pub hung : AreHung heads links (IsWatch rules) (place_at watched) chain
   pub all : AreAllHung (IsWatch rules) (place_at watched) chain
+
+-- the first watch at the literal that is false by the one at a place, where one stands there
+abbrev pub IsHeadOf : List ℤ → ℕ → List ℕ → ℕ → Type 0
+IsHeadOf lits at heads first = (l : ℤ) → at < length lits → slice_index_or lits at (pos 0) ≡ neg_ℤ l → slice_index heads (place_of l) ≡ first
+
+-- the heads of false literals are as they were, but for that of the literal that is false by the one at a place
+abbrev pub AreHeadsKept : List ℤ → ℕ → List ℕ → List ℕ → Type 0
+AreHeadsKept lits at old new = (l : ℤ) → is_refuted lits l ≡ true → (slice_index_or lits at (pos 0) ≡ neg_ℤ l → ⊥) → slice_index new (place_of l) ≡ slice_index old (place_of l)
 
 -- each head that leads somewhere is that of a literal that is watched, by a watch from this one on
 abbrev pub AreHeadsFrom : ℕ → List ℕ → List ℤ → Type 0

@@ -1,4 +1,4 @@
-use Rattle.std.proofs.Common.{◌≡◌, ℕ, Bool, true, List, ◌++◌, Some, None, refl, sym, ap, ◌∙◌, subst, length}
+use Rattle.std.proofs.Common.{◌≡◌, ℕ, Bool, true, List, ◌++◌, Some, None, refl, sym, subst, length}
 use Rattle.std.specs.Prelude.{ℤ, IfSome, Option}
 use Rattle.solv_derive.specs.Forced.{is_falsified}
 use Rattle.solv_trail.specs.Propagated.{in_use}

@@ -1,7 +1,7 @@
 use Rattle.std.proofs.Common.{◌≡◌, ◌≤◌, ◌-◌, ◌++◌, length}
 use Rattle.solv_trail.specs.Propagated.{in_use}
 use Rattle.solv_trail.specs.Inner.Propagated.{IsGrown}
-use Rattle.solv_watch.specs.Inner.Watching.{AreChained, IsKeptAtChoices, IsKeptUpto, always}
+use Rattle.solv_watch.specs.Inner.Watching.{AreChained, IsHeadOf, IsKeptAtChoices, IsKeptUpto, always}
 use Rattle.solv_watch.proofs.propagation.follow.Given as goal
 
 abbrev pub invariant-loop-at : goal.invariant-loop-at
@@ -16,6 +16,7 @@ invariant-loop-at l = record {
   learnt_choices : IsKeptAtChoices l.learnt.rules always l.watches.learnt.watched.items l.known.lits l.known.marks;
   book_kept : IsKeptUpto l.book.rules (in_use l.owners l.enabled) l.watches.book.watched.items l.known.lits l.at;
   learnt_kept : IsKeptUpto l.learnt.rules always l.watches.learnt.watched.items l.known.lits l.at;
+  first : IsHeadOf l.known.lits l.at l.watches.book.heads.items l.first;
 }
 
 abbrev pub decreases-loop-at : goal.decreases-loop-at

@@ -3,10 +3,9 @@ use Rattle.std.specs.Prelude.{ℤ}
 use Rattle.solv_trail.specs.Propagated.{in_use}
 use Rattle.solv_trail.specs.Inner.Propagated.{IsGrown, clash}
 use Rattle.solv_watch.specs.Inner.Watching.{always, IsKeptUpto, AreChained}
-use Rattle.solv_watch.proofs.Keeping.{part_book, grown_then, held_kept, held_choices, held_guards}
+use Rattle.solv_watch.proofs.Keeping.{grown_then, held_choices, held_guards}
 use Rattle.solv_watch.proofs.propagation.propagate.Goals as goal
 use Rattle.solv_watch.proofs.propagation.propagate.Goals.{After-begin, After-follow}
-use Rattle.solv_list.proofs.Lists.{get_front_again}
 
 first : (c : After-begin) → IsGrown (c.args.book.now.rules ++ c.args.learnt.now.rules) (in_use c.args.owners.now c.args.enabled.now) c.args.known.now c.begin.new.known
 first c = c.begin.ensures.grown

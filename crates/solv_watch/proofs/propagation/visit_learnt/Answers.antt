@@ -1,4 +1,4 @@
-use Rattle.std.proofs.Common.{◌≡◌, ◌≤◌, ap, sym, ◌∙◌, arith, length}
+use Rattle.std.proofs.Common.{◌≡◌, ap, sym, ◌∙◌, arith, length}
 use Rattle.std.specs.Prelude.{unwrap_or}
 use Rattle.solv_trail.proofs.Growth.{grown_self}
 use Rattle.solv_watch.proofs.propagation.visit_learnt.Goals as goal

@@ -4,7 +4,7 @@ use Rattle.std.proofs.lemmas.List.{get_or_read, length_push}
 use Rattle.solv_pool.specs.Prelude.{is_fact, names_package, is_over}
 use Rattle.solv_pack.specs.Inner.Literals.{place_of}
 use Rattle.solv_derive.proofs.Facts.{neg-neg, all_member, forces_from, forced_member, open_parts}
-use Rattle.solv_derive.proofs.Tables.{names_neg, place_within}
+use Rattle.solv_derive.proofs.Tables.{names_neg, place_within, place_of-injective}
 use Rattle.solv_derive.proofs.Hints.{forced_over, clause_over}
 use Rattle.solv_trail.specs.Inner.Held.{Held}
 use Rattle.solv_trail.specs.Propagated.{in_use}
@@ -12,10 +12,10 @@ use Rattle.solv_trail.specs.Inner.Propagated.{IsUsed, IsGrown}
 use Rattle.solv_trail.proofs.Growth.{grown_self, grown_push}
 use Rattle.solv_watch.specs.Inner.Chains.{no_link, other, heads_past, links_past}
 use Rattle.solv_watch.specs.Inner.Spares.{AreTwoOf}
-use Rattle.solv_watch.specs.Inner.Watching.{literal_of, IsPart, Visited}
+use Rattle.solv_watch.specs.Inner.Watching.{literal_of, AreHeadsKept, IsPart, Visited}
 use Rattle.solv_watch.specs.declared.walking.Visit.TheVariants.{Stays, Falsified, Forces, Moves}
 use Rattle.solv_watch.proofs.Pairs.{of_others}
-use Rattle.solv_watch.proofs.Walks.{IsWalk, walk_at, walk_start, walk_end, walk_past, walk_moved, walk_more, walk_beside, walk_last, visited_stays, visited_false, visited_forces, visited_moves, used_among, beside_few, beside_within, rule_within, pushed_known}
+use Rattle.solv_watch.proofs.Walks.{IsWalk, walk_at, walk_start, walk_end, walk_past, walk_moved, walk_more, walk_beside, walk_last, visited_stays, visited_false, visited_forces, visited_moves, used_among, beside_few, beside_within, rule_within, pushed_known, still_known, heads_moved}
 use Rattle.solv_watch.proofs.walking.walk.Goals as goal
 use Rattle.solv_watch.proofs.walking.walk.Goals.{After-index-watched-beside, In-loop-watch}
 
@@ -25,11 +25,15 @@ loop-watch-init c =
     let named : names_package c.args.known.now.count c.negated.result ≡ true = rw (c.negated.ensures.number) (names_neg c.args.known.now.count c.lit_at.result c.lit_at.ensures.over) in
     let within : c.place-place.result < length c.args.heads.now = let m : place_of c.negated.result < 2 * c.args.known.now.count + 2 = place_within c.args.known.now.count c.negated.result named in omega (arith, c.requires.chained.room, placed) in
     let stands : get_or c.args.known.now.lits c.args.at (pos 0) ≡ neg_ℤ c.negated.result = sym c.lit_at.ensures.lit ∙ sym (neg-neg c.lit_at.result) ∙ ap neg_ℤ (sym c.negated.ensures.number) in
+    let begins : get_or c.args.heads.now c.place-place.result 0 ≡ c.args.first = ap (λ v. get_or c.args.heads.now v 0) placed ∙ c.requires.first c.negated.result c.requires.at stands in
+    let P : ℕ → Type 0 = λ v. IsWalk c.args.known.now.count c.args.part.rules.now.rules (in_use c.args.part.owners.now c.args.part.enabled.now) c.args.heads.now c.args.links.now c.args.watched.now c.args.known.now.lits c.args.known.now.marks c.args.at c.place-place.result no_link v in
     record {
-      walk = walk_start c.args.known.now.count c.args.part.rules.now.rules (in_use c.args.part.owners.now c.args.part.enabled.now) c.args.heads.now c.args.links.now c.args.watched.now c.args.known.now.lits c.args.known.now.marks c.args.at c.place-place.result c.negated.result placed within c.requires.at stands c.requires.chained c.requires.guards c.requires.choices;
+      walk = subst P begins (walk_start c.args.known.now.count c.args.part.rules.now.rules (in_use c.args.part.owners.now c.args.part.enabled.now) c.args.heads.now c.args.links.now c.args.watched.now c.args.known.now.lits c.args.known.now.marks c.args.at c.place-place.result c.negated.result placed within c.requires.at stands c.requires.chained c.requires.guards c.requires.choices);
       grown = λ all used part. grown_self all used c.args.known.now;
       count = refl;
       within = c.requires.at;
+      kept = λ x h. h;
+      heads = λ l r away. refl;
     }
 
 bound : (c : In-loop-watch) → c.loop-watch.watch < 2 * length c.args.part.rules.now.rules
@@ -125,6 +129,8 @@ loop-watch-preserved-in-Stays c =
       grown = c.loop-watch.invariant.grown;
       count = c.loop-watch.invariant.count;
       within = c.loop-watch.invariant.within;
+      kept = c.loop-watch.invariant.kept;
+      heads = c.loop-watch.invariant.heads;
     }
 
 pub loop-watch-smaller-in-Forces : goal.loop-watch-smaller-in-Forces
@@ -155,6 +161,8 @@ loop-watch-preserved-in-Forces c =
       grown : (all : List (List ℤ)) (used : ℕ → Bool) → IsPart all used c.args.part.base c.args.part.rules.now.rules (in_use c.args.part.owners.now c.args.part.enabled.now) → IsGrown all used c.args.known.now h;
       count : h.count ≡ c.args.known.now.count;
       within : c.args.at < length h.lits;
+      kept : (y : ℤ) → is_fact c.args.known.now.lits y ≡ true → is_fact h.lits y ≡ true;
+      heads : AreHeadsKept c.args.known.now.lits c.args.at c.args.heads.now c.loop-watch.heads;
     } in
     subst P (sym e) (record {
       walk = w.0;
@@ -163,6 +171,8 @@ loop-watch-preserved-in-Forces c =
           grown_push all used c.args.known.now c.loop-watch.known (c.args.part.base + c.loop-watch.watch / 2) m.0 x u m.2 (c.loop-watch.invariant.grown all used part);
       count = c.loop-watch.invariant.count;
       within = let k : c.args.at < length c.loop-watch.known.lits = c.loop-watch.invariant.within in omega arith;
+      kept = λ y k. still_known c.loop-watch.known.lits x y (c.loop-watch.invariant.kept y k);
+      heads = c.loop-watch.invariant.heads;
     })
 
 pub loop-watch-smaller : goal.loop-watch-smaller
@@ -194,4 +204,7 @@ loop-watch-preserved c =
       grown = c.loop-watch.invariant.grown;
       count = c.loop-watch.invariant.count;
       within = c.loop-watch.invariant.within;
+      kept = c.loop-watch.invariant.kept;
+      heads = rw (c.rewatch.ensures.heads) (heads_moved c.args.known.now.lits c.loop-watch.known.lits c.args.at c.place-place.result c.loop-watch.last (get_or c.loop-watch.links c.loop-watch.watch 0) c.loop-watch.watch c.in-Moves.to c.args.heads.now c.loop-watch.heads c.loop-watch.invariant.kept
+          (λ x e. sym c.lit_at.ensures.lit ∙ sym (neg-neg c.lit_at.result) ∙ ap neg_ℤ (sym c.negated.ensures.number) ∙ ap neg_ℤ (sym (place_of-injective x c.negated.result (e ∙ c.place-place.ensures.number)))) m.3 c.loop-watch.invariant.heads);
     }
