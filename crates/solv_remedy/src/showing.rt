@@ -1,13 +1,21 @@
 //! Sets that may show that a rule of a conflict is needed, so that no run has to.
-ghost use Rattle.std.specs.Prelude.{◌≡◌, true, length};
-ghost use Rattle.solv_trail.specs.Asked.{is_enabled};
+ghost use Rattle.std.specs.Prelude.{◌≡◌, ◌<◌, ◌==◌, ◌&&◌, ◌||◌, ℕ, Bool, Vec, not, true, length, IfOk, OnOk};
+ghost use Rattle.std.specs.List.{list_all};
+ghost use Rattle.std.specs.declared.alloc.Global.{Global as Anywhere};
+ghost use Rattle.solv_pool.specs.Prelude.{is_among, is_fact, is_over};
+ghost use Rattle.solv_trail.specs.Asked.{is_enabled, set_of as set_of_known};
+ghost use Rattle.solv_core.specs.GoodTrails.{facts_of};
+ghost use Rattle.solv_core.specs.Inner.Cores.{LearningCore};
+ghost use Rattle.solv_core.specs.Inner.Meeting.{set_by};
 ghost use Rattle.solv_questions.specs.Questions.{Request};
 ghost use Rattle.solv_remedy.specs.Inner.Runs.{IsOf};
-ghost use Rattle.solv_remedy.specs.Inner.Trying.{IsSolvable};
+ghost use Rattle.solv_remedy.specs.Inner.Showing.{AreGoodSets, HasGoodSet};
+ghost use Rattle.solv_remedy.specs.Inner.Trying.{IsNeeded};
 
 use crate::setting::Setting;
-use solv_core::{Core, Event, Trail, is_met};
-use solv_decide::is_met_by;
+use crate::smallest::switch_on;
+use solv_core::{Core, Trail, is_met};
+use solv_decide::{is_met_by, set_of};
 use solv_pack::RuleNo;
 use solv_pool::{PackNo, Rule};
 use solv_rules::Book;
@@ -16,7 +24,7 @@ use std::alloc::{AllocError, Global};
 /// How many sets are kept: that of what is installed, and those of the last runs.
 const MOST: usize = 5;
 
-/// Sets as tables of packages, in the order in which they came. Any tables will do.
+/// Sets as tables of packages, in the order in which they came. Each of them meets the fixed rules.
 #[derive(Drop)]
 pub struct Sets {
     tables: Vec<Vec<bool>>,
@@ -48,19 +56,35 @@ fn installed(alloc: Global, rules: &[Rule], count: u32) -> Result<Vec<bool>, All
     Ok(table)
 }
 
-/// What a trail has in, as a table of so many packages.
-fn inside(alloc: Global, events: &[Event], count: u32) -> Result<Vec<bool>, AllocError> {
-    let mut table = vec![in alloc; false; count as usize + 1]?;
-    for event in events {
-        match *event {
-            Event::Known(lit) => {
-                if lit.is_in() {
-                    mark(table.as_mut_slice(), lit.package());
-                }
-            }
-            Event::Took(_, pack) => mark(table.as_mut_slice(), pack.0),
+/// Marks packages, those for which there is room.
+fn mark_each(table: &mut [bool], packs: &[PackNo])
+    ensures size { length table.new ≡ length table.old }
+    ensures on { (p : ℕ) → p < length table.old → is_enabled table.new p ≡ (is_enabled table.old p || is_among packs.now p) }
+{
+    for pack in packs {
+        let place = pack.0 as usize;
+        if place < table.len() {
+            table[place] = true;
         }
     }
+}
+
+/// These packages as a table of so many entries.
+fn table_of(alloc: Global, count: usize, packs: &[PackNo]) -> Result<Vec<bool>, AllocError>
+    ensures size { IfOk result (λ table. length table.items ≡ count) }
+    ensures on { IfOk result (λ table. (p : ℕ) → p < count → is_enabled table.items p ≡ is_among packs.now p) }
+{
+    let mut table = vec![in alloc; false; count]?;
+    mark_each(table.as_mut_slice(), packs);
+    Ok(table)
+}
+
+/// What a trail has in, as a table of so many packages.
+fn inside(alloc: Global, trail: &Trail, count: u32) -> Result<Vec<bool>, AllocError>
+    ensures { IfOk result (λ table. is_over count (facts_of trail.now.events) ≡ true → (p : ℕ) → set_by table.items p ≡ set_of_known (is_fact (facts_of trail.now.events)) p) }
+{
+    let packs = set_of(alloc, trail)?;
+    let table = table_of(alloc, count as usize + 1, &packs)?;
     Ok(table)
 }
 
@@ -89,49 +113,88 @@ fn meets_others(book: &Book, table: &[bool], rules: &[usize], off: usize) -> boo
     true
 }
 
+/// Of so many rules these are enabled, but for one.
+fn others_of(
+    alloc: Global,
+    count: usize,
+    rules: &[usize],
+    off: usize,
+) -> Result<Vec<bool>, AllocError>
+    ensures size { IfOk result (λ others. length others.items ≡ count) }
+    ensures on { IfOk result (λ others. (k : ℕ) → k < count → is_enabled others.items k ≡ (is_among rules.now k && not (k == off))) }
+{
+    let mut others = vec![in alloc; false; count]?;
+    switch_on(others.as_mut_slice(), rules);
+    if off < others.len() {
+        others[off] = false;
+    }
+    Ok(others)
+}
+
 impl Sets {
-    /// What is installed, where it meets the fixed rules.
-    pub fn installed(setting: &Setting<'_>, core: &Core<'_>) -> Result<Sets, AllocError>
-        requires { (r : Request) × IsOf r setting.now core.now.made }
+    /// Leaves an older set out, where there are many.
+    fn make_room(&mut self)
+        ensures { (test : Vec Bool Anywhere → Bool) → list_all test self.old.tables.items ≡ true → list_all test self.new.tables.items ≡ true }
     {
-        let count = setting.phases.packages();
-        let table = installed(setting.alloc, setting.book.rules().list.held(), count)?;
-        let mut tables = Vec::new(setting.alloc);
-        if is_met_by(core, setting.fixed, &table) {
-            tables.push(table)?;
+        if self.tables.len() < MOST {
+            return;
         }
-        Ok(Sets { tables })
+        let _ = self.tables.remove(1);
     }
 
-    /// Keeps the set of a run, in the place of an older one where there are many.
-    pub fn note(&mut self, setting: &Setting<'_>, trail: &Trail) -> Result<(), AllocError> {
-        let count = setting.phases.packages();
-        let table = inside(setting.alloc, trail.events.held(), count)?;
-        if self.tables.len() >= MOST {
-            let _ = self.tables.remove(1);
-        }
+    /// Keeps a set, in the place of an older one where there are many.
+    fn put(&mut self, table: Vec<bool>) -> Result<(), AllocError>
+        ensures { (test : Vec Bool Anywhere → Bool) → list_all test self.old.tables.items ≡ true → test table ≡ true → OnOk result (list_all test self.new.tables.items ≡ true) }
+    {
+        self.make_room();
         self.tables.push(table)?;
         Ok(())
     }
 
-    /// Whether one of the sets meets all that is enabled: the fixed rules and these, but for one.
+    /// What is installed, where it meets the fixed rules.
+    pub fn installed(setting: &Setting<'_>, core: &Core<'_>) -> Result<Sets, AllocError>
+        requires { (r : Request) × IsOf r setting.now core.now.made }
+        ensures { IfOk result (AreGoodSets setting.now core.now) }
+    {
+        let count = setting.phases.packages();
+        let table = installed(setting.alloc, setting.book.rules().list.held(), count)?;
+        let mut sets = Sets {
+            tables: Vec::new(setting.alloc),
+        };
+        if !is_met_by(core, setting.fixed, &table) {
+            return Ok(sets);
+        }
+        sets.put(table)?;
+        Ok(sets)
+    }
+
+    /// Keeps the set of a run.
+    pub fn note(&mut self, setting: &Setting<'_>, trail: &Trail) -> Result<(), AllocError>
+        ensures { (core : LearningCore) → HasGoodSet setting.now core trail.now → AreGoodSets setting.now core self.old → OnOk result (AreGoodSets setting.now core self.new) }
+    {
+        let count = setting.phases.packages();
+        let table = inside(setting.alloc, trail, count)?;
+        self.put(table)
+    }
+
+    /// Whether one of the sets shows that this one of some rules is needed: it meets the others, beside the fixed rules.
     pub fn show(
         &self,
         setting: &Setting<'_>,
         core: &Core<'_>,
-        enabled: &[bool],
         rules: &[usize],
         off: usize,
-    ) -> bool
+    ) -> Result<bool, AllocError>
         requires of_ { (r : Request) × IsOf r setting.now core.now.made }
-        requires size { length enabled.now ≡ length setting.now.fixed.now }
-        ensures { result ≡ true → (r : Request) → IsOf r setting.now core.now.made → IsSolvable r (is_enabled enabled.now) }
+        requires good { AreGoodSets setting.now core.now self.now }
+        ensures { IfOk result (λ shown. shown ≡ true → (r : Request) → IsOf r setting.now core.now.made → IsNeeded r rules.now off) }
     {
+        let others = others_of(setting.alloc, setting.fixed.len(), rules, off)?;
         for table in &self.tables {
-            if meets_others(setting.book, table, rules, off) && is_met_by(core, enabled, table) {
-                return true;
+            if meets_others(setting.book, table, rules, off) && is_met_by(core, &others, table) {
+                return Ok(true);
             }
         }
-        false
+        Ok(false)
     }
 }

@@ -8,6 +8,7 @@ use Rattle.solv_remedy.specs.Inner.Conflicts.{listed_of, is_spent_rest, probe_ru
 use Rattle.solv_remedy.specs.declared.collecting.Rest.{Rest}
 use Rattle.solv_remedy.proofs.Ran.{ran_then, ran_within, may_still}
 use Rattle.solv_remedy.proofs.More.{few_probes}
+use Rattle.solv_remedy.proofs.Shown.{good_still}
 use Rattle.solv_remedy.proofs.collecting.go_round.Goals as goal
 use Rattle.solv_remedy.proofs.collecting.go_round.Goals.{In-Clash}
 
@@ -109,3 +110,6 @@ returns-in_ok-rest-in-Clash-clause-rest c = λ r up.
     let d = (goal.at.returns-in_ok-rest-in-Clash-clause-rest c).In-Clash in
     let P : CoreOf → Type 0 = λ v. IsOf r c.args.setting.now v → IsLogOf r v c.in-Clash.next.rules c.in-Clash.next.log → IsRest r v (listed_of c.probe_on.new.conflicts.items) c.in_ok-rest-in-Clash.rest in
     subst P c.go_on.ensures.has_run.core (c.in_ok-rest-in-Clash.ensures.rest r) up (its_rest d r up).0
+
+pub returns-in_ok-rest-in-Clash-clause-good : goal.returns-in_ok-rest-in-Clash-clause-good
+returns-in_ok-rest-in-Clash-clause-good c = good_still c.args.setting.now c.go_on.new.core c.probe_on.new.core c.go_on.new.sets c.probe_on.ensures.has_run.core c.in_ok-trail.ensures.good
