@@ -13,6 +13,13 @@ use crate::chains::{Chains, Watches};
 use crate::walking::{Part, head_at, walk};
 use solv_pack::{RuleMem, RuleNo};
 use solv_trail::{Known, is_in_use};
+use std::marker::PhantomData;
+
+/// The rules of the book.
+struct OfBook {}
+
+/// The learnt rules.
+struct OfLearnt {}
 
 /// Walks through the rules of the book that watch the negation of the literal at a place, from its first watch on.
 fn walk_book(
@@ -39,11 +46,12 @@ fn walk_book(
     ensures guards { result ≡ None → AreGuards book.now.rules (in_use owners.now enabled.now) chains.new.watched.items Each (take (at + 1) known.new.lits) known.new.lits }
     ensures clash { IfSome result (λ rule. (all : List (List ℤ)) (used : ℕ → Bool) → IsPart all used 0 book.now.rules (in_use owners.now enabled.now) → (c : List ℤ) × IsUsed all used rule c × (is_falsified known.new.lits c ≡ true)) }
 {
-    let part = Part {
+    let part = Part::<OfBook> {
         rules: book,
         owners,
         enabled,
         base: 0,
+        of: PhantomData,
     };
     walk(
         known,
@@ -80,11 +88,12 @@ fn walk_learnt(
         return None;
     }
     let first = head_at(known, chains, at);
-    let part = Part {
+    let part = Part::<OfLearnt> {
         rules: learnt,
         owners: &[],
         enabled: &[],
         base,
+        of: PhantomData,
     };
     walk(
         known,

@@ -14,6 +14,7 @@ use crate::chains::{Chains, NOWHERE, beside, rewatch};
 use crate::spares::spare_beside;
 use solv_pack::{Lit, RuleMem, RuleNo};
 use solv_trail::{Known, is_in_use};
+use std::marker::PhantomData;
 
 /// What a visit of a rule finds, where its other watched literal is given: nothing has to change; it is falsified; it forces that literal;
 /// or another is to be watched.
@@ -25,13 +26,15 @@ pub enum Visit {
     Moves(Lit),
 }
 
-/// Rules that stand among all from a number on, and what says which of them are in use.
-#[derive(Clone, Copy)]
-pub struct Part<'a> {
+/// Rules that stand among all from a number on, and what says which of them are in use. The type names whose they are, so that each kind of
+/// rules has a walk of its own, which is compiled into the loop over literals.
+#[derive(Drop)]
+pub struct Part<'a, Of> {
     pub rules: &'a RuleMem,
     pub owners: &'a [usize],
     pub enabled: &'a [bool],
     pub base: u32,
+    pub of: PhantomData<Of>,
 }
 
 /// Visits a rule, where its other watched literal is given.
@@ -83,9 +86,9 @@ pub fn head_at(known: &Known, chains: &Chains, at: usize) -> u32
 
 /// Walks through the rules that watch a literal whose negation stands at a place of what is known, from its first watch on, and adds what they
 /// force, until one is falsified, which it names by its number among all rules. It takes no memory.
-pub fn walk(
+pub fn walk<Of>(
     known: &mut Known,
-    part: Part,
+    part: Part<'_, Of>,
     heads: &mut [u32],
     links: &mut [u32],
     watched: &mut [Lit],

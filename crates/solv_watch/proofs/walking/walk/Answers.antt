@@ -17,10 +17,11 @@ use Rattle.solv_watch.specs.declared.walking.Visit.TheVariants.{Stays, Falsified
 use Rattle.solv_watch.proofs.Pairs.{of_others}
 use Rattle.solv_watch.proofs.Walks.{IsWalk, walk_at, walk_start, walk_end, walk_past, walk_moved, walk_more, walk_beside, walk_last, visited_stays, visited_false, visited_forces, visited_moves, used_among, beside_few, beside_within, rule_within, pushed_known, still_known, heads_moved}
 use Rattle.solv_watch.proofs.walking.walk.Goals as goal
+use Rattle.solv_watch.proofs.walking.walk.Given.{Over}
 use Rattle.solv_watch.proofs.walking.walk.Goals.{After-index-watched-beside, In-loop-watch}
 
 pub loop-watch-init : goal.loop-watch-init
-loop-watch-init c =
+loop-watch-init g c =
     let placed : c.place-place.result ≡ place_of c.negated.result = c.place-place.ensures.number in
     let named : names_package c.args.known.now.count c.negated.result ≡ true = rw (c.negated.ensures.number) (names_neg c.args.known.now.count c.lit_at.result c.lit_at.ensures.over) in
     let within : c.place-place.result < length c.args.heads.now = let m : place_of c.negated.result < 2 * c.args.known.now.count + 2 = place_within c.args.known.now.count c.negated.result named in omega (arith, c.requires.chained.room, placed) in
@@ -36,50 +37,50 @@ loop-watch-init c =
       heads = λ l r away. refl;
     }
 
-bound : (c : In-loop-watch) → c.loop-watch.watch < 2 * length c.args.part.rules.now.rules
-bound c = (walk_at c.args.known.now.count c.args.part.rules.now.rules (in_use c.args.part.owners.now c.args.part.enabled.now) c.loop-watch.heads c.loop-watch.links c.loop-watch.watched c.loop-watch.known.lits c.loop-watch.known.marks c.args.at c.place-place.result c.loop-watch.last c.loop-watch.watch c.loop-watch.invariant.walk c.loop-watch-test.true).0
+bound : (g : Over) (c : In-loop-watch g) → c.loop-watch.watch < 2 * length c.args.part.rules.now.rules
+bound g c = (walk_at c.args.known.now.count c.args.part.rules.now.rules (in_use c.args.part.owners.now c.args.part.enabled.now) c.loop-watch.heads c.loop-watch.links c.loop-watch.watched c.loop-watch.known.lits c.loop-watch.known.marks c.args.at c.place-place.result c.loop-watch.last c.loop-watch.watch c.loop-watch.invariant.walk c.loop-watch-test.true).0
 
 pub bounds-links-watch : goal.bounds-links-watch
-bounds-links-watch c = let m : c.loop-watch.watch < 2 * length c.args.part.rules.now.rules = bound (goal.at.bounds-links-watch c).In-loop-watch in let e : length c.loop-watch.links ≡ 2 * length c.args.part.rules.now.rules = c.loop-watch.invariant.walk.linked in omega arith
+bounds-links-watch g c = let m : c.loop-watch.watch < 2 * length c.args.part.rules.now.rules = bound g (goal.at.bounds-links-watch g c).In-loop-watch in let e : length c.loop-watch.links ≡ 2 * length c.args.part.rules.now.rules = c.loop-watch.invariant.walk.linked in omega arith
 
 pub beside-requires : goal.beside-requires
-beside-requires c = beside_few (length c.args.part.rules.now.rules) c.loop-watch.watch (bound (goal.at.beside-requires c).In-loop-watch) c.loop-watch.invariant.walk.few
+beside-requires g c = beside_few (length c.args.part.rules.now.rules) c.loop-watch.watch (bound g (goal.at.beside-requires g c).In-loop-watch) c.loop-watch.invariant.walk.few
 
 pub bounds-watched-beside : goal.bounds-watched-beside
-bounds-watched-beside c = let m : other c.loop-watch.watch < 2 * length c.args.part.rules.now.rules = beside_within (length c.args.part.rules.now.rules) c.loop-watch.watch (bound (goal.at.bounds-watched-beside c).In-loop-watch) in let e : length c.loop-watch.watched ≡ 2 * length c.args.part.rules.now.rules = c.loop-watch.invariant.walk.two in omega (arith, c.beside.ensures)
+bounds-watched-beside g c = let m : other c.loop-watch.watch < 2 * length c.args.part.rules.now.rules = beside_within (length c.args.part.rules.now.rules) c.loop-watch.watch (bound g (goal.at.bounds-watched-beside g c).In-loop-watch) in let e : length c.loop-watch.watched ≡ 2 * length c.args.part.rules.now.rules = c.loop-watch.invariant.walk.two in omega (arith, c.beside.ensures)
 
 pub visit_rule-requires-clause-rule : goal.visit_rule-requires-clause-rule
-visit_rule-requires-clause-rule c = (rule_within (length c.args.part.rules.now.rules) c.loop-watch.watch (bound (goal.at.visit_rule-requires-clause-rule c).In-loop-watch))
+visit_rule-requires-clause-rule g c = (rule_within (length c.args.part.rules.now.rules) c.loop-watch.watch (bound g (goal.at.visit_rule-requires-clause-rule g c).In-loop-watch))
 
 -- the other watched literal
-beside_is : (c : After-index-watched-beside) → c.index-watched-beside.result ≡ literal_of c.loop-watch.watched (other c.loop-watch.watch)
-beside_is c =
+beside_is : (g : Over) (c : After-index-watched-beside g) → c.index-watched-beside.result ≡ literal_of c.loop-watch.watched (other c.loop-watch.watch)
+beside_is g c =
     let m : other c.loop-watch.watch < 2 * length c.args.part.rules.now.rules = beside_within (length c.args.part.rules.now.rules) c.loop-watch.watch (walk_at c.args.known.now.count c.args.part.rules.now.rules (in_use c.args.part.owners.now c.args.part.enabled.now) c.loop-watch.heads c.loop-watch.links c.loop-watch.watched c.loop-watch.known.lits c.loop-watch.known.marks c.args.at c.place-place.result c.loop-watch.last c.loop-watch.watch c.loop-watch.invariant.walk c.loop-watch-test.true).0 in
     let e : length c.loop-watch.watched ≡ 2 * length c.args.part.rules.now.rules = c.loop-watch.invariant.walk.two in
     let within : c.beside.result < length c.loop-watch.watched = omega (arith, c.beside.ensures) in
     get_or_read c.loop-watch.watched c.beside.result c.index-watched-beside.result within c.index-watched-beside.is (pos 0) ∙ ap (literal_of c.loop-watch.watched) c.beside.ensures
 
 pub visit_rule-requires-clause-beside : goal.visit_rule-requires-clause-beside
-visit_rule-requires-clause-beside c = λ clause found.
+visit_rule-requires-clause-beside g c = λ clause found.
     let f : slice_get c.args.part.rules.now.rules (c.loop-watch.watch / 2) ≡ Some clause = found in
-    rw (beside_is (goal.at.visit_rule-requires-clause-beside c).After-index-watched-beside) (walk_beside c.args.known.now.count c.args.part.rules.now.rules (in_use c.args.part.owners.now c.args.part.enabled.now) c.loop-watch.heads c.loop-watch.links c.loop-watch.watched c.loop-watch.known.lits c.loop-watch.known.marks c.args.at c.place-place.result c.loop-watch.last c.loop-watch.watch c.loop-watch.invariant.walk c.loop-watch-test.true clause f)
+    rw (beside_is g (goal.at.visit_rule-requires-clause-beside g c).After-index-watched-beside) (walk_beside c.args.known.now.count c.args.part.rules.now.rules (in_use c.args.part.owners.now c.args.part.enabled.now) c.loop-watch.heads c.loop-watch.links c.loop-watch.watched c.loop-watch.known.lits c.loop-watch.known.marks c.args.at c.place-place.result c.loop-watch.last c.loop-watch.watch c.loop-watch.invariant.walk c.loop-watch-test.true clause f)
 
 pub returns-clause-guards : goal.returns-clause-guards
-returns-clause-guards c = λ e.
+returns-clause-guards g c = λ e.
     let stop : c.loop-watch.watch ≡ no_link = c.loop-watch-test.false in
     let P : ℕ → Type 0 = λ v. IsWalk c.args.known.now.count c.args.part.rules.now.rules (in_use c.args.part.owners.now c.args.part.enabled.now) c.loop-watch.heads c.loop-watch.links c.loop-watch.watched c.loop-watch.known.lits c.loop-watch.known.marks c.args.at c.place-place.result c.loop-watch.last v in
     walk_end c.args.known.now.count c.args.part.rules.now.rules (in_use c.args.part.owners.now c.args.part.enabled.now) c.loop-watch.heads c.loop-watch.links c.loop-watch.watched c.loop-watch.known.lits c.loop-watch.known.marks c.args.at c.place-place.result c.loop-watch.last (subst P stop c.loop-watch.invariant.walk)
 
 pub rewatch-requires-clause-watch : goal.rewatch-requires-clause-watch
-rewatch-requires-clause-watch c = let m = bound (goal.at.rewatch-requires-clause-watch c).In-loop-watch in omega (arith, m, c.loop-watch.invariant.walk.linked)
+rewatch-requires-clause-watch g c = let m = bound g (goal.at.rewatch-requires-clause-watch g c).In-loop-watch in omega (arith, m, c.loop-watch.invariant.walk.linked)
 
 pub rewatch-requires-clause-last : goal.rewatch-requires-clause-last
-rewatch-requires-clause-last c = λ h.
+rewatch-requires-clause-last g c = λ h.
     let m : c.loop-watch.last < 2 * length c.args.part.rules.now.rules = (walk_last c.args.known.now.count c.args.part.rules.now.rules (in_use c.args.part.owners.now c.args.part.enabled.now) c.loop-watch.heads c.loop-watch.links c.loop-watch.watched c.loop-watch.known.lits c.loop-watch.known.marks c.args.at c.place-place.result c.loop-watch.last c.loop-watch.watch c.loop-watch.invariant.walk h) in
     omega (arith, m, c.loop-watch.invariant.walk.linked)
 
 pub rewatch-requires-clause-to : goal.rewatch-requires-clause-to
-rewatch-requires-clause-to c =
+rewatch-requires-clause-to g c =
     let l : Visited c.args.part.rules.now.rules (in_use c.args.part.owners.now c.args.part.enabled.now) c.loop-watch.known.lits (c.loop-watch.watch / 2) c.index-watched-beside.result (Moves c.in-Moves.to) = c.in-Moves.ensures in
     let m = visited_moves l in
     let over : is_over c.args.known.now.count m.0 ≡ true = clause_over c.args.known.now.count c.args.part.rules.now.rules (c.loop-watch.watch / 2) m.0 c.requires.over m.1.found in
@@ -88,41 +89,41 @@ rewatch-requires-clause-to c =
     omega (arith, c.loop-watch.invariant.walk.room)
 
 pub push-requires-clause-over : goal.push-requires-clause-over
-push-requires-clause-over c =
+push-requires-clause-over g c =
     let l : Visited c.args.part.rules.now.rules (in_use c.args.part.owners.now c.args.part.enabled.now) c.loop-watch.known.lits (c.loop-watch.watch / 2) c.index-watched-beside.result Forces = c.in-Forces.ensures in
     let m = visited_forces l in
     let over : is_over c.args.known.now.count m.0 ≡ true = clause_over c.args.known.now.count c.args.part.rules.now.rules (c.loop-watch.watch / 2) m.0 c.requires.over m.1.found in
     rw (c.loop-watch.invariant.count) (forced_over c.args.known.now.count (is_fact c.loop-watch.known.lits) m.0 c.index-watched-beside.result over m.2)
 
 pub push-requires-clause-unknown : goal.push-requires-clause-unknown
-push-requires-clause-unknown c =
+push-requires-clause-unknown g c =
     let l : Visited c.args.part.rules.now.rules (in_use c.args.part.owners.now c.args.part.enabled.now) c.loop-watch.known.lits (c.loop-watch.watch / 2) c.index-watched-beside.result Forces = c.in-Forces.ensures in
     let m = visited_forces l in
     (open_parts c.loop-watch.known.lits c.index-watched-beside.result (forced_member c.loop-watch.known.lits m.0 c.index-watched-beside.result (forces_from c.loop-watch.known.lits m.0 c.index-watched-beside.result m.2)).1).0
 
 pub push-requires-clause-not_false : goal.push-requires-clause-not_false
-push-requires-clause-not_false c =
+push-requires-clause-not_false g c =
     let l : Visited c.args.part.rules.now.rules (in_use c.args.part.owners.now c.args.part.enabled.now) c.loop-watch.known.lits (c.loop-watch.watch / 2) c.index-watched-beside.result Forces = c.in-Forces.ensures in
     let m = visited_forces l in
     (open_parts c.loop-watch.known.lits c.index-watched-beside.result (forced_member c.loop-watch.known.lits m.0 c.index-watched-beside.result (forces_from c.loop-watch.known.lits m.0 c.index-watched-beside.result m.2)).1).1
 
 pub returns-in-Falsified-clause-clash : goal.returns-in-Falsified-clause-clash
-returns-in-Falsified-clause-clash c = λ all used part.
+returns-in-Falsified-clause-clash g c = λ all used part.
     let l : Visited c.args.part.rules.now.rules (in_use c.args.part.owners.now c.args.part.enabled.now) c.loop-watch.known.lits (c.loop-watch.watch / 2) c.index-watched-beside.result Falsified = c.in-Falsified.ensures in
     let m = visited_false l in
     (m.0, used_among all used c.args.part.base c.args.part.rules.now.rules (in_use c.args.part.owners.now c.args.part.enabled.now) part (c.loop-watch.watch / 2) m.0 m.1, m.2)
 
 pub loop-watch-smaller-in-Stays : goal.loop-watch-smaller-in-Stays
-loop-watch-smaller-in-Stays c =
+loop-watch-smaller-in-Stays g c =
     let l : Visited c.args.part.rules.now.rules (in_use c.args.part.owners.now c.args.part.enabled.now) c.loop-watch.known.lits (c.loop-watch.watch / 2) c.index-watched-beside.result Stays = c.in-Stays.ensures in
-    let beside : c.index-watched-beside.result ≡ literal_of c.loop-watch.watched (other c.loop-watch.watch) = beside_is (goal.at.loop-watch-smaller-in-Stays c).After-index-watched-beside in
+    let beside : c.index-watched-beside.result ≡ literal_of c.loop-watch.watched (other c.loop-watch.watch) = beside_is g (goal.at.loop-watch-smaller-in-Stays g c).After-index-watched-beside in
     let w = walk_past c.args.known.now.count c.args.part.rules.now.rules (in_use c.args.part.owners.now c.args.part.enabled.now) c.loop-watch.heads c.loop-watch.links c.loop-watch.watched c.loop-watch.known.lits c.loop-watch.known.marks c.args.at c.place-place.result c.loop-watch.last c.loop-watch.watch c.loop-watch.invariant.walk c.loop-watch-test.true (λ on. ap (is_fact c.loop-watch.known.lits) (sym beside) ∙ visited_stays l on) in
     w.1
 
 pub loop-watch-preserved-in-Stays : goal.loop-watch-preserved-in-Stays
-loop-watch-preserved-in-Stays c =
+loop-watch-preserved-in-Stays g c =
     let l : Visited c.args.part.rules.now.rules (in_use c.args.part.owners.now c.args.part.enabled.now) c.loop-watch.known.lits (c.loop-watch.watch / 2) c.index-watched-beside.result Stays = c.in-Stays.ensures in
-    let beside : c.index-watched-beside.result ≡ literal_of c.loop-watch.watched (other c.loop-watch.watch) = beside_is (goal.at.loop-watch-preserved-in-Stays c).After-index-watched-beside in
+    let beside : c.index-watched-beside.result ≡ literal_of c.loop-watch.watched (other c.loop-watch.watch) = beside_is g (goal.at.loop-watch-preserved-in-Stays g c).After-index-watched-beside in
     let w = walk_past c.args.known.now.count c.args.part.rules.now.rules (in_use c.args.part.owners.now c.args.part.enabled.now) c.loop-watch.heads c.loop-watch.links c.loop-watch.watched c.loop-watch.known.lits c.loop-watch.known.marks c.args.at c.place-place.result c.loop-watch.last c.loop-watch.watch c.loop-watch.invariant.walk c.loop-watch-test.true (λ on. ap (is_fact c.loop-watch.known.lits) (sym beside) ∙ visited_stays l on) in
     record {
       walk = w.0;
@@ -134,24 +135,24 @@ loop-watch-preserved-in-Stays c =
     }
 
 pub loop-watch-smaller-in-Forces : goal.loop-watch-smaller-in-Forces
-loop-watch-smaller-in-Forces c =
+loop-watch-smaller-in-Forces g c =
     let l : Visited c.args.part.rules.now.rules (in_use c.args.part.owners.now c.args.part.enabled.now) c.loop-watch.known.lits (c.loop-watch.watch / 2) c.index-watched-beside.result Forces = c.in-Forces.ensures in
     let m = visited_forces l in
     let x : ℤ = c.index-watched-beside.result in
     let e : c.push.new.self ≡ record c.loop-watch.known { lits = c.loop-watch.known.lits ++ x ∷ []; reasons = c.loop-watch.known.reasons ++ (c.args.part.base + c.loop-watch.watch / 2) ∷ [] } = c.push.ensures.added in
-    let beside : x ≡ literal_of c.loop-watch.watched (other c.loop-watch.watch) = beside_is (goal.at.loop-watch-smaller-in-Forces c).After-index-watched-beside in
+    let beside : x ≡ literal_of c.loop-watch.watched (other c.loop-watch.watch) = beside_is g (goal.at.loop-watch-smaller-in-Forces g c).After-index-watched-beside in
     let more : IsWalk c.args.known.now.count c.args.part.rules.now.rules (in_use c.args.part.owners.now c.args.part.enabled.now) c.loop-watch.heads c.loop-watch.links c.loop-watch.watched (c.loop-watch.known.lits ++ c.index-watched-beside.result ∷ []) c.loop-watch.known.marks c.args.at c.place-place.result c.loop-watch.last c.loop-watch.watch = walk_more c.args.known.now.count c.args.part.rules.now.rules (in_use c.args.part.owners.now c.args.part.enabled.now) c.loop-watch.heads c.loop-watch.links c.loop-watch.watched c.loop-watch.known.lits c.loop-watch.known.marks c.args.at c.place-place.result c.loop-watch.last c.loop-watch.watch x c.loop-watch.invariant.walk c.loop-watch.invariant.within in
     let there : is_fact (c.loop-watch.known.lits ++ x ∷ []) x ≡ true = pushed_known c.loop-watch.known.lits x in
     let w = walk_past c.args.known.now.count c.args.part.rules.now.rules (in_use c.args.part.owners.now c.args.part.enabled.now) c.loop-watch.heads c.loop-watch.links c.loop-watch.watched (c.loop-watch.known.lits ++ c.index-watched-beside.result ∷ []) c.loop-watch.known.marks c.args.at c.place-place.result c.loop-watch.last c.loop-watch.watch more c.loop-watch-test.true (λ on. ap (is_fact (c.loop-watch.known.lits ++ x ∷ [])) (sym beside) ∙ there) in
     w.1
 
 pub loop-watch-preserved-in-Forces : goal.loop-watch-preserved-in-Forces
-loop-watch-preserved-in-Forces c =
+loop-watch-preserved-in-Forces g c =
     let l : Visited c.args.part.rules.now.rules (in_use c.args.part.owners.now c.args.part.enabled.now) c.loop-watch.known.lits (c.loop-watch.watch / 2) c.index-watched-beside.result Forces = c.in-Forces.ensures in
     let m = visited_forces l in
     let x : ℤ = c.index-watched-beside.result in
     let e : c.push.new.self ≡ record c.loop-watch.known { lits = c.loop-watch.known.lits ++ x ∷ []; reasons = c.loop-watch.known.reasons ++ (c.args.part.base + c.loop-watch.watch / 2) ∷ [] } = c.push.ensures.added in
-    let beside : x ≡ literal_of c.loop-watch.watched (other c.loop-watch.watch) = beside_is (goal.at.loop-watch-preserved-in-Forces c).After-index-watched-beside in
+    let beside : x ≡ literal_of c.loop-watch.watched (other c.loop-watch.watch) = beside_is g (goal.at.loop-watch-preserved-in-Forces g c).After-index-watched-beside in
     let more : IsWalk c.args.known.now.count c.args.part.rules.now.rules (in_use c.args.part.owners.now c.args.part.enabled.now) c.loop-watch.heads c.loop-watch.links c.loop-watch.watched (c.loop-watch.known.lits ++ c.index-watched-beside.result ∷ []) c.loop-watch.known.marks c.args.at c.place-place.result c.loop-watch.last c.loop-watch.watch = walk_more c.args.known.now.count c.args.part.rules.now.rules (in_use c.args.part.owners.now c.args.part.enabled.now) c.loop-watch.heads c.loop-watch.links c.loop-watch.watched c.loop-watch.known.lits c.loop-watch.known.marks c.args.at c.place-place.result c.loop-watch.last c.loop-watch.watch x c.loop-watch.invariant.walk c.loop-watch.invariant.within in
     let there : is_fact (c.loop-watch.known.lits ++ x ∷ []) x ≡ true = pushed_known c.loop-watch.known.lits x in
     let w = walk_past c.args.known.now.count c.args.part.rules.now.rules (in_use c.args.part.owners.now c.args.part.enabled.now) c.loop-watch.heads c.loop-watch.links c.loop-watch.watched (c.loop-watch.known.lits ++ c.index-watched-beside.result ∷ []) c.loop-watch.known.marks c.args.at c.place-place.result c.loop-watch.last c.loop-watch.watch more c.loop-watch-test.true (λ on. ap (is_fact (c.loop-watch.known.lits ++ x ∷ [])) (sym beside) ∙ there) in
@@ -176,10 +177,10 @@ loop-watch-preserved-in-Forces c =
     })
 
 pub loop-watch-smaller : goal.loop-watch-smaller
-loop-watch-smaller c =
+loop-watch-smaller g c =
     let l : Visited c.args.part.rules.now.rules (in_use c.args.part.owners.now c.args.part.enabled.now) c.loop-watch.known.lits (c.loop-watch.watch / 2) c.index-watched-beside.result (Moves c.in-Moves.to) = c.in-Moves.ensures in
     let m = visited_moves l in
-    let beside : c.index-watched-beside.result ≡ literal_of c.loop-watch.watched (other c.loop-watch.watch) = beside_is (goal.at.loop-watch-smaller c).After-index-watched-beside in
+    let beside : c.index-watched-beside.result ≡ literal_of c.loop-watch.watched (other c.loop-watch.watch) = beside_is g (goal.at.loop-watch-smaller g c).After-index-watched-beside in
     let Q : ℤ → Type 0 = λ b. AreTwoOf c.in-Moves.to b m.0 in
     let over : is_over c.args.known.now.count m.0 ≡ true = clause_over c.args.known.now.count c.args.part.rules.now.rules (c.loop-watch.watch / 2) m.0 c.requires.over m.1.found in
     let named : names_package c.args.known.now.count c.in-Moves.to ≡ true = all_member (names_package c.args.known.now.count) m.0 over c.in-Moves.to (of_others c.index-watched-beside.result c.in-Moves.to m.0 m.2.first) in
@@ -189,10 +190,10 @@ loop-watch-smaller c =
     rw (links) (w.1)
 
 pub loop-watch-preserved : goal.loop-watch-preserved
-loop-watch-preserved c =
+loop-watch-preserved g c =
     let l : Visited c.args.part.rules.now.rules (in_use c.args.part.owners.now c.args.part.enabled.now) c.loop-watch.known.lits (c.loop-watch.watch / 2) c.index-watched-beside.result (Moves c.in-Moves.to) = c.in-Moves.ensures in
     let m = visited_moves l in
-    let beside : c.index-watched-beside.result ≡ literal_of c.loop-watch.watched (other c.loop-watch.watch) = beside_is (goal.at.loop-watch-preserved c).After-index-watched-beside in
+    let beside : c.index-watched-beside.result ≡ literal_of c.loop-watch.watched (other c.loop-watch.watch) = beside_is g (goal.at.loop-watch-preserved g c).After-index-watched-beside in
     let Q : ℤ → Type 0 = λ b. AreTwoOf c.in-Moves.to b m.0 in
     let over : is_over c.args.known.now.count m.0 ≡ true = clause_over c.args.known.now.count c.args.part.rules.now.rules (c.loop-watch.watch / 2) m.0 c.requires.over m.1.found in
     let named : names_package c.args.known.now.count c.in-Moves.to ≡ true = all_member (names_package c.args.known.now.count) m.0 over c.in-Moves.to (of_others c.index-watched-beside.result c.in-Moves.to m.0 m.2.first) in
