@@ -63,7 +63,7 @@ impl<'a, K: Planned> Guide for RememberingPhases<'a, K> {
 impl<'a, K: Planned> Remembering for RememberingPhases<'a, K> {
     type Memory = Option<Remembered<K>>;
 
-    ghost serves = { λ guide lent lits. IfSome lent (λ remembered. AreFit K.plan (is_fact lits) remembered.memory) };
+    ghost serves = { λ guide lent lits. IfSome lent (λ remembered. AreFit K.plan lits remembered.memory) };
 
     fn begin(&self, known: &Known) -> Option<Remembered<K>> {
         let Some(remembered) = self.remembered.take() else {

@@ -1,10 +1,9 @@
 -- Which rows are read.
-use Rattle.std.proofs.Common.{◌≡◌, ℕ, Bool, true, false, not, ◌||◌, List, ◌++◌, map, Some, refl, sym, ap, ◌∙◌, eq-eqb}
+use Rattle.std.proofs.Common.{◌≡◌, ℕ, Bool, true, false, not, ◌||◌, List, ◌++◌, map, Some, refl, ap, ◌∙◌, eq-eqb}
 use Rattle.std.specs.Prelude.{filter, flat_map, ◌==◌}
-use Rattle.std.specs.List.{list_any}
 use Rattle.std.specs.Option.{option_map_or}
 use Rattle.std.proofs.lemmas.Bool.{or_left, or_right}
-use Rattle.solv_pool.specs.Prelude.{when, is_among, packages, package_at, is_installed, counted_requirements, counted_rich_conflicts}
+use Rattle.solv_pool.specs.Prelude.{is_among, packages, package_at, is_installed, counted_requirements, counted_rich_conflicts}
 use Rattle.solv_pool.specs.declared.packages.Package.{Package}
 use Rattle.solv_pool.specs.declared.packages.Need.{Need}
 use Rattle.solv_questions.specs.Questions.{Request}

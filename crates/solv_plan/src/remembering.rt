@@ -7,13 +7,14 @@ ghost use Rattle.solv_trail.specs.declared.questions.Question.TheVariants.{Requi
 ghost use Rattle.solv_plan.specs.Inner.Entries.{is_rested, are_right};
 ghost use Rattle.solv_plan.specs.Inner.Plans.{demand_queries, keep_queries, want_queries, question_of, named_query, plan_asks};
 ghost use Rattle.solv_trail.specs.Inner.Numbers.{has};
-ghost use Rattle.solv_plan.specs.Inner.Settling.{Fits, AreFit, AreQuiet, demand_quiet, demands_quiet, keep_quiet, keeps_quiet, demands_settled, keep_settled, keeps_settled, want_settled, wanted_settled, wants_settled, names_settled, is_right_for};
+ghost use Rattle.solv_plan.specs.Inner.Settling.{Fits, AreFit, AreMetBelow, IsFloor, known_in, AreQuiet, demand_quiet, demands_quiet, keep_quiet, keeps_quiet, demands_settled, keep_settled, keeps_settled, want_settled, wanted_settled, wants_settled, names_settled, is_right_for};
 ghost use Rattle.solv_plan.specs.declared.plans.Demand.{Demand};
 ghost use Rattle.solv_plan.specs.declared.plans.Keep.{Keep};
 ghost use Rattle.solv_plan.specs.declared.plans.Named.{Named};
 ghost use Rattle.solv_plan.specs.declared.plans.Want.{Want};
 
 use crate::asking::{Asking, ask_demand, ask_each, ask_installed, ask_named, is_on};
+use crate::floors::Floor;
 use crate::holding::rest_on_tree;
 use crate::memory::Memory;
 use crate::plans::{Demand, Keep, Named, Plan, Relations, Want, Wanted};
@@ -104,6 +105,7 @@ fn rest_on_keep(known: &Known, keep: &Keep, settled: &mut Settled) -> bool
 {
     for demand in keep.best.held() {
         if !settled.rest_on_one(known, demand.candidates.held()) {
+            settled.give_up();
             return false;
         }
     }
@@ -221,9 +223,30 @@ fn rest_on_wants(
 {
     for want in wants {
         if !rest_on_want(known, relations, want, settled) {
+            settled.give_up();
             return false;
         }
     }
+    true
+}
+
+/// Records that all is met that a package asks for by these dependencies of it, if it is and there is room; returns whether it did.
+fn settle_package(
+    known: &Known,
+    relations: &Relations,
+    wants: &[Want],
+    pack: PackNo,
+    settled: &mut Settled,
+) -> bool
+    requires { Fits (is_fact known.now.lits) settled.old }
+    ensures met { result ≡ true → list_all (want_settled relations.now (known_in known.now.lits)) wants.now ≡ true }
+    ensures fits { Fits (is_fact known.now.lits) settled.new }
+    ensures right { (all : List Want) → wants.now ≡ filter (λ w. w.pack == pack) all → are_right (wants_settled relations.now all) settled.old ≡ true → are_right (wants_settled relations.now all) settled.new ≡ true }
+{
+    if !rest_on_wants(known, relations, wants, settled) {
+        return false;
+    }
+    settled.settle(pack.0 as usize);
     true
 }
 
@@ -241,32 +264,82 @@ fn recall_package(
     ensures fits { Fits (is_fact known.now.lits) settled.new }
     ensures right { (all : List Want) → wants.now ≡ filter (λ w. w.pack == pack) all → are_right (wants_settled relations.now all) settled.old ≡ true → are_right (wants_settled relations.now all) settled.new ≡ true }
 {
-    if rest_on_wants(known, relations, wants, settled) {
-        settled.settle(pack.0 as usize);
+    if settle_package(known, relations, wants, pack, settled) {
         return None;
     }
     ask_each(known, relations, wants, asking)
 }
 
-/// What the packages that are in ask for, from a number on.
-fn recall_wants_from(
+/// The first number from one on of a package that is in of which not all is met, as far as that was found, or a number above all.
+fn first_unmet(
+    known: &Known,
+    relations: &Relations,
+    wants: &Wants,
+    settled: &mut Settled,
+    from: u32,
+) -> u32
+    requires fits { Fits (is_fact known.now.lits) settled.old }
+    requires right { are_right (wants_settled relations.now wants.now) settled.old ≡ true }
+    requires some { 1 ≤ from }
+    requires below { AreMetBelow relations.now wants.now known.now.lits from }
+    ensures some { 1 ≤ result }
+    ensures below { AreMetBelow relations.now wants.now known.now.lits result }
+    ensures fits { Fits (is_fact known.now.lits) settled.new }
+    ensures right { are_right (wants_settled relations.now wants.now) settled.new ≡ true }
+{
+    let mut from = from;
+    while let Some(number) = settled.next_open(known.packs_in(), from) {
+        let pack = PackNo(number);
+        if !settle_package(known, relations, wants.of(pack), pack, settled) {
+            return number;
+        }
+        from = number + 1;
+    }
+    u32::MAX
+}
+
+/// Raises the floor to the first number of a package that is in of which not all is met, and returns that number.
+fn raise(
+    known: &Known,
+    relations: &Relations,
+    wants: &Wants,
+    settled: &mut Settled,
+    floor: &mut Floor,
+) -> u32
+    requires fits { Fits (is_fact known.now.lits) settled.old }
+    requires right { are_right (wants_settled relations.now wants.now) settled.old ≡ true }
+    requires floor { IsFloor relations.now wants.now known.now.lits floor.old }
+    ensures some { 1 ≤ result }
+    ensures below { AreMetBelow relations.now wants.now known.now.lits result }
+    ensures fits { Fits (is_fact known.now.lits) settled.new }
+    ensures right { are_right (wants_settled relations.now wants.now) settled.new ≡ true }
+    ensures floor { IsFloor relations.now wants.now known.now.lits floor.new }
+{
+    let from = floor.lowered(known).max(1);
+    let low = first_unmet(known, relations, wants, settled, from);
+    *floor = Floor::at(known, low);
+    low
+}
+
+/// What the packages that are in ask for, from a number on below which all is met.
+fn recall_wants_above(
     known: &Known,
     relations: &Relations,
     wants: &Wants,
     asking: Asking,
     settled: &mut Settled,
+    low: u32,
 ) -> Option<Ask>
     requires fits { Fits (is_fact known.now.lits) settled.old }
     requires right { are_right (wants_settled relations.now wants.now) settled.old ≡ true }
+    requires some { 1 ≤ low }
+    requires below { AreMetBelow relations.now wants.now known.now.lits low }
     ensures asked { result ≡ first_ask (is_fact known.now.lits) (flat_map (want_queries (is_fact known.now.lits) relations.now (question_of asking)) (filter (λ w. nat_le 1 w.pack) wants.now)) }
     ensures fits { Fits (is_fact known.now.lits) settled.new }
     ensures right { are_right (wants_settled relations.now wants.now) settled.new ≡ true }
 {
     wants.rise();
-    if wants.held().is_empty() {
-        return None;
-    }
-    let mut from = 1;
+    let mut from = low;
     while let Some(number) = settled.next_open(known.packs_in(), from) {
         let pack = PackNo(number);
         let ask = recall_package(known, relations, wants.of(pack), asking, pack, settled);
@@ -278,6 +351,30 @@ fn recall_wants_from(
     None
 }
 
+/// What the packages that are in ask for, without the system.
+fn recall_wants_from(
+    known: &Known,
+    relations: &Relations,
+    wants: &Wants,
+    asking: Asking,
+    settled: &mut Settled,
+    floor: &mut Floor,
+) -> Option<Ask>
+    requires fits { Fits (is_fact known.now.lits) settled.old }
+    requires right { are_right (wants_settled relations.now wants.now) settled.old ≡ true }
+    requires floor { IsFloor relations.now wants.now known.now.lits floor.old }
+    ensures asked { result ≡ first_ask (is_fact known.now.lits) (flat_map (want_queries (is_fact known.now.lits) relations.now (question_of asking)) (filter (λ w. nat_le 1 w.pack) wants.now)) }
+    ensures fits { Fits (is_fact known.now.lits) settled.new }
+    ensures right { are_right (wants_settled relations.now wants.now) settled.new ≡ true }
+    ensures floor { IsFloor relations.now wants.now known.now.lits floor.new }
+{
+    if wants.held().is_empty() {
+        return None;
+    }
+    let low = raise(known, relations, wants, settled, floor);
+    recall_wants_above(known, relations, wants, asking, settled, low)
+}
+
 /// What the system asks for, and the packages that are in.
 fn recall_wants(
     known: &Known,
@@ -285,19 +382,22 @@ fn recall_wants(
     wants: &Wants,
     asking: Asking,
     settled: &mut Settled,
+    floor: &mut Floor,
 ) -> Option<Ask>
     requires fits { Fits (is_fact known.now.lits) settled.old }
     requires right { are_right (wants_settled relations.now wants.now) settled.old ≡ true }
+    requires floor { IsFloor relations.now wants.now known.now.lits floor.old }
     ensures asked { result ≡ first_ask (is_fact known.now.lits) (flat_map (want_queries (is_fact known.now.lits) relations.now (question_of asking)) wants.now) }
     ensures fits { Fits (is_fact known.now.lits) settled.new }
     ensures right { are_right (wants_settled relations.now wants.now) settled.new ≡ true }
+    ensures floor { IsFloor relations.now wants.now known.now.lits floor.new }
 {
     wants.rise();
     let ask = ask_each(known, relations, wants.of(PackNo(0)), asking);
     if ask.is_some() {
         return ask;
     }
-    recall_wants_from(known, relations, wants, asking, settled)
+    recall_wants_from(known, relations, wants, asking, settled, floor)
 }
 
 /// What a name asks for. Where a package that has it is in, it is settled.
@@ -346,15 +446,23 @@ fn recall_names(
 
 /// What the dependencies of packages that are in ask for, and then names with supplements.
 fn recall_dependencies(known: &Known, plan: &Plan, memory: &mut Memory) -> Option<Ask>
-    requires fits { AreFit plan.now (is_fact known.now.lits) memory.old }
+    requires fits { AreFit plan.now known.now.lits memory.old }
     requires right { is_right_for plan.now memory.old ≡ true }
     ensures asked { result ≡ first_ask (is_fact known.now.lits) (flat_map (want_queries (is_fact known.now.lits) plan.now.relations Requires) plan.now.required ++ (flat_map (want_queries (is_fact known.now.lits) plan.now.relations Recommends) plan.now.recommended ++ map (named_query (is_fact known.now.lits) plan.now.relations) plan.now.supplements)) }
-    ensures fits { AreFit plan.now (is_fact known.now.lits) memory.new }
+    ensures fits { AreFit plan.now known.now.lits memory.new }
     ensures right { is_right_for plan.now memory.new ≡ true }
 {
     let relations = &plan.relations;
     let settled = &mut memory.required;
-    let required = recall_wants(known, relations, &plan.required, Asking::Requires, settled);
+    let floor = &mut memory.required_floor;
+    let required = recall_wants(
+        known,
+        relations,
+        &plan.required,
+        Asking::Requires,
+        settled,
+        floor,
+    );
     if required.is_some() {
         return required;
     }
@@ -365,6 +473,7 @@ fn recall_dependencies(known: &Known, plan: &Plan, memory: &mut Memory) -> Optio
         &plan.recommended,
         Asking::Recommends,
         settled,
+        &mut memory.recommended_floor,
     );
     if recommended.is_some() {
         return recommended;
@@ -382,10 +491,10 @@ pub fn next_remembering(
     enabled: &[bool],
 ) -> Option<Ask>
     requires right { is_right_for plan.now memory.old ≡ true }
-    requires fits { AreFit plan.now (is_fact known.now.lits) memory.old }
+    requires fits { AreFit plan.now known.now.lits memory.old }
     ensures asked { result ≡ plan_asks plan.now (is_fact known.now.lits) enabled.now }
     ensures right { is_right_for plan.now memory.new ≡ true }
-    ensures fits { AreFit plan.now (is_fact known.now.lits) memory.new }
+    ensures fits { AreFit plan.now known.now.lits memory.new }
 {
     let settled = &mut memory.demands;
     let quiet = &mut memory.quiet_demands;

@@ -19,3 +19,6 @@ loop-demand-preserved c =
           (met_more (is_rested c.rest_on_one.new.self) rested more c.demand-item.result.candidates (ap (met_by (is_rested c.rest_on_one.new.self)) (sym c.held.ensures) ∙ c.rest_on_one.ensures.met c.if-not-rest_on_one.false))
           (ap (λ l. list_all (λ d. met_by rested d.candidates) (drop (at + 1) l)) c.held-demand-items.ensures ∙ rest));
     }
+
+pub returns-then-not-rest_on_one-clause-fits : goal.returns-then-not-rest_on_one-clause-fits
+returns-then-not-rest_on_one-clause-fits c = λ p h. c.rest_on_one.ensures.fits p (c.give_up.ensures.named p h)

@@ -11,3 +11,6 @@ loop-want-preserved c = record {
       (all_from (want_settled c.args.relations.now rested) c.args.wants.now c.loop-want.want-index c.want-item.result c.loop-want-test.true c.want-item.is
       (want_more c.args.relations.now (is_rested c.rest_on_want.new.settled) rested more c.want-item.result (c.rest_on_want.ensures.settled c.if-not-rest_on_want.false)) rest);
 }
+
+pub returns-then-not-rest_on_want-clause-fits : goal.returns-then-not-rest_on_want-clause-fits
+returns-then-not-rest_on_want-clause-fits c = λ p h. c.rest_on_want.ensures.fits p (c.give_up.ensures.named p h)

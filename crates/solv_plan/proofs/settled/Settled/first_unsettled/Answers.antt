@@ -6,7 +6,6 @@ use Rattle.solv_plan.proofs.settled.Settled.first_unsettled.Goals as goal
 pub invariant_of-self : goal.invariant_of-self
 invariant_of-self c = record {
   rests = c.self.invariant.rests;
-  new = c.self.invariant.new;
   done = c.self.invariant.done;
   every = c.self.invariant.every;
   floor = λ k h. elim (cases_lt k c.self.inside.floor) [

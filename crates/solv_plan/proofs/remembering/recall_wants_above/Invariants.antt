@@ -6,7 +6,7 @@ use Rattle.solv_plan.specs.Inner.Plans.{question_of, want_queries}
 use Rattle.solv_plan.specs.Inner.Entries.{are_right}
 use Rattle.solv_plan.specs.Inner.Settling.{wants_settled, Fits}
 use Rattle.solv_plan.proofs.Recalled.{from_pack}
-use Rattle.solv_plan.proofs.remembering.recall_wants_from.Given as goal
+use Rattle.solv_plan.proofs.remembering.recall_wants_above.Given as goal
 
 abbrev pub invariant-loop-number : goal.invariant-loop-number
 invariant-loop-number l = record {

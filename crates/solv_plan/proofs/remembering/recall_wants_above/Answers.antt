@@ -9,8 +9,8 @@ use Rattle.std.specs.Option.{option_or}
 use Rattle.solv_trail.specs.declared.questions.Ask.{Ask}
 use Rattle.solv_trail.specs.declared.questions.Question.{Question}
 use Rattle.solv_plan.proofs.Joining.{found_first, none_is}
-use Rattle.solv_plan.proofs.Recalled.{from_pack, one_package, quiet_package, to_next, to_end}
-use Rattle.solv_plan.proofs.remembering.recall_wants_from.Goals as goal
+use Rattle.solv_plan.proofs.Recalled.{from_pack, one_package, quiet_package, to_next, to_end, from_low}
+use Rattle.solv_plan.proofs.remembering.recall_wants_above.Goals as goal
 
 pub returns-then-is_some-clause-asked : goal.returns-then-is_some-clause-asked
 returns-then-is_some-clause-asked c =
@@ -48,3 +48,11 @@ pub returns-clause-asked : goal.returns-clause-asked
 returns-clause-asked c =
     sym (to_end (is_fact c.args.known.now.lits) c.args.relations.now (question_of c.args.asking) c.args.wants.now c.rise.ensures c.packs_in.result.now c.packs_in.ensures c.loop-number.settled c.loop-number.invariant.right c.loop-number.invariant.fits c.loop-number.from c.loop-number.invariant.some c.in_default.ensures.next)
     ∙ c.loop-number.invariant.left
+
+pub loop-number-init : goal.loop-number-init
+loop-number-init c = record {
+  right = c.requires.right;
+  fits = c.requires.fits;
+  some = c.requires.some;
+  left = from_low (is_fact c.args.known.now.lits) c.args.relations.now (question_of c.args.asking) c.args.wants.now c.rise.ensures c.args.low c.requires.some c.requires.below;
+}
