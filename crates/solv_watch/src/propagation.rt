@@ -171,6 +171,7 @@ fn follow(
 
 /// Visits a rule with fewer than two literals, and adds what it forces, where the rules begin at base among all. Returns whether it is not
 /// falsified.
+#[inline(always)]
 fn visit_narrow(
     known: &mut Known,
     rules: &RuleMem,
