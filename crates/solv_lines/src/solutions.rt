@@ -7,7 +7,7 @@ ghost use Rattle.solv_lines.specs.SolutionTexts.{job_text, going_text, element, 
 ghost use Rattle.solv_lines.specs.Inner.LineNames.{update_text, dup_text, staying_text};
 
 use crate::features::{packs_of, replacement, sets_of};
-use crate::writing::{write_package, write_pair};
+use crate::writing::{begun_text, write_package, write_pair};
 use solv_list::Bytes;
 use solv_pool::{JobNo, PackNo, Rule, Rules, SetNo, Task};
 use std::alloc::{AllocError, Global};
@@ -25,7 +25,7 @@ fn package_text(alloc: Global, task: &Task, words: &[u8], pack: PackNo) -> Resul
     requires { IsOver task.now.pool task.now.universe }
     ensures { IfOk result (λ text. text ≡ words.now ++ named (catalog_of task.now) pack) }
 {
-    let mut text = Vec::new(alloc);
+    let mut text = begun_text(alloc)?;
     write_package(task, words, pack, &mut text)?;
     Ok(Bytes::wrap(text))
 }
@@ -44,7 +44,7 @@ fn write_job(task: &Task, job: JobNo, into: &mut Vec<u8>) -> Result<(), AllocErr
 fn job_text(alloc: Global, task: &Task, words: &[u8], job: JobNo) -> Result<Bytes, AllocError>
     ensures { IfOk result (λ text. text ≡ words.now ++ job_text task.now job) }
 {
-    let mut text = Vec::new(alloc);
+    let mut text = begun_text(alloc)?;
     text.extend_from_slice(words)?;
     write_job(task, job, &mut text)?;
     Ok(Bytes::wrap(text))
@@ -65,7 +65,7 @@ fn going_text(
 {
     match replacement(rules, features, pack, set) {
         Some(other) => {
-            let mut text = Vec::new(alloc);
+            let mut text = begun_text(alloc)?;
             write_pair(task, b"replace", pack, other, &mut text)?;
             Ok(Bytes::wrap(text))
         }

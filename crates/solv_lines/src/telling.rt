@@ -7,7 +7,7 @@ ghost use Rattle.solv_lines.specs.RuleTexts.{named, asked, has_provider, require
 ghost use Rattle.solv_lines.specs.Inner.LineNames.{dependency_of_job};
 ghost use Rattle.solv_lines.specs.Inner.RuleTexts.{rule_text_at};
 
-use crate::writing::{append_package, write_package, write_relation};
+use crate::writing::{append_package, begun_text, write_package, write_relation};
 use solv_list::{Bytes, Items};
 use solv_pool::{Choice, DepId, JobNo, PackNo, Rule, Rules, SetNo, Task};
 use solv_prov::{Parts, Providers, parts_of};
@@ -244,7 +244,7 @@ pub fn rule_text(
     requires index { IsIndexOf prov.now (catalog_of task.now) }
     ensures { IfOk result (λ text. text ≡ rule_text_at task.now rules.now rule) }
 {
-    let mut text = Vec::new(alloc);
+    let mut text = begun_text(alloc)?;
     write_rule_at(task, prov, rules, rule, &mut text)?;
     Ok(Bytes::wrap(text))
 }

@@ -15,4 +15,4 @@ returns c =
     let needs : List (List ℕ) = need_lines catalog c.args.asked.now.task.now.jobs kinds c.args.set.now in
     c.in_ok-put_needs.ensures
     ∙ ap (λ s. with_lines s needs) (c.in_ok-put_asked_reasons.ensures ∙ ap (λ s. with_lines s reasons) (c.in_ok-put_asked_order.ensures ∙ ap (λ s. with_lines s ordered) c.in_ok-put_asked_changes.ensures))
-    ∙ four_in_turn c.args.lines.now.keys changed ordered reasons needs
+    ∙ four_in_turn c.args.lines.now changed ordered reasons needs
