@@ -29,6 +29,18 @@ pub(crate) struct Wanted {
     pub every_change: bool,
 }
 
+/// The packages of a package's name, itself among them, ascending.
+pub fn namesakes<'a>(task: &Task, prov: &'a Providers, pack: PackNo) -> &'a [PackNo]
+    requires index { IsIndexOf prov.now (catalog_of task.now) }
+    requires over { IsOver task.now.pool task.now.universe }
+    requires pack { IsPlace task.now pack }
+    ensures exact { result.now ≡ filter (same_name (catalog_of task.now) pack) (packages (catalog_of task.now)) }
+    ensures within { list_all (is_pack (length task.now.universe.packages)) result.now ≡ true }
+    ensures itself { same_name (catalog_of task.now) pack pack ≡ true }
+{
+    prov.of_name(package(task, pack).name())
+}
+
 /// The packages of a package's name, itself among them, and those that obsolete it, ascending.
 fn near(alloc: Global, ready: &Ready<'_>, pack: PackNo) -> Result<Vec<PackNo>, AllocError>
     requires pack { IsPlace ready.now.task.now pack }
@@ -87,7 +99,8 @@ fn wanted_of(
     Ok(made)
 }
 
-/// The packages that are asked for, ascending.
+/// The packages that are asked for, ascending. Nearly no package is obsoleted by another one, and then those of its name are all
+/// that are near by, which the index has in their order.
 pub(crate) fn candidates(
     alloc: Global,
     ready: &Ready<'_>,
@@ -97,6 +110,10 @@ pub(crate) fn candidates(
     requires pack { IsPlace ready.now.task.now pack }
     ensures { IfOk result (λ made. made.items ≡ filter (is_candidate (catalog_of ready.now.task.now) ready.now.task.now.flags ready.now.marks.now wanted.now pack) (packages (catalog_of ready.now.task.now))) }
 {
+    if ready.prov.obsoleted_by(pack).is_empty() {
+        let named = namesakes(ready.task, ready.prov, pack);
+        return wanted_of(alloc, ready, wanted, pack, named);
+    }
     let packs = near(alloc, ready, pack)?;
     let made = wanted_of(alloc, ready, wanted, pack, &packs)?;
     Ok(made)
