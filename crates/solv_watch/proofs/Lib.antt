@@ -8,4 +8,3 @@ pub mod Learning
 pub mod Chained
 pub mod Forgetting
 pub mod Entered
-pub mod Examples

@@ -30,6 +30,3 @@ mod walking;
 pub use chains::{Chains, Watches};
 pub use descending::descend;
 pub use propagation::propagate;
-
-#[cfg(test)]
-mod tests;

@@ -2,7 +2,7 @@
 use Rattle.std.proofs.Common.{◌≡◌, ℕ, zero, suc, ◌+◌, ◌<◌, ◌==◌, true, not, ◌&&◌, List, [], ◌∷◌, drop, Some, refl, ap, add-one}
 use Rattle.std.specs.Prelude.{ℤ, pos, negsuc, nat_abs, int_lt, slice_get}
 use Rattle.std.proofs.lemmas.Bool.{lt-ltb}
-use Rattle.solv_core.specs.Examples.OnePackage.{says_other_in, says_one_in, say_one_in}
+use Rattle.solv_core_tests.specs.OnePackage.{says_other_in, says_one_in, say_one_in}
 
 pub says_other_is : (p : ℕ) (l : ℤ) → 0 < nat_abs l → (int_lt (pos 0) l && not (nat_abs l == p)) ≡ says_other_in p l
 says_other_is p (pos n) h = let e : int_lt (pos 0) (pos n) ≡ true = lt-ltb 0 n h in rw e refl

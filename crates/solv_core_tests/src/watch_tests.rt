@@ -1,10 +1,10 @@
 ghost use Rattle.std.specs.Prelude.{◌≡◌, ⊤, length, IfOk};
-ghost use Rattle.solv_watch.specs.Examples.{chain, four, asks_for_one, IsNone};
+ghost use Rattle.solv_core_tests.specs.FollowedByHand.{chain, four, asks_for_one, IsNone};
 
-use crate::*;
 use solv_pack::{Lit, PackFault, RuleMem};
 use solv_pool::PackNo;
 use solv_trail::{Ask, Guide, Known, Question, Remembering};
+use solv_watch::*;
 use std::alloc::Global;
 use std::test::Fail;
 

@@ -1,7 +1,7 @@
 use Rattle.std.proofs.Common.{◌+◌, ◌∙◌, sym, ap, ◌&&◌, drop}
-use Rattle.solv_core.specs.Examples.OnePackage.{say_one_in}
-use Rattle.solv_core.proofs.Others.{say_next}
-use Rattle.solv_core.proofs.tests.say_one_in.Goals as goal
+use Rattle.solv_core_tests.specs.OnePackage.{say_one_in}
+use Rattle.solv_core_tests.proofs.Others.{say_next}
+use Rattle.solv_core_tests.proofs.core_tests.say_one_in.Goals as goal
 
 pub loop-rule-preserved : goal.loop-rule-preserved
 loop-rule-preserved c =

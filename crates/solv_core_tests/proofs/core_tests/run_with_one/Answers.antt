@@ -1,6 +1,6 @@
 use Rattle.std.proofs.Common.{nat_lt, ap, ◌∙◌}
 use Rattle.std.specs.List.{list_all}
-use Rattle.solv_core.proofs.tests.run_with_one.Goals as goal
+use Rattle.solv_core_tests.proofs.core_tests.run_with_one.Goals as goal
 
 pub run-requires-clause-enabled : goal.run-requires-clause-enabled
 run-requires-clause-enabled g c =

@@ -1,6 +1,6 @@
 use Rattle.std.proofs.Common.{◌≡◌, nat_lt, ap, sym, ◌∙◌, arith, length}
 use Rattle.std.specs.List.{list_all}
-use Rattle.solv_core.proofs.tests.run_alone.Goals as goal
+use Rattle.solv_core_tests.proofs.core_tests.run_alone.Goals as goal
 
 pub run-requires-clause-owners : goal.run-requires-clause-owners
 run-requires-clause-owners g c =

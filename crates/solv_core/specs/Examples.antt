@@ -1,2 +1,0 @@
--- Examples that are computed.
-pub mod OnePackage

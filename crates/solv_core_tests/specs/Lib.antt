@@ -1,0 +1,2 @@
+pub mod OnePackage
+pub mod FollowedByHand
