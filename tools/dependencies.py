@@ -6,6 +6,7 @@ import functools
 import re
 
 SIGNS = {"&": "and", "|": "or", "+": "with", "-": "without", "<IF>": "if", "<UNLESS>": "unless", "<ELSE>": "else"}
+BY_WORD = {word: sign for sign, word in SIGNS.items()}
 OPERATORS = {**SIGNS, **{word: word for word in SIGNS.values()}}
 COMPARISONS = {"<", "<=", "=", ">=", ">", "<>"}
 # the bits of rpm's flags for "less", "greater" and "equal"
@@ -13,10 +14,11 @@ BY_BITS = {2: "<", 4: ">", 6: "<>", 8: "=", 10: "<=", 12: ">="}
 LIMIT = 64
 # where a dependency stands, and what may not stand there
 WITHOUT = {"Prv": set(SIGNS.values()), "Obs": set(SIGNS.values()), "Con": {"if"}}
-NAME = r"[^\s()&|+<>=-][^\s()]*(?:\([^\s()]*\)[^\s()]*)*"
+# testsolv's blanks, which are not all that Python takes for one
+BLANKS = " \t\r"
+NAME = r"[^ \t\r\n()&|+<>=-][^ \t\r\n()]*(?:\([^ \t\r\n()]*\)[^ \t\r\n()]*)*"
 # most dependencies: one name, or one with a comparison, and no parenthesis that could be taken for another
-PLAIN = rf"(?!namespace:){NAME}(?: (?:[<=>]|<=|>=|<>) [^\s()&|+<>=-][^\s()]*)?"
-WORD = re.compile(r"[^\s()]+")
+PLAIN = rf"(?!namespace:){NAME}(?: (?:[<=>]|<=|>=|<>) [^ \t\r\n()&|+<>=-][^ \t\r\n()]*)?"
 
 
 class Unfit(Exception):
@@ -33,9 +35,9 @@ def words_of(text):
     words, at = [], 0
     while at < len(text):
         end = at + 1
-        if not text[at].isspace():
+        if text[at] not in BLANKS:
             depth = 0
-            while text[at] not in "()" and end < len(text) and not text[end].isspace():
+            while text[at] not in "()" and end < len(text) and text[end] not in BLANKS:
                 depth += (text[end] == "(") - (text[end] == ")")
                 if depth < 0:
                     break
@@ -140,6 +142,24 @@ def unfit(text, tag):
     return None
 
 
+def signed(tree):
+    """A tree's text with signs for its operators."""
+    if isinstance(tree, str):
+        return tree
+    operator, operands = tree
+    parts = [one if isinstance(one, str) else f"({signed(one)})" for one in operands]
+    signs = [BY_WORD[operator]] * (len(parts) - 1)
+    if operator in ("if", "unless"):
+        signs[1:] = [BY_WORD["else"]] * len(signs[1:])
+    return parts[0] + "".join(f" {sign} {part}" for sign, part in zip(signs, parts[1:]))
+
+
+@functools.lru_cache(1 << 16)
+def with_signs(text):
+    """A rich dependency with signs, which stands in parentheses."""
+    return f"({signed(Reader(text).expression())})"
+
+
 def leaves(tree):
     """The names in a tree, each with its comparison."""
     return [tree] if isinstance(tree, str) else [leaf for operand in tree[1] for leaf in leaves(operand)]
@@ -147,4 +167,4 @@ def leaves(tree):
 
 def file_names(text):
     """The names of files that a text asks for."""
-    return [word for word in WORD.findall(text) if word.startswith("/")]
+    return [word for word in words_of(text) if word.startswith("/")]

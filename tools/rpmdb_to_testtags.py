@@ -4,14 +4,14 @@
     tools/rpmdb_to_testtags.py [--root DIR] [--dbpath PATH] [--with OTHER ..] [--output FILE]
 
 The packages are asked for by `rpm --root DIR -qa`, with --dbpath where the root keeps its database elsewhere than this rpm, as
-in /usr/lib/sysimage/rpm, and written in testtags format (docs/FORMATS.md): version,
-architecture, vendor, and what they provide, require, conflict with, obsolete, recommend, suggest, supplement and enhance, with
-versions and rich texts. What a package requires for its scripts before and after it is installed is required before. Of their
-files those are written that a dependency of a package here names, or one of an OTHER: a repository in testtags format.
+in /usr/lib/sysimage/rpm, and written in testtags format (docs/FORMATS.md): version, architecture, vendor, and what they
+provide, require, conflict with, obsolete, recommend, suggest, supplement and enhance, with versions and rich texts, and what
+SUSE says in names as rpmmd_to_testtags.py writes it. What a package required for its installation alone is left out: rpm does
+not ask for it any more. Of their files those are written that a dependency of a package here names, or one of an OTHER: a
+repository in testtags format. A comment in front says what the repository was made of, and with which others.
 
 What the format cannot hold is left out, and told on the error stream: each kind once, with how often it stood there and its
-first example. Keys, which rpm keeps as packages of the name gpg-pubkey, are left out too. Where something is wrong, one line
-tells it, and the status is 2.
+first example. Keys, which rpm keeps as packages of the name gpg-pubkey, are left out too.
 """
 import pathlib
 import shutil
@@ -29,6 +29,9 @@ FORMAT = (HEADING + "".join(f"[{tag}\t%{{{name}FLAGS}}\t%{{{name}NAME}}\t%{{{nam
           + "[Fls\t%{FILENAMES}\n]End\n")
 # rpm's flags of a requirement that is due before the package: PREREQ, SCRIPT_PRE and SCRIPT_POST
 EARLY = 1 << 6 | 1 << 9 | 1 << 10
+# flags of what binds at the installation alone (PRETRANS, POSTTRANS, SCRIPT_PRE, SCRIPT_POST, RPMLIB, KEYRING), and of what binds
+# longer for all that (SCRIPT_PREUN, SCRIPT_POSTUN, META), as rpm takes it
+TRANSIENT, LASTING = 1 << 5 | 1 << 7 | 1 << 9 | 1 << 10 | 1 << 24 | 1 << 26, 1 << 11 | 1 << 12 | 1 << 29
 
 
 class Installed:
@@ -54,6 +57,9 @@ class Installed:
                 raise ValueError("rpm printed a line with a tab or a line feed in a name: " + " ".join(words))
 
     def entry(self, tag, flags, name, version):
+        if tag == "Req" and flags & TRANSIENT and not flags & LASTING:
+            self.repository.leave_out("what was required for the installation alone", f"{name} of {self.heading[1]}", "")
+            return
         comparison = BY_BITS.get(flags & 14)
         text = f"{name} {comparison} {version.removeprefix('0:')}" if comparison and version else name
         self.lines.append(f"={'Prq' if tag == 'Req' and flags & EARLY else tag}: {text}\n")
@@ -71,6 +77,7 @@ def main(given):
         raise testtags.Fault("there is no program rpm: install the package rpm")
     if not given.root.is_dir():
         raise testtags.Fault(f"{given.root}: it is no folder")
+    testtags.can_be_written(given.output)
     repository = testtags.Repository()
     installed = Installed(repository)
     place = ["--dbpath", given.dbpath] if given.dbpath else []
@@ -89,7 +96,7 @@ def main(given):
         repository.named |= testtags.named_files(other)
     if not installed.heading:
         print(f"{given.root}: no package is installed, or the database is elsewhere (--dbpath)", file=sys.stderr)
-    repository.write(given.output)
+    repository.write(given.output, testtags.origin(__file__, given.root, given.others))
     repository.tell()
     return 0
 

@@ -5,19 +5,22 @@
 
 FOLDER has the folder repodata. Its packages are written in testtags format (docs/FORMATS.md), in their order: version,
 architecture, vendor, and what they provide, require, conflict with, obsolete, recommend, suggest, supplement and enhance, with
-versions and rich texts. Of their files those are written that a dependency of a package here names, or one of an OTHER: a
-folder with repodata, or a repository in testtags format. The list of all files is read only where a dependency names a file
-that the list of packages leaves out by its nature (it has those in /etc, in a folder bin or sbin, and /usr/lib/sendmail).
-With --output they are written to FILE, and where that would be more than testsolv reads of one file to others besides, as
-NAME-2.repo; each is a repository.
+versions and rich texts, whose operators are signs. What SUSE says in names (`packageand(a:b)`, `locale(a:de)` and the like) is
+written as the dependency that libsolv and zypper read there. Of their files those are written that a dependency of a package
+here names, or one of an OTHER: a folder with repodata, or a repository in testtags format. The list of all files is read only
+where a dependency names a file that the list of packages leaves out by its nature (it has those in /etc, in a folder bin or
+sbin, and /usr/lib/sendmail). A comment in front says what the repository was made of, and with which others. With --output they
+are written to FILE, and where that would be more than testsolv reads of one file to others besides, as NAME-2.repo; each is a
+repository.
 
 What the format cannot hold is left out, and told on the error stream: each kind once, with how often it stood there and its
 first example. A requirement that is left out may make a package look as if it could be installed. Files may be packed as .gz,
-.bz2, .xz and .zst. Where something is wrong, one line tells where, and the status is 2.
+.bz2, .xz and .zst.
 """
 import collections
 import functools
 import pathlib
+import sys
 from xml.parsers import expat
 
 import testtags
@@ -25,27 +28,47 @@ from dependencies import evr_text
 
 COMMON, RPM, REPO, FILELISTS = (f"http://linux.duke.edu/metadata/{name} " for name in ("common", "rpm", "repo", "filelists"))
 LISTS = {RPM + "provides": "Prv", RPM + "requires": "Req", RPM + "conflicts": "Con", RPM + "obsoletes": "Obs",
-         RPM + "recommends": "Rec", RPM + "suggests": "Sug", RPM + "supplements": "Sup", RPM + "enhances": "Enh"}
+         RPM + "recommends": "Rec", RPM + "suggests": "Sug", RPM + "supplements": "Sup", RPM + "enhances": "Enh",
+         # (SUSE's, which becomes a part of what is supplemented)
+         RPM + "freshens": "Fre"}
 TEXTS = {COMMON + "name": "name", COMMON + "arch": "arch", COMMON + "checksum": "checksum", COMMON + "file": "file",
          RPM + "vendor": "vendor"}
-COMPARISONS = {"EQ": "=", "LT": "<", "GT": ">", "LE": "<=", "GE": ">="}
+COMPARISONS = {"EQ": "=", "LT": "<", "GT": ">", "LE": "<=", "GE": ">=", "NE": "<>"}
 PACKAGE, ENTRY, VERSION, FILE, LISTED_FILE = COMMON + "package", RPM + "entry", COMMON + "version", COMMON + "file", FILELISTS + "file"
 
 
 @functools.lru_cache(1 << 12)
 def comparison_text(flags, epoch, version, release):
-    """What stands behind a name (most entries of a package have its own version)."""
+    """What stands behind a name (most entries of a package have its own version); without a version, as rpm takes it, nothing."""
+    if not version:
+        return ""
     return f" {COMPARISONS.get(flags, flags)} {evr_text(epoch, version, release)}"
 
 
 class Reader:
-    """A reader of XML, whose `start` and `end` are given each element."""
+    """A reader of XML, whose `start` and `end` are given each element, and which counts its packages."""
+    ROOT = None
 
     def __init__(self, path):
-        self.path, self.pieces = path, []
+        self.path, self.pieces, self.promised, self.packages = path, [], "", 0
         self.parser = expat.ParserCreate(namespace_separator=" ")
         self.parser.buffer_text = True
-        self.parser.StartElementHandler, self.parser.EndElementHandler = self.start, self.end
+        self.parser.StartElementHandler, self.parser.EndElementHandler = self.root, self.end
+
+    def root(self, element, attributes):
+        """The outermost element, which tells what the document is, and how many packages it has."""
+        if element != self.ROOT:
+            raise ValueError(f"it begins with the element {element}, and not with {self.ROOT}")
+        self.promised = attributes.get("packages", "")
+        self.parser.StartElementHandler = self.start
+
+    def compare_count(self):
+        """Fails where packages are missing at the end; where there are more it only tells."""
+        if self.promised.isdecimal() and int(self.promised) != self.packages:
+            told = f"{self.path}: it says that it has {self.promised} packages, and has {self.packages}"
+            if int(self.promised) > self.packages:
+                raise testtags.Fault(told)
+            print(told, file=sys.stderr)
 
     def end(self, element):
         pass
@@ -65,6 +88,7 @@ class Reader:
                 while piece := stream.read(1 << 18):
                     self.parser.Parse(piece)
                 self.parser.Parse(b"", True)
+            self.compare_count()
         except testtags.Fault:
             raise
         except expat.ExpatError as error:
@@ -77,6 +101,7 @@ class Reader:
 
 class Index(Reader):
     """repomd.xml: where the lists stand."""
+    ROOT = REPO + "repomd"
 
     def __init__(self, folder):
         super().__init__(folder / "repodata" / "repomd.xml")
@@ -90,12 +115,14 @@ class Index(Reader):
 
     def place(self, kind):
         if kind not in self.places:
-            raise testtags.Fault(f"{self.path}: it has no list of the kind {kind}")
+            kinds = ", ".join(self.places) or "none at all"
+            raise testtags.Fault(f"{self.path}: it has no list of the kind {kind} (it has {kinds}); zchunk and databases are not read")
         return self.places[kind]
 
 
 class Primary(Reader):
     """The list of packages, written into a repository."""
+    ROOT = COMMON + "metadata"
 
     def __init__(self, path, repository):
         super().__init__(path)
@@ -107,7 +134,7 @@ class Primary(Reader):
         if element == ENTRY:
             text, tag = attributes["name"], self.tag
             if tag is None:
-                self.repository.leave_out("an entry of an unknown list", text)
+                self.repository.leave_out("an entry of an unknown list", f"{text} of {self.found['name']}")
                 return
             if len(attributes) > 1:
                 if "flags" in attributes:
@@ -120,6 +147,7 @@ class Primary(Reader):
         elif element in LISTS:
             self.tag = LISTS[element]
         elif element == PACKAGE:
+            self.packages += 1
             self.found, self.lines = collections.defaultdict(str), []
         elif element == VERSION:
             self.found.update(attributes)
@@ -142,6 +170,7 @@ class Primary(Reader):
 
 class Filelists(Reader):
     """The list of all files: those that are wanted, by the package's checksum."""
+    ROOT = FILELISTS + "filelists"
 
     def __init__(self, path, wanted):
         super().__init__(path)
@@ -151,7 +180,7 @@ class Filelists(Reader):
         if element == LISTED_FILE:
             self.collect()
         elif element == FILELISTS + "package":
-            self.id = attributes["pkgid"]
+            self.id, self.packages = attributes["pkgid"], self.packages + 1
 
     def end(self, element):
         if element == LISTED_FILE and (path := self.text()) in self.wanted:
@@ -172,19 +201,28 @@ def named_by(other):
     return repository.named
 
 
+def files_of(index, primary, repository):
+    """The files that a dependency names and the list of packages leaves out, by the place of their package."""
+    wanted = {path for path in repository.named if not is_in_primary(path)}
+    place = index.places.get("filelists")
+    if wanted and not (place and place.exists()):
+        for path in sorted(wanted):
+            repository.leave_out(f"the file {path}, which some package may have", f"{index.folder} has no list of files")
+    elif wanted:
+        found = Filelists(place, wanted).read().found
+        return {place: found[id] for place, id in enumerate(primary.ids) if id in found}
+    return {}
+
+
 def main(given):
+    testtags.can_be_written(given.output)
     repository = testtags.Repository()
     index = Index(given.folder).read()
     primary = Primary(index.place("primary"), repository).read()
     primary.progress.end()
     for other in given.others:
         repository.named |= named_by(other)
-    wanted = {path for path in repository.named if not is_in_primary(path)}
-    files = {}
-    if wanted:
-        found = Filelists(index.place("filelists"), wanted).read().found
-        files = {place: found[id] for place, id in enumerate(primary.ids) if id in found}
-    repository.write(given.output, files)
+    repository.write(given.output, testtags.origin(__file__, given.folder, given.others), files_of(index, primary, repository))
     if "modules" in index.places:
         repository.leave_out("module streams, all of which are taken as there", index.places["modules"])
     repository.tell()

@@ -73,25 +73,25 @@ EXPECTED = """\
 =Prq: /bin/sh
 =Prq: /usr/sbin/register
 =Req: cleaner < 3
-=Req: (spell-en if languages else spell-none)
-=Req: (words with words(en) >= 4 with words(en) < 5)
+=Req: (spell-en <IF> languages <ELSE> spell-none)
+=Req: (words + words(en) >= 4 + words(en) < 5)
 =Req: /usr/share/words/en.txt
-=Req: (/usr/share/words/de.txt or words-none)
-=Rec: (git or git-core)
+=Req: (/usr/share/words/de.txt | words-none)
+=Rec: (git | git-core)
 =Sug: printer <= 3
 =Con: old-editor <= 1
-=Con: (beta unless stable)
+=Con: (beta <UNLESS> stable)
 =Obs: text-editor < 2
 =Pkg: reader 0.6 10.5 noarch
 =Prv: reader = 0.6-10.5
 =Req: /usr/bin/words
-=Req: (words without words(de))
+=Req: (words - words(de))
 =Con: /etc/words.old
 =Pkg: words 1~rc1 1 noarch
 =Prv: words = 1~rc1-1
 =Prv: words(en) = 4^git
 =Prv: words(en)(utf8)
-=Sup: (editor and languages)
+=Sup: (editor & languages)
 =Enh: reader > 0.5
 =Fls: /usr/share/words/en.txt
 =Fls: /usr/share/words/de.txt

@@ -18,9 +18,9 @@ import tempfile
 
 import testtags
 from rounds import TESTSOLV
+from rpmmd_for_tests import TOOL, convert
 from rpms_for_tests import CONDITION, EXPECTED, MORE, OTHER, build, by_package, need, same, try_program
 
-TOOL = pathlib.Path(__file__).with_name("rpmmd_to_testtags.py")
 PAGE = TOOL.parent.parent / "docs" / "MAINTAINERS.md"
 PACKAGES = 60_000
 # reader requires a file of words, and conflicts with another one of it
@@ -53,11 +53,6 @@ PACKAGE = """\
     <file>/usr/bin/package-{number}</file><file>/etc/package-{number}</file></format>
 </package>
 """
-
-
-def convert(*words):
-    run = subprocess.run([sys.executable, TOOL, *words], capture_output=True, text=True)
-    return run.returncode, run.stdout, run.stderr
 
 
 def repack(repository):
@@ -114,14 +109,25 @@ def try_faults(folder):
 
 def try_parts(folder):
     """A repository that one file cannot hold."""
-    testtags.FULL = 40
+    testtags.FULL = 47
     repository = testtags.Repository()
     for name in "abc":
         repository.package("0", (name, "1", "1", "noarch"), "", ["=Req: lib\n"])
     with contextlib.redirect_stderr(io.StringIO()) as errors:
-        repository.write(folder / "parts.repo")
+        repository.write(folder / "parts.repo", "# made\n")
     same("what is told of parts", errors.getvalue(), f"{folder}/parts.repo has 1 more behind it, up to {folder}/parts-2.repo\n")
-    same("the parts", [(folder / name).read_text().count("=Pkg: ") for name in ("parts.repo", "parts-2.repo")], [2, 1])
+    parts = [(folder / name).read_text() for name in ("parts.repo", "parts-2.repo")]
+    same("the parts", [(text.count("# made\n=Pkg: "), text.count("=Pkg: ")) for text in parts], [(1, 2), (1, 1)])
+
+
+def try_outputs(folder):
+    """What the first line says, and what cannot be written."""
+    subprocess.run([sys.executable, TOOL, folder / "gz", "--with", folder / "other.repo", folder / "xz", "--output", folder / "made.repo"], check=True, capture_output=True)
+    same("the first line", (folder / "made.repo").read_text().split("\n")[0], f"# rpmmd_to_testtags.py {folder}/gz --with {folder}/other.repo {folder}/xz")
+    same("what it says", testtags.origin_of(folder / "made.repo"), (f"{folder}/gz", [f"{folder}/other.repo", f"{folder}/xz"]))
+    same("a folder as the output", convert(folder / "gz", "--output", folder), (2, "", f"{folder}: it cannot be written, since it is a folder\n"))
+    same("a file in no folder", convert(folder / "none", "--output", folder / "none" / "x"),
+         (2, "", f"{folder}/none/x: it cannot be written, since its folder is not there, or may not be written\n"))
 
 
 def try_large(folder):
@@ -142,7 +148,7 @@ def try_large(folder):
     seconds, megabytes = used.ru_utime + used.ru_stime, used.ru_maxrss // 1024
     print(f"{PACKAGES:,} packages: {seconds:.1f} s, {megabytes} MB")
     same("status of a large one", status, 0)
-    same("the size of a large one", (folder / "large.repo").read_text().count("\n"), PACKAGES * 23)
+    same("the size of a large one", (folder / "large.repo").read_text().count("\n"), PACKAGES * 23 + 1)
     same("it takes less than 30 s of a processor and 200 MB", (seconds < 30, megabytes < 200), (True, True))
 
 
@@ -152,6 +158,7 @@ def main():
     with tempfile.TemporaryDirectory() as name:
         folder = pathlib.Path(name)
         try_packings(folder, build(folder), program)
+        try_outputs(folder)
         try_faults(folder)
         try_parts(folder)
         try_large(folder)

@@ -31,6 +31,9 @@ else
     try tools/test_unpack_debugdata.py
 fi
 try tools/test_dependencies.py "$testsolv"
+try tools/test_odd_repositories.py
+try tools/test_suse.py "$testsolv"
+try tools/test_compare_readings.py
 try tools/test_rpmmd_to_testtags.py "$testsolv"
 try tools/test_rpmdb_to_testtags.py "$testsolv"
 try tools/test_installable.py "$testsolv" "$proofcheck"

@@ -5,15 +5,21 @@ import collections
 import contextlib
 import gzip
 import lzma
+import os
+import pathlib
 import re
+import shlex
 import shutil
 import subprocess
 import sys
 import tempfile
+import textwrap
 import time
+import traceback
 import zlib
 
-from dependencies import PLAIN, evr_text, file_names, unfit
+import suse
+from dependencies import BLANKS, PLAIN, evr_text, file_names, unfit, with_signs
 
 # the lines of a package that have to be looked at
 ODD_LINES = re.compile(rf"^(?!=Fls: |=[A-Z][a-z][a-z]: {PLAIN}\n).*\n", re.MULTILINE)
@@ -22,6 +28,8 @@ ASKING = ("=Req:", "=Prq:", "=Con:", "=Rec:", "=Sug:", "=Sup:", "=Enh:")
 LIMIT, FULL = 67_108_864, 60_000_000
 # texts are taken byte by byte, also where they are no UTF-8
 UTF = {"encoding": "utf-8", "errors": "surrogateescape"}
+ORIGIN = re.compile(r"# (?:rpmmd|rpmdb)_to_testtags\.py (.* --with.*)\n")
+WORDS, EPOCH = re.compile(f"[^{BLANKS}]+"), re.compile("[0-9]*")
 Package = collections.namedtuple("Package", "name evr arch vendor")
 
 
@@ -30,7 +38,7 @@ class Fault(ValueError):
 
 
 def run(main, arguments):
-    """Runs a tool's main function, and ends with its status, or with 2 and one line where something is wrong."""
+    """Runs a tool's main function, and ends with its status, or with 2 and one line where something is wrong, whatever it is."""
     for stream in (sys.stdout, sys.stderr):
         stream.reconfigure(**UTF)
     try:
@@ -40,19 +48,36 @@ def run(main, arguments):
         status = 130
     except BrokenPipeError:
         sys.stderr.close()
-        status = 1
-    except Fault as fault:
-        print(fault, file=sys.stderr)
         status = 2
-    except OSError as error:
-        print(f"{error.filename}: {error.strerror}" if error.filename else error, file=sys.stderr)
+    except Exception as error:
+        print(cause_of(error), file=sys.stderr)
         status = 2
     sys.exit(status)
 
 
-def arguments(text):
-    """The arguments of a tool whose help is its docstring."""
-    return argparse.ArgumentParser(description=text, formatter_class=argparse.RawDescriptionHelpFormatter, allow_abbrev=False)
+def cause_of(error):
+    """What is wrong, in one line; of a fault of the tool itself where it came to light."""
+    if isinstance(error, Fault):
+        return str(error)
+    if isinstance(error, OSError):
+        return f"{error.filename}: {error.strerror}" if error.filename else str(error)
+    place = traceback.extract_tb(error.__traceback__)[-1]
+    return f"a fault of the tool, {pathlib.Path(place.filename).name}:{place.lineno}: {type(error).__name__}: {' '.join(str(error).split())}"
+
+
+def arguments(text, one=None):
+    """The arguments of a tool whose help is its docstring, and what its status says; `one` is what status 1 means, if anything."""
+    ones = f"1 where {one}, " if one else ""
+    status = f"The status is 0 where all is well, {ones}2 where the tool or its input failed, whatever it was, which one line tells, and 130 where it was interrupted."
+    return argparse.ArgumentParser(description=text, epilog=textwrap.fill(status, 125), allow_abbrev=False,
+                                   formatter_class=argparse.RawDescriptionHelpFormatter)
+
+
+def can_be_written(path):
+    """Fails where a file cannot be written, before anything is done for it; None is the output stream."""
+    if path and (path.is_dir() or not os.access(path if path.exists() else path.absolute().parent, os.W_OK)):
+        raise Fault(f"{path}: it cannot be written, since " + (
+            "it is a folder" if path.is_dir() else "it may not be" if path.exists() else "its folder is not there, or may not be written"))
 
 
 class Progress:
@@ -94,16 +119,20 @@ def opened(path):
 class Parts:
     """Where a repository is written: the output stream; or a file, and more of them where it has more than testsolv reads of one."""
 
-    def __init__(self, path):
-        self.path, self.number, self.size = path, 1, 0
-        self.stream = open(path, "wb") if path else sys.stdout.buffer
+    def __init__(self, path, origin):
+        self.path, self.number, self.origin = path, 1, origin.encode(**UTF)
+        self.begin(open(path, "wb") if path else sys.stdout.buffer)
+
+    def begin(self, stream):
+        self.stream, self.size = stream, 0
+        self.writelines([self.origin])
 
     def package(self):
         """Begins a package, in the next file where this one is full."""
         if self.path and self.size > FULL:
             self.stream.close()
-            self.number, self.size = self.number + 1, 0
-            self.stream = open(self.path.with_stem(f"{self.path.stem}-{self.number}"), "wb")
+            self.number += 1
+            self.begin(open(self.path.with_stem(f"{self.path.stem}-{self.number}"), "wb"))
 
     def writelines(self, lines):
         for line in lines:
@@ -119,12 +148,23 @@ class Parts:
             print(f"{self.path} has {self.number - 1} more behind it, up to {self.stream.name}", file=sys.stderr)
 
 
+def heading_of(epoch, words):
+    """What stands behind =Pkg:, which four words may."""
+    name, version, release, arch = words
+    heading = f"{name} {evr_text(epoch, version, None)} {release or '-'} {arch}"
+    if len(WORDS.findall(heading)) != 4 or heading.count(" ") != 3:
+        raise ValueError(f"a package wants a name, a version, a release and an architecture, each without a blank: {heading}")
+    if not EPOCH.fullmatch(epoch or "") or ":" in version + release:
+        raise ValueError(f"a package wants a number as its epoch, and a version and a release without a colon: {heading}")
+    return heading
+
+
 class Repository:
     """A repository that is written. Which files matter is known at its end, so a draft with all of them is made first."""
 
     def __init__(self):
         self.draft = tempfile.TemporaryFile()
-        self.named = set()
+        self.named, self.headings = set(), {}
         self.left_out, self.example = collections.Counter(), {}
 
     def leave_out(self, what, example, note=", which may change the answer"):
@@ -134,41 +174,49 @@ class Repository:
 
     def package(self, epoch, words, vendor, lines):
         """Adds a package: its name, version, release and architecture, and a line for each entry, the files among them."""
-        name, version, release, arch = words
-        heading = f"{name} {evr_text(epoch, version, None)} {release or '-'} {arch}"
-        if len(heading.split()) != 4 or heading.count(" ") != 3:
-            raise ValueError(f"a package wants a name, a version, a release and an architecture, each without a blank: {heading}")
-        vendor = " ".join(vendor.splitlines()).strip()
-        text = "".join(lines)
-        if text.count("\n") != len(lines):
-            text = "".join(lines := [line for line in lines if self.is_one_line(line, name)])
-        odd = {line for line in ODD_LINES.findall(text) if not self.fits(line, name)}
-        if odd:
-            text = "".join(lines := [line for line in lines if line not in odd])
+        name, heading = words[0], heading_of(epoch, words)
+        lines = self.readable(lines, name)
         for line in lines:
             if "/" in line and line[:5] in ASKING:
-                self.named.update(file_names(line[5:]))
-        text = f"=Pkg: {heading}\n" + (f"=Vnd: {vendor}\n" if vendor else "") + text
+                self.named.update(file_names(line[6:-1]))
+        vendor = vendor.replace("\n", " ").strip(BLANKS)
+        text = f"=Pkg: {heading}\n" + (f"=Vnd: {vendor}\n" if vendor else "") + "".join(lines)
+        if self.headings.setdefault(heading, hash(text)) != hash(text):
+            self.leave_out("a package that stands twice, with other lists: testsolv takes its text for the first", heading)
         self.draft.write(text.encode(**UTF))
+
+    def readable(self, lines, name):
+        """The lines of a package as testsolv reads them, without those that it cannot read."""
+        text = "".join(lines)
+        if text.count("\n") != len(lines):
+            lines = [line for line in lines if self.is_one_line(line, name)]
+        if any(hint in text for hint in suse.HINTS):
+            for moved in suse.moved_files(lines):
+                self.leave_out("that it comes where a file moved to it (splitprovides), as by libsolv in an update", f"{moved} of {name}")
+            lines = suse.rewritten(lines)
+        odd = {line: self.fitting(line, name) for line in ODD_LINES.findall("".join(lines))}
+        return [odd.get(line, line) for line in lines] if odd else lines
 
     def is_one_line(self, line, name):
         if line.count("\n") > 1:
             self.leave_out("a line feed in a name", f"{line!r} of {name}")
         return line.count("\n") == 1
 
-    def fits(self, line, name):
+    def fitting(self, line, name):
+        """A line as it is written, with signs for words: libsolv's testsolv knows no words. It is empty where it cannot be read."""
         tag, text = line[1:4], line[6:-1]
         why = unfit(text, tag)
         if why:
             self.leave_out(f"={tag}: {why}", f"{text} of {name}")
-        return why is None
+            return ""
+        return f"={tag}: {with_signs(text)}\n" if text[0] == "(" else line
 
-    def write(self, path, files={}):
+    def write(self, path, origin, files={}):
         """Writes the draft with those files alone that a dependency names; files has more of them by the package's place."""
         named = {path.encode(**UTF) for path in self.named}
         more = {place: [b"=Fls: %s\n" % path.encode(**UTF) for path in paths] for place, paths in files.items()}
         self.draft.seek(0)
-        place, parts = -1, Parts(path)
+        place, parts = -1, Parts(path, origin)
         for line in self.draft:
             if line.startswith(b"=Pkg:"):
                 parts.writelines(more.get(place, ()))
@@ -195,7 +243,7 @@ def lines_of(path):
             if block and line.startswith(f"-{block}:"):
                 block = None
             elif block:
-                if line.strip():
+                if line.strip(BLANKS):
                     yield number, f"={block}: {line}"
             elif line[:1] == "+" and line[4:5] == ":":
                 block = line[1:4]
@@ -203,25 +251,43 @@ def lines_of(path):
                 yield number, line
 
 
+def origin(tool, made_of, others):
+    """The first line of a repository that a tool makes: a comment that says of what, and beside which others."""
+    words = [pathlib.Path(tool).name, str(pathlib.Path(made_of).resolve()), "--with", *(str(other.resolve()) for other in others)]
+    return f"# {shlex.join(words)}\n"
+
+
+def origin_of(path):
+    """What a repository was made of and the others beside it, or None where no tool here made it."""
+    with opened(path) as stream:
+        match = ORIGIN.fullmatch(stream.readline().decode(**UTF))
+    if not match:
+        return None
+    made_of, _, *others = shlex.split(match[1])
+    return made_of, others
+
+
 def packages(path):
-    """The packages of a repository, each with the lines of it."""
+    """The packages of a repository, each with the lines of it. None at all has only one that a tool here made as it should be."""
     heading, lines = None, []
     for number, line in lines_of(path):
         if line.startswith("=Pkg:"):
             if heading:
                 yield package_of(heading, lines), lines
-            heading, lines = line.split()[1:], []
+            heading, lines = WORDS.findall(line)[1:], []
             if len(heading) != 4:
                 raise Fault(f"{path}:{number}: a package has a name, a version, a release and an architecture")
         if heading:
             lines.append(line)
     if heading:
         yield package_of(heading, lines), lines
+    elif not origin_of(path):
+        raise Fault(f"{path}: it has no package: it is no repository in testtags format, or was cut to nothing")
 
 
 def package_of(words, lines):
     name, version, release, arch = words
-    vendors = [line[5:].strip() for line in lines if line.startswith("=Vnd:")]
+    vendors = [line[5:].strip(BLANKS) for line in lines if line.startswith("=Vnd:")]
     return Package(name, version if release == "-" else f"{version}-{release}", arch, ([""] + [vendor for vendor in vendors if vendor])[-1])
 
 
