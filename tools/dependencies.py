@@ -3,7 +3,6 @@
 docs/FORMATS.md, "Dependencies", has the grammar. Operators may be signs, which are libsolv's, or words, which are rpm's.
 """
 import functools
-import re
 
 SIGNS = {"&": "and", "|": "or", "+": "with", "-": "without", "<IF>": "if", "<UNLESS>": "unless", "<ELSE>": "else"}
 BY_WORD = {word: sign for sign, word in SIGNS.items()}

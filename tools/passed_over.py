@@ -6,18 +6,21 @@
 A FILE is a script, whose repositories are gone through with it, inline or in files of their own, or a repository in testtags
 format. As the format wants it, testsolv passes over each line that has no heading, and each tag that it does not know. This
 tells of them, as `FILE:LINE: a tag that is not read: =REQ:`: misspelt tags, a blank before a heading, a block that was not
-opened. `=Ver:` and `=Tim:`, which libsolv writes, blank lines and lines that begin with `#` are not told. The status is 1
-where a line was told, and 0 otherwise.
+opened; and of what libsolv means by its own namespaces, which no package has here: a conflict with `namespace:otherproviders(X)`
+never holds, and for `namespace:splitprovides(..)` the script is refused (tools/unpack_debugdata.py mends both). `=Ver:` and
+`=Tim:`, which libsolv writes, blank lines and lines that begin with `#` are not told.
 """
 import pathlib
 import re
-import signal
-import sys
+
+import testtags
 
 READ = {"Pkg", "Prv", "Req", "Prq", "Con", "Obs", "Rec", "Sug", "Sup", "Enh", "Vnd", "Fls"}
 # what libsolv writes and nobody misses
 KNOWN = {"Ver", "Tim"}
 HEADING = re.compile(r"([=+-])([A-Za-z]{3}):")
+# namespaces that libsolv has an answer for by itself
+LIBSOLVS = re.compile(r"namespace:(?:otherproviders|splitprovides)\(")
 
 
 def repository(lines):
@@ -25,6 +28,8 @@ def repository(lines):
     block = None
     for number, line in lines:
         heading = HEADING.match(line)
+        if LIBSOLVS.search(line):
+            yield number, f"a namespace of libsolv's, which no package has here: {line}"
         if block is not None:
             if heading and heading.group(1) == "-" and heading.group(2) == block:
                 block = None
@@ -81,21 +86,14 @@ def told_of(path):
     return told_of_repository(path) if is_repository else told_of_script(path, text)
 
 
-def main():
-    if len(sys.argv) < 2:
-        sys.exit("usage: passed_over.py FILE ..")
-    found = []
-    for name in sys.argv[1:]:
-        try:
-            found += told_of(pathlib.Path(name))
-        except OSError as error:
-            sys.exit(f"{name}: {error}")
+def main(given):
+    found = [told for path in given.files for told in told_of(path)]
     for path, number, words in found:
         print(f"{path}:{number}: {words}")
-    sys.exit(1 if found else 0)
+    return 1 if found else 0
 
 
 if __name__ == "__main__":
-    # (who reads the first lines alone ends it)
-    signal.signal(signal.SIGPIPE, signal.SIG_DFL)
-    main()
+    arguments = testtags.arguments(__doc__, "a line was told")
+    arguments.add_argument("files", metavar="FILE", nargs="+", type=pathlib.Path)
+    testtags.run(main, arguments)

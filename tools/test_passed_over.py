@@ -39,6 +39,11 @@ nothing of this is told
 -Sum:
 -Req:
 =Tim: 17
+=Con: namespace:otherproviders(smtp_daemon)
++Sup:
+namespace:splitprovides(util + /sbin/tool)
+-Sup:
+=Sup: namespace:language(de)
 """
 
 GOOD = "=Ver: 3.0\n=Pkg: b 1 1 noarch\n+Prv:\nlib\n-Prv:\n"
@@ -50,6 +55,8 @@ there.repo:2: it has no heading: =Reqs: a
 there.repo:4: it has no heading: =Req a
 there.repo:6: a block of a tag that is not read: +Sum:
 there.repo:9: it closes no block: -Req:
+there.repo:11: a namespace of libsolv's, which no package has here: =Con: namespace:otherproviders(smtp_daemon)
+there.repo:13: a namespace of libsolv's, which no package has here: namespace:splitprovides(util + /sbin/tool)
 case.t:12: inline lines that belong to no line: =Pkg: d 1 1 noarch
 """
 
@@ -69,6 +76,8 @@ def main():
         same("what is told of a repository", run.stdout, "".join(line + "\n" for line in TOLD.split("\n") if line.startswith("there")))
         run = subprocess.run([sys.executable, TOOL, "good.repo"], capture_output=True, text=True, cwd=folder)
         same("what is told of a good one", (run.returncode, run.stdout, run.stderr), (0, "", ""))
+        run = subprocess.run([sys.executable, TOOL, "good.repo", "none.repo"], capture_output=True, text=True, cwd=folder)
+        same("a file that is not there", (run.returncode, run.stdout, run.stderr), (2, "", "none.repo: No such file or directory\n"))
     print("as it should be")
 
 

@@ -53,6 +53,44 @@ job multiversion provides kernel
 result transaction,problems results/solver.result
 """
 
+# what libsolv writes of SUSE's forms and of names with parentheses, and what it becomes
+FORMS = """\
+=Ver: 3.0
+=Pkg: postfix 1 1 noarch
+=Con: namespace:otherproviders(smtp_daemon)
+=Prv: smtp_daemon
++Sup:
+namespace:splitprovides(util + /sbin/tool)
+app & namespace:language(de)
+-Sup:
+=Prv: font\\28waver\\28brk\\29\\29
+=Req: open\\28only
+=Pkg: exim 1 1 noarch
++Con:
+other
+namespace:otherproviders(smtp_daemon)
+-Con:
+=Prv: smtp_daemon
+"""
+PLAIN_FORMS = """\
+=Ver: 3.0
+=Pkg: postfix 1 1 noarch
+=Con: smtp_daemon
+=Prv: smtp_daemon
++Sup:
+app & namespace:language(de)
+-Sup:
+=Prv: font(waver(brk))
+=Req: open\\28only
+=Pkg: exim 1 1 noarch
++Con:
+other
+smtp_daemon
+-Con:
+=Prv: smtp_daemon
+"""
+FORMS_TOLD = "left out, which may change the answer, 2 times: that a package comes where a file moved to it (splitprovides)\n"
+
 INSTALLED = "=Ver: 3.0\n=Pkg: editor 1 1 noarch\n=Pkg: reader 1 1 noarch\n"
 LOCAL = "=Ver: 3.0\n=Pkg: editor 2 1 noarch\n=Pkg: viewer 1 1 noarch\n+Obs:\nreader\n-Obs:\n"
 
@@ -85,6 +123,26 @@ REFUSED = (
 )
 
 
+def try_forms(folder):
+    """Repositories in a file of their own and inline."""
+    source, target = folder / "suse", folder / "plain"
+    source.mkdir()
+    inline = lambda text: "".join(f"#>{line}\n" for line in text.splitlines())
+    script = "repo a 0 testtags a.repo.gz\nrepo b 0 testtags <inline>\n{}job install name postfix\njob install name exim\njob favor provides {}\n"
+    (source / "testcase.t").write_text(script.format(inline(FORMS), "font\\28waver\\28brk\\29\\29"))
+    (source / "a.repo.gz").write_bytes(gzip.compress(FORMS.encode()))
+    run = subprocess.run([sys.executable, TOOL, source, target], capture_output=True, text=True)
+    same("what is told of SUSE's forms", (run.returncode, run.stderr), (0, FORMS_TOLD))
+    wanted = script.format(inline(PLAIN_FORMS), "font(waver(brk))").replace(".gz", "")
+    same("the script of SUSE's forms", (target / "testcase.t").read_text(), wanted)
+    same("the repository of SUSE's forms", (target / "a.repo").read_text(), PLAIN_FORMS)
+    if len(sys.argv) > 1:
+        (target / "testcase.t").write_text(wanted.replace("=Req: open\\28only", "=Sug: open\\28only"))
+        (target / "a.repo").write_text(PLAIN_FORMS.replace("=Req: open\\28only", "=Sug: open\\28only"))
+        solved = subprocess.run([sys.argv[1], "-r", target / "testcase.t"], capture_output=True, text=True)
+        same("two mail servers that exclude each other", (solved.returncode, solved.stderr, solved.stdout.count("conflicts with smtp_daemon") > 0), (0, "", True))
+
+
 def same(what, found, wanted):
     if found != wanted:
         sys.exit(f"{what}: found\n{found}\nand not\n{wanted}")
@@ -106,7 +164,8 @@ def main():
         same("what is installed", (target / "@System.repo").read_text(), INSTALLED)
         same("what is expected", (target / "results" / "solver.result").read_text(), RESULT.replace("erase", "obsolete"))
         again = subprocess.run([sys.executable, TOOL, source, target], capture_output=True, text=True)
-        same("a folder that is there already", again.returncode, 1)
+        same("a folder that is there already", again.returncode, 2)
+        try_forms(pathlib.Path(folder))
         for number, (script, fault) in enumerate(REFUSED):
             refused, nothing = pathlib.Path(folder, f"refused{number}"), pathlib.Path(folder, f"nothing{number}")
             refused.mkdir()
@@ -115,7 +174,7 @@ def main():
             (refused / "a.repo.gz").write_bytes(gzip.compress(LOCAL.encode()))
             (refused / "a.repo.zst").write_bytes(b"packed")
             run = subprocess.run([sys.executable, TOOL, refused, nothing], capture_output=True, text=True)
-            same(f"a script that is refused, {number}", (run.returncode, run.stderr.endswith(fault + "\n"), nothing.exists()), (1, True, False))
+            same(f"a script that is refused, {number}", (run.returncode, run.stderr.endswith(fault + "\n"), nothing.exists()), (2, True, False))
         if len(sys.argv) > 1:
             solved = subprocess.run([sys.argv[1], target / "testcase.t"], capture_output=True, text=True)
             same("what the program says", (solved.returncode, solved.stdout, solved.stderr), (0, "", ""))

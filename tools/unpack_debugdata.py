@@ -5,19 +5,25 @@
 
 FROM has libsolv's script testcase.t and what it names; TO is made, and must not be there yet. Repositories are unpacked. Lines
 and words that docs/FORMATS.md does not have are left out, and each kind of them is told once on stderr, with how often it
-stood there: first what may change the answer by itself. An expected transaction is kept where libsolv had one; problems, whose
-numbers are libsolv's own, are not. An erased package that another one obsoletes is `obsolete` here.
+stood there: first what may change the answer by itself. A conflict with libsolv's `namespace:otherproviders(X)` becomes one
+with X, since no package conflicts with itself here, and parentheses that libsolv writes as `\\28` and `\\29` become parentheses
+where the name has each with its partner. An expected transaction is kept where libsolv had one; problems, whose numbers are
+libsolv's own, are not. An erased package that another one obsoletes is `obsolete` here.
 
-Where anything fails, TO is not left behind, and the status is 1: a file that cannot be read or unpacked, two files that would
-come to one name, or a script whose jobs ask for something, and none of these is left.
+Where anything fails, TO is not left behind: a file that cannot be read or unpacked, two files that would come to one name, or a
+script whose jobs ask for something, and none of these is left.
 """
 import bz2
 import collections
 import gzip
 import lzma
 import pathlib
+import re
 import shutil
 import sys
+import zlib
+
+import testtags
 
 UNPACK = {".gz": gzip.decompress, ".bz2": bz2.decompress, ".xz": lzma.decompress, ".lzma": lzma.decompress}
 SOLVER_FLAGS = {"allowdowngrade", "allownamechange", "allowarchchange", "allowvendorchange", "allowuninstall",
@@ -33,6 +39,25 @@ JOB_FLAGS = {"forcebest": {"install", "update"}, "cleandeps": {"erase"}}
 AS_IT_IS = {"system", "namespace", "disable", "evrcmp"}
 # the lines of a transaction
 CHANGES = {"install", "erase", "upgrade", "downgrade", "change", "reinstall", "obsolete"}
+# an entry of a list, which may stand inline, by itself or in a block
+ENTRY = re.compile(rb"((?:#>)?(?:=[A-Z][a-z][a-z]: )?)(.*)", re.DOTALL)
+OTHER_PROVIDERS = re.compile(rb"namespace:otherproviders\((.*)\)")
+ESCAPED = re.compile(rb"\\([0-9a-f]{2})")
+
+
+def plain(word):
+    """A word with the bytes that libsolv writes as numbers, where it stays one word."""
+    made = ESCAPED.sub(lambda match: bytes([int(match[1], 16)]), word)
+    depth = 0
+    for byte in made:
+        depth += (byte == ord("(")) - (byte == ord(")"))
+        if depth < 0 or byte in b" \t\r\n\\":
+            return word
+    return word if depth or made[:1] in b"(<=>!" else made
+
+
+def plain_line(line):
+    return b" ".join(map(plain, line.split(b" "))) if ESCAPED.search(line) else line
 
 
 class Unpacking:
@@ -56,8 +81,23 @@ class Unpacking:
         data = (self.source / path).read_bytes()
         if path.suffix in UNPACK:
             data, path = UNPACK[path.suffix](data), path.with_suffix("")
-        self.write(path, data, name)
+        made = [made for line in data.split(b"\n") if (made := self.entry(line)) is not None]
+        self.write(path, b"\n".join(made), name)
         return str(path)
+
+    def entry(self, line):
+        """What a line of a repository becomes: a line, or None where it is left out."""
+        if b"\\" not in line and b"namespace:" not in line:
+            return line
+        head, text = ENTRY.fullmatch(line).groups()
+        if b"namespace:splitprovides(" in text:
+            self.decisive["that a package comes where a file moved to it (splitprovides)"] += 1
+            return None
+        if match := OTHER_PROVIDERS.fullmatch(text):
+            text = match[1]
+        elif b"namespace:otherproviders(" in text:
+            self.decisive["other providers (otherproviders) inside of a dependency, which nothing is here"] += 1
+        return head + plain_line(text)
 
     def write(self, path, data, name):
         if self.written.setdefault(str(path), name) != name:
@@ -103,12 +143,12 @@ class Unpacking:
         name = words[2]
         path = pathlib.PurePosixPath(name)
         inside = name != "<inline>" and not path.is_absolute() and ".." not in path.parts
-        lines = [line for line in (self.source / path).read_text().splitlines() if line.strip()] if inside else []
+        lines = [line for line in (self.source / path).read_text(**testtags.UTF).splitlines() if line.strip()] if inside else []
         if not inside or "transaction" not in words[1].split(",") or any(line.startswith("problem ") for line in lines):
             self.others["the expected lines"] += 1
             return None
         wanted = [self.change(line) for line in lines if line.split()[0] in CHANGES]
-        self.write(path, "".join(line + "\n" for line in wanted).encode(), name)
+        self.write(path, "".join(line + "\n" for line in wanted).encode(**testtags.UTF), name)
         for line in lines:
             if line.split()[0] not in CHANGES:
                 self.others[f"an expected line {line.split()[0]}"] += 1
@@ -121,6 +161,9 @@ class Unpacking:
 
     def line(self, line):
         """What a line of the script becomes: a line, or None where it is left out."""
+        if line.startswith("#>"):
+            made = self.entry(line.encode(**testtags.UTF))
+            return made if made is None else made.decode(**testtags.UTF)
         words = line.split()
         if not words or line.startswith("#"):
             return line
@@ -130,7 +173,7 @@ class Unpacking:
             case "solverflags":
                 return self.solverflags(words)
             case "job" if len(words) >= 2:
-                return self.job(words)
+                return self.job([plain(word.encode(**testtags.UTF)).decode(**testtags.UTF) for word in words])
             case "result" if len(words) == 3:
                 return self.result(words)
             case word if word in AS_IT_IS:
@@ -150,33 +193,33 @@ class Unpacking:
                 print(f"left out{note}{times}: {what}", file=sys.stderr)
 
     def run(self):
-        lines = (self.source / "testcase.t").read_text().splitlines()
+        lines = (self.source / "testcase.t").read_text(**testtags.UTF).splitlines()
         end = next((n for n, line in enumerate(lines) if line.split()[:1] == ["nextjob"]), len(lines))
         if end < len(lines):
             self.decisive["the rest behind a line nextjob"] += 1
         made = [made for line in lines[:end] if (made := self.line(line)) is not None]
-        self.write(pathlib.PurePosixPath("testcase.t"), "".join(line + "\n" for line in made).encode(), "testcase.t")
+        self.write(pathlib.PurePosixPath("testcase.t"), "".join(line + "\n" for line in made).encode(**testtags.UTF), "testcase.t")
         self.tell()
         if self.asked and not self.kept:
             raise ValueError("no job is left that asks for something")
 
 
-def main():
-    if len(sys.argv) != 3:
-        sys.exit("usage: unpack_debugdata.py FROM TO")
-    source, target = map(pathlib.Path, sys.argv[1:])
-    if not (source / "testcase.t").is_file():
-        sys.exit(f"{source}: there is no testcase.t")
+def main(given):
+    if not (given.source / "testcase.t").is_file():
+        raise testtags.Fault(f"{given.source}: there is no testcase.t")
+    given.target.mkdir(parents=True)
     try:
-        target.mkdir(parents=True)
-    except OSError as error:
-        sys.exit(f"{target}: {error}")
-    try:
-        Unpacking(source, target).run()
-    except (OSError, EOFError, ValueError, lzma.LZMAError) as error:
-        shutil.rmtree(target)
-        sys.exit(f"{source}: {error}")
+        Unpacking(given.source, given.target).run()
+    except BaseException as error:
+        shutil.rmtree(given.target)
+        if isinstance(error, (OSError, EOFError, ValueError, lzma.LZMAError, zlib.error)):
+            raise testtags.Fault(f"{given.source}: {error}")
+        raise
+    return 0
 
 
 if __name__ == "__main__":
-    main()
+    arguments = testtags.arguments(__doc__)
+    arguments.add_argument("source", metavar="FROM", type=pathlib.Path)
+    arguments.add_argument("target", metavar="TO", type=pathlib.Path)
+    testtags.run(main, arguments)
