@@ -5,10 +5,10 @@ import rounds
 import testtags
 
 COVER = "all-that-can-be-installed-together"
-# so many packages are recommended at once, about; and for each process so many have to come, or it is not done again
+# so many packages are recommended at once, at most; and of each share so many have to come, or it is not done again
 SHARE, GAIN = 8000, 40
 # so many packages are asked for in one round, at most
-TOGETHER = 1000
+TOGETHER = 250
 
 
 def cover(given, folder, head, share, job):
@@ -24,8 +24,9 @@ def uncovered(given, folder, head, rest):
     progress, is_first = testtags.Progress("packages can be installed"), True
     while rest:
         texts = list(rest)
-        count = given.processes * max(1, len(rest) // given.processes // SHARE)
-        shares = [{text: rest[text] for text in texts[at::count]} for at in range(min(count, len(rest)))]
+        # (how many shares there are must not depend on the processes, or the lines of problems would)
+        count = -(-len(rest) // SHARE)
+        shares = [{text: rest[text] for text in texts[at::count]} for at in range(count)]
         with concurrent.futures.ThreadPoolExecutor(given.processes) as pool:
             # (what was passed over before, as another architecture of a name, comes first the next time)
             job_for = lambda share: "job noop" if is_first else f"job favor oneof {' '.join(share)}"
@@ -33,7 +34,7 @@ def uncovered(given, folder, head, rest):
         left = {text: package for text, package in rest.items() if text not in came}
         gained, rest, is_first = len(rest) - len(left), left, False
         progress.step(gained)
-        if gained < GAIN * given.processes:
+        if gained < GAIN * count:
             break
     progress.end()
     return rest
@@ -56,7 +57,7 @@ def together(given, folder, head, rest):
     cannot be installed together. Those that no problem lists are in a set that meets all else, so they can be installed.
     """
     texts = list(rest)
-    count = max(min(given.processes, len(texts) // 20), -(-len(texts) // TOGETHER))
+    count = -(-len(texts) // TOGETHER)
     shares = [texts[at::count] for at in range(count)]
     jobs = ["".join(f"job install pkg {text}\n" for text in share) for share in shares]
     asked = [f"solverflags noinfarchcheck\n{all_of_share}result problems <inline>\n" for all_of_share in jobs]

@@ -1,22 +1,23 @@
 #!/usr/bin/env python3
 """Tells which packages of repositories cannot be installed, and why.
 
-    tools/installable.py REPO .. [--beside OTHER ..] [--only NAME ..] [--arch ARCH] [--proof FILE]
+    tools/installable.py REPO .. [--beside OTHER ..] [--only NAME ..] [--arch ARCH] [--proof FILE] [--jobs N]
+                         [--locale LOCALE ..] [--modalias FILE] [--filesystem NAME ..]
 
 Each REPO is a repository in testtags format, as rpmmd_to_testtags.py makes them. A package can be installed where some set of
 packages of all these and of the OTHERs has it and meets the rules, with nothing installed before; those of the OTHERs are not
 asked for themselves. With --only it is asked for the packages of these names alone. Packages of another architecture are left
-out, and told on the error stream; one that is inferior to another of the name may come.
+out, and told on the error stream; one that is inferior to another of the name may come. So is told where a repository may lack
+files, since the converter did not know of another one (--with).
 
-The program testsolv runs in as many processes as there are processors. At first made packages are installed that recommend
-thousands of packages: what comes can be installed. The rest is asked for together, many in one round, and of whom that does
-not tell alone. Those that cannot be installed are told with the lines of their problem, grouped by the cause that most of them
-share. With --proof the proof of each problem is written to FILE, and the script that it is of, with a round for each, to
-FILE.t, which stands alone; `proofcheck FILE.t FILE` has said yes to all.
-
-The status is 0 where all can be installed, 1 where one cannot, or where the budget was spent over one, and 2 where something
-is wrong, which one line tells.
+The program testsolv runs in N processes at a time, and without --jobs in as many as there are processors; what is printed is
+the same for each N. At first made packages are installed that recommend thousands of packages: what comes can be installed. The
+rest is asked for together, many in one round, and of whom that does not tell alone. Those that cannot be installed are told
+with the lines of their problem, grouped by the cause that most of them share. With --proof the proof of each problem is written
+to FILE, and the script that it is of, with a round for each, to FILE.t, which stands alone; `proofcheck FILE.t FILE` has said
+yes to all.
 """
+import argparse
 import collections
 import heapq
 import os
@@ -26,6 +27,7 @@ import sys
 import tempfile
 
 import asking
+import machine
 import rounds
 import testtags
 
@@ -35,19 +37,24 @@ WEIGHTS = ("nothing provides", "is not installable", "conflicts with", "cannot i
 
 def asked_for(given, names):
     """The texts of the packages that are asked for, each with its package, in their order."""
-    known = {}
+    known, twice = {}, []
     for path, repo in zip(given.repos, names):
         for package, _ in testtags.packages(path):
-            known.setdefault(rounds.package_text(package, repo), package)
+            text = rounds.package_text(package, repo)
+            twice += [text] if text in known else []
+            known.setdefault(text, package)
+    for text in sorted(set(twice)):
+        print(f"it stands there more than once, and what is said may hold of one alone: {text}", file=sys.stderr)
     if given.only:
         for name in set(given.only) - {package.name for package in known.values()}:
             raise testtags.Fault(f"{name}: no repository has a package of this name")
         known = {text: package for text, package in known.items() if package.name in given.only}
-    allowed = {*rounds.ARCHITECTURES[given.arch], "noarch"}
-    others = collections.Counter(package.arch for package in known.values() if package.arch not in allowed)
-    for arch, count in sorted(others.items()):
-        print(f"left out: {count} packages of the architecture {arch}", file=sys.stderr)
-    return {text: package for text, package in known.items() if package.arch in allowed}
+    allowed = rounds.ALLOWED[given.arch]
+    rounds.tell_left_out(package for package in known.values() if package.arch not in allowed)
+    asked = {text: package for text, package in known.items() if package.arch in allowed}
+    if not asked:
+        raise testtags.Fault(f"there is no package to ask for: {', '.join(map(str, given.repos))}")
+    return asked
 
 
 def cause_of(line):
@@ -96,11 +103,21 @@ def prove(given, folder, head, failing):
     print(f"{len(checked)} proofs in {given.proof}, checked against {script}")
 
 
+def number_of_processes(text):
+    if not text.isdecimal() or int(text) == 0:
+        raise argparse.ArgumentTypeError(f"{text} is no number of processes, which is 1 or more")
+    return int(text)
+
+
 def main(given):
+    for path in [given.proof, pathlib.Path(f"{given.proof}.t")] if given.proof else []:
+        testtags.can_be_written(path)
     paths = given.repos + given.beside
     names = rounds.repo_names(paths)
-    head = rounds.head(paths, names, given.arch)
+    testtags.expect_packages(paths)
+    head = rounds.head(paths, names, given.arch) + machine.namespaces(given, paths)
     asked = asked_for(given, names)
+    testtags.tell_made_without(paths)
     with tempfile.TemporaryDirectory() as folder:
         failing, spent = asking.failing(given, folder, head, asked)
         print(f"{len(failing)} of {len(asked)} packages cannot be installed")
@@ -118,7 +135,7 @@ def main(given):
 
 
 if __name__ == "__main__":
-    arguments = testtags.arguments(__doc__)
+    arguments = testtags.arguments(__doc__, "a package cannot be installed, or the budget was spent over one")
     arguments.add_argument("repos", metavar="REPO", nargs="+", type=pathlib.Path)
     arguments.add_argument("--beside", metavar="OTHER", nargs="+", type=pathlib.Path, default=[])
     arguments.add_argument("--only", metavar="NAME", nargs="+", default=[])
@@ -126,5 +143,6 @@ if __name__ == "__main__":
     arguments.add_argument("--proof", metavar="FILE", type=pathlib.Path)
     arguments.add_argument("--program", type=pathlib.Path, default=rounds.TESTSOLV, help="testsolv, where it is not where it was built")
     arguments.add_argument("--checker", type=pathlib.Path, default=rounds.PROOFCHECK, help="proofcheck")
-    arguments.add_argument("--processes", type=int, default=len(os.sched_getaffinity(0)))
+    arguments.add_argument("--jobs", dest="processes", metavar="N", type=number_of_processes, default=len(os.sched_getaffinity(0)))
+    machine.add_options(arguments)
     testtags.run(main, arguments)

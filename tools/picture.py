@@ -8,8 +8,7 @@ the problems the first. Without --svg it is drawn as text: below each job and ea
 needs or clashes with. With --svg Graphviz draws it into FILE, which may end with .png or .pdf too: jobs are blue, packages
 white, what nobody provides and what clashes red, and the ways out dashed. A package points to what meets its requirement.
 
-All that is drawn is what testsolv prints of the problem; which package meets what is asked of it too. The status is 2 where
-something is wrong, which one line tells, and 0 otherwise.
+All that is drawn is what testsolv prints of the problem; which package meets what is asked of it too.
 """
 import pathlib
 import re
@@ -197,6 +196,7 @@ def named_and_met(program, folder, script, problem):
 
 
 def main(given):
+    testtags.can_be_written(given.svg)
     answers = rounds.rounds_of(rounds.run(given.program, *rounds.BUDGET, "-r", given.script, statuses=(0, 1))[0])
     problems = [rounds.problems(answer) for answer in answers]
     number = given.round or next((n for n, found in enumerate(problems, 1) if found), 0)

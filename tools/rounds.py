@@ -5,6 +5,7 @@ import contextlib
 import pathlib
 import re
 import subprocess
+import sys
 import tempfile
 
 from testtags import UTF, Fault
@@ -13,8 +14,11 @@ CRATES = pathlib.Path(__file__).resolve().parent.parent / "crates"
 TESTSOLV, PROOFCHECK = (CRATES / name / "out" / name for name in ("testsolv", "proofcheck"))
 # the architectures that each one allows, beside noarch
 ARCHITECTURES = {"x86_64": ("x86_64", "i686", "i586", "i486", "i386"), "i686": ("i686", "i586", "i486", "i386"), "aarch64": ("aarch64",)}
+ALLOWED = {arch: {*others, "noarch"} for arch, others in ARCHITECTURES.items()}
 # the greatest budget, in learnt clauses for all rounds of one run
 BUDGET = ("--budget", "1000000")
+# so many rounds has one run at most
+MOST = 250
 PROBLEM = re.compile(r"problem (\d+) (info|solution (\d+)) (.*)")
 
 
@@ -38,6 +42,12 @@ def run(program, *words, statuses=(0, 1)):
 
 def package_text(package, repo):
     return f"{package.name}-{package.evr}.{package.arch}@{repo}"
+
+
+def tell_left_out(packages):
+    """Tells of packages of architectures that are not asked for."""
+    for arch, count in sorted(collections.Counter(package.arch for package in packages).items()):
+        print(f"left out: {count} packages of the architecture {arch}", file=sys.stderr)
 
 
 def repo_names(paths):
@@ -71,11 +81,16 @@ def rounds_of(text):
 
 @contextlib.contextmanager
 def script(folder, script_head, rounds):
-    """A script with these rounds, for as long as it is wanted."""
+    """A script with these rounds, for as long as it is wanted; a fault that names a line of it tells the line itself."""
+    text = "\n".join(script_head) + "\n" + "nextjob\n".join(rounds)
     with tempfile.NamedTemporaryFile("w", suffix=".t", dir=folder, **UTF) as file:
-        file.write("\n".join(script_head) + "\n" + "nextjob\n".join(rounds))
+        file.write(text)
         file.flush()
-        yield file.name
+        try:
+            yield file.name
+        except Fault as fault:
+            match = re.fullmatch(rf"\S+: {re.escape(file.name)}:(\d+): (\w+)", str(fault))
+            raise Fault(f"testsolv does not take the line \"{text.splitlines()[int(match[1]) - 1]}\": {match[2]}") if match else fault
 
 
 def answers(program, folder, script_head, rounds):
@@ -102,9 +117,9 @@ def in_shares(work, rounds, size, processes, progress):
 
 
 def answered(program, folder, script_head, rounds, processes, progress):
-    """The answers of the rounds by so many processes at a time, each with a share of them."""
+    """The answers of the rounds by so many processes at a time, each with a share of them, and another one when that is done."""
     work = lambda share, place: list(answers(program, folder, script_head, share))
-    size = max(1, min(500, -(-len(rounds) // processes)))
+    size = max(1, min(MOST, -(-len(rounds) // processes)))
     return [answer for found in in_shares(work, rounds, size, processes, progress) for answer in found]
 
 

@@ -53,6 +53,10 @@ OTHER = """\
 """
 
 
+MACHINE = "".join(f"=Pkg: {name} 1 1 noarch\n=Req: namespace:{what}\n" for name, what in (
+    ("german", "language(de)"), ("english", "language(en)"), ("wlan", "modalias(pci:v0000104Cd*803[0-9]*)"),
+    ("battery", "modalias(acpi:PNP0C0A%2C%20x:)"), ("usb", "modalias(usb:v1234*)"), ("xfs", "filesystem(xfs)")))
+
 # forty packages of two architectures each, more than are asked for one by one
 TWO = "".join(f"=Pkg: lib{n} 1 1 {arch}\n=Prv: lib{n}.so({arch})\n" + (f"=Req: lib{n // 2}.so({arch})\n" if n else "")
               for n in range(40) for arch in ("x86_64", "i686"))
@@ -119,6 +123,55 @@ def try_bulk(program, folder):
     same("some cannot be installed", failing > 20, True)
 
 
+def try_processes(program, folder):
+    """The same lines for each number of processes, where shares are many."""
+    asking.TOGETHER, asking.GAIN, asking.SHARE = 7, 1, 30
+    path = folder / "drawn.repo"
+    path.write_text(drawn(random.Random(3), 150))
+    head = rounds.head([path], ["drawn"], "x86_64")
+    found = []
+    for processes in (1, 2, 5):
+        given = argparse.Namespace(repos=[path], only=[], arch="x86_64", program=program, processes=processes)
+        found.append(list(asking.failing(given, folder, head, installable.asked_for(given, ["drawn"]))[0].items()))
+    same("many shares", len(found[0]) > 3 * asking.TOGETHER, True)
+    for number, one in enumerate(found):
+        same(f"the lines of the first number of processes and of another, {number}", one, found[0])
+
+
+def try_machine(programs, folder):
+    """What a machine has besides packages."""
+    path, aliases = folder / "machine.repo", folder / "aliases"
+    path.write_text(MACHINE)
+    aliases.write_text("usb:v1D6Bp0002\npci:v0000104Cd00008039sv00\nacpi:PNP0C0A, x:\n")
+    for words, wanted in (([], ["german", "english", "wlan", "battery", "xfs"]), (["--locale", "de_AT.UTF-8"], ["wlan", "battery", "xfs"]),
+                          (["--modalias", aliases], ["german", "english", "xfs"]), (["--filesystem", "ext4", "xfs"], ["german", "english", "wlan", "battery"])):
+        told = run(programs, path, *words)[1]
+        same(f"what cannot be installed with {words}", sorted(line.split("-")[0].strip() for line in told.splitlines() if line.endswith("@machine")
+             and not line.startswith("    ")), sorted([*wanted, "usb"]))
+
+
+def try_faults(programs, folder):
+    """What is found before anything is asked: no program is there."""
+    none, compose = ["nosuch", "nosuch"], [COMPOSE]
+    for name, text, fault in (("empty", "", "it has no package: it is no repository in testtags format, or was cut to nothing"),
+                              ("page", "<html>\n", "it has no package: it is no repository in testtags format, or was cut to nothing")):
+        path = folder / f"{name}.repo"
+        path.write_text(text)
+        same(f"a file that is no repository, {name}", run(none, path), (2, "", f"{path}: {fault}\n"))
+        same(f"the same beside another, {name}", run(none, *compose, "--beside", path), (2, "", f"{path}: {fault}\n"))
+    path.write_text("# rpmmd_to_testtags.py /srv/os --with\n")
+    same("a repository without packages", run(none, path), (2, "", f"there is no package to ask for: {path}\n"))
+    lost = folder / "nosuch" / "proof"
+    same("proofs in no folder", run(none, *compose, "--proof", lost), (2, "", f"{lost}: it cannot be written, since its folder is not there, or may not be written\n"))
+    for number in ("0", "-1", "two"):
+        status, told, errors = run(none, *compose, f"--jobs={number}")
+        same(f"processes, {number}", (status, told, errors.splitlines()[-1].partition("error: ")[2]),
+             (2, "", f"argument --jobs: {number} is no number of processes, which is 1 or more"))
+    path.write_text("=Pkg: tool 1 1 noarch\n=Req: none\n=Pkg: tool 1 1 noarch\n")
+    same("a package that stands twice", run(programs, path)[2],
+         "it stands there more than once, and what is said may hold of one alone: tool-1-1.noarch@page\n")
+
+
 def main():
     programs = [pathlib.Path(word).resolve() for word in sys.argv[1:]] or [TESTSOLV, PROOFCHECK]
     for program in programs:
@@ -146,7 +199,10 @@ def main():
         other.write_text("=Pkg: tool 1 1 noarch\n=Req: a &\n")
         same("a bad dependency", run(programs, other)[::2], (2, f"testsolv: {other}:2: MissingOperand\n"))
         same("a name that is not there", run(programs, COMPOSE, "--only", "nosuch")[::2], (2, "nosuch: no repository has a package of this name\n"))
+        try_machine(programs, folder)
+        try_faults(programs, folder)
         try_bulk(programs[0], folder)
+        try_processes(programs[0], folder)
         try_budget(programs[0], folder)
         same("no program", run(["nosuch", "nosuch"], COMPOSE)[0], 2)
     print("as it should be")

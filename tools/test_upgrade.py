@@ -60,9 +60,79 @@ set 3, charts: 2 packages
 """
 
 
+# a machine that speaks German, and its upgrade
+LANGUAGES = ("=Pkg: app 1 1 noarch\n=Pkg: old 1 1 noarch\n",
+             "=Pkg: app 2 1 noarch\n{}=Pkg: old 1 1 noarch\n=Pkg: app-lang 2 1 noarch\n=Sup: app & namespace:language(de)\n"
+             "=Pkg: old-lang 1 1 noarch\n=Sup: old & namespace:language(de)\n=Pkg: fonts 1 1 noarch\n=Sup: namespace:language(de)\n")
+# an upgrade that one package stands in the way of, and many go with it
+MANY = ("=Pkg: lib 1 1 noarch\n" + "".join(f"=Pkg: user{number} 1 1 noarch\n=Req: lib < 2\n" for number in range(3)),
+        "=Pkg: other 2 1 noarch\n=Obs: lib\n")
+LIBSOLVS = pathlib.Path("/usr/bin/testsolv")
+WRONG_JOBS = (("frobnicate name vim", 'testsolv does not take the line "job frobnicate name vim": UnknownJob'),
+              ("lock pkg", 'testsolv does not take the line "job lock pkg": BadWords'),
+              ("lock name vim\nnextjob", "--job 'lock name vim\\nnextjob': it is more than one line"))
+
+
 def run(program, *words):
     done = subprocess.run([sys.executable, TOOLS / "upgrade.py", "--program", program, *words], capture_output=True, text=True)
     return done.returncode, done.stdout, done.stderr
+
+
+def come(program, script):
+    """The texts of the packages that come."""
+    lines = subprocess.run([program, "-r", script], capture_output=True, text=True).stdout.splitlines()
+    return {line.split()[-1] for line in lines if line.startswith(("install ", "upgrade "))}
+
+
+def try_languages(program, folder):
+    """What a machine calls for whatever is done stays out, as by libsolv, but where it is required."""
+    old, new, script = folder / "old.repo", folder / "new.repo", folder / "languages.t"
+    old.write_text(LANGUAGES[0])
+    for requirement, wanted in (("", {"app-2-1.noarch@new", "app-lang-2-1.noarch@new"}),
+                                ("=Req: fonts\n", {"app-2-1.noarch@new", "app-lang-2-1.noarch@new", "fonts-1-1.noarch@new"})):
+        new.write_text(LANGUAGES[1].format(requirement))
+        status, told, errors = run(program, old, new, "--locale", "de_DE", "--script", script)
+        counts = f"  it goes through: 1 upgraded, {len(wanted) - 1} new, 0 gone, 1 as they are"
+        if requirement:
+            same("a required package that the machine calls for", (status, "fonts-1-1.noarch@new" in come(program, script)), (0, True))
+            continue
+        same("languages", (status, told.splitlines()[1], errors), (0, counts, ""))
+        same("what comes", come(program, script), wanted)
+        if LIBSOLVS.is_file():
+            plain = folder / "plain.t"
+            plain.write_text("".join(f"{line}\n" for line in script.read_text().splitlines() if not line.startswith("job lock ")))
+            same("what comes by libsolv without any lock", come(LIBSOLVS, plain), wanted)
+        else:
+            print(f"skipped: there is no program {LIBSOLVS}")
+        same("a set", run(program, new, new, "--locale", "de", "--set", "old")[1].splitlines()[0], "set 1, old: 2 packages")
+        same("a set that asks for it", run(program, new, new, "--locale", "de", "--set", "old,fonts")[1].splitlines()[0], "set 1, old,fonts: 3 packages")
+
+
+def try_many(program, folder):
+    """Source packages, and a way out of many elements."""
+    old, new = folder / "many.repo", folder / "less.repo"
+    old.write_text(MANY[0] + "=Pkg: lib 1 1 src\n=Req: compiler\n=Pkg: x 1 1 nosrc\n")
+    new.write_text(MANY[1])
+    status, told, errors = run(program, old, new, "--job", "install name other")
+    same("source packages", (status, errors), (1, "left out: 1 packages of the architecture nosrc\nleft out: 1 packages of the architecture src\n"))
+    same("how many are installed", told.splitlines()[0], f"set 1, {old}: 4 packages")
+    erased = "".join(f"      erase user{number}-1-1.noarch@system\n" for number in range(3))
+    same("a way out of many elements", erased in told and ":\n      erase" in told, True)
+    old.write_text("=Pkg: lib 1 1 src\n")
+    same("nothing is installed", run(program, old, new)[::2], (2, "left out: 1 packages of the architecture src\n"
+         f"{old}: no package of it is installed, so there is nothing to upgrade\n"))
+
+
+def try_faults(program, folder):
+    """What is found before anything is asked."""
+    for job, fault in WRONG_JOBS:
+        same(f"a wrong job, {job}", run(program, OLD, NEW, "--set", "bash", "--job", job), (2, "", f"{fault}\n"))
+    lost = folder / "nosuch" / "upgrade.t"
+    same("a script in no folder", run("nosuch", OLD, NEW, "--script", lost),
+         (2, "", f"{lost}: it cannot be written, since its folder is not there, or may not be written\n"))
+    (folder / "empty.repo").write_text("")
+    same("an empty repository", run("nosuch", OLD, folder / "empty.repo"),
+         (2, "", f"{folder}/empty.repo: it has no package: it is no repository in testtags format, or was cut to nothing\n"))
 
 
 def main():
@@ -93,6 +163,9 @@ def main():
         same("an update of the old release", "#>=Pkg: bash 5.2.15 6.fc39 x86_64" in script.read_text(), True)
         status, told, errors = run(program, NEW, NEW)
         same("all packages of the old release", (status, told, errors), (0, f"set 1, {NEW}: 6 packages\n  it goes through: 0 upgraded, 0 new, 0 gone, 6 as they are\n", ""))
+        try_languages(program, folder)
+        try_many(program, folder)
+        try_faults(program, folder)
         same("no such group", run(program, OLD, NEW, "--set", "@nosuch")[::2], (2, "@nosuch: no group of this name; --groups names the file that has them\n"))
         comps.write_text("<comps>\n<group></comps>\n")
         same("a broken file of groups", run(program, OLD, NEW, "--groups", comps)[::2], (2, f"{comps}:2: mismatched tag: line 2, column 9\n"))

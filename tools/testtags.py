@@ -14,6 +14,7 @@ import subprocess
 import sys
 import tempfile
 import textwrap
+import threading
 import time
 import traceback
 import zlib
@@ -47,9 +48,12 @@ def run(main, arguments):
     except KeyboardInterrupt:
         status = 130
     except BrokenPipeError:
-        sys.stderr.close()
+        # (who reads no further is told nothing)
+        os.dup2(os.open(os.devnull, os.O_WRONLY), sys.stdout.fileno())
         status = 2
     except Exception as error:
+        if Progress.shown:
+            Progress.shown.end()
         print(cause_of(error), file=sys.stderr)
         status = 2
     sys.exit(status)
@@ -81,19 +85,28 @@ def can_be_written(path):
 
 
 class Progress:
-    """How far a tool is, on a terminal only."""
+    """How far a tool is and for how long, on a terminal only: it is told anew twice a second, whether it went on or not."""
+    shown = None
 
     def __init__(self, what):
-        self.what, self.count, self.told, self.is_shown = what, 0, 0, sys.stderr.isatty()
+        self.what, self.count, self.begin, self.ended = what, 0, time.monotonic(), threading.Event()
+        if sys.stderr.isatty():
+            Progress.shown = self
+            self.thread = threading.Thread(target=self.tell, daemon=True)
+            self.thread.start()
+
+    def tell(self):
+        while not self.ended.wait(0.5):
+            print(f"\r\033[K{self.count:,} {self.what}, {int(time.monotonic() - self.begin)} s", end="", file=sys.stderr, flush=True)
 
     def step(self, count=1):
         self.count += count
-        if self.is_shown and time.monotonic() > self.told + 0.2:
-            self.told = time.monotonic()
-            print(f"\r\033[K{self.count:,} {self.what}", end="", file=sys.stderr, flush=True)
 
     def end(self):
-        if self.is_shown:
+        if Progress.shown is self:
+            Progress.shown = None
+            self.ended.set()
+            self.thread.join()
             print("\r\033[K", end="", file=sys.stderr, flush=True)
 
 
@@ -285,6 +298,12 @@ def packages(path):
         raise Fault(f"{path}: it has no package: it is no repository in testtags format, or was cut to nothing")
 
 
+def expect_packages(paths):
+    """Fails where one of the files is no repository, before anything is done for them."""
+    for path in paths:
+        next(packages(path), None)
+
+
 def package_of(words, lines):
     name, version, release, arch = words
     vendors = [line[5:].strip(BLANKS) for line in lines if line.startswith("=Vnd:")]
@@ -294,3 +313,46 @@ def package_of(words, lines):
 def named_files(path):
     """The names of files that the dependencies of a repository ask for."""
     return {name for _, line in lines_of(path) if "/" in line and line[:5] in ASKING for name in file_names(line[5:])}
+
+
+class Contents:
+    """The names of a repository's packages, and of each file that they have or provide, as far as it tells, those that have it."""
+
+    def __init__(self, path):
+        self.names, self.owners = set(), collections.defaultdict(set)
+        for package, lines in packages(path):
+            self.names.add(package.name)
+            for line in lines:
+                if line.startswith(("=Fls: /", "=Prv: /")):
+                    self.owners[line[6:]].add(package.name)
+
+
+def made_without(paths):
+    """Which of the repositories were made without which others of them: the converter then left files out that those name."""
+    origins = {path: origin_of(path) for path in paths}
+    for path, origin in origins.items():
+        if origin:
+            known = {origin[0], *origin[1]}
+            made_of = lambda other: {str(other.resolve()), *(origins[other] or ())[:1]}
+            if without := [other for other in paths if other != path and not known & made_of(other)]:
+                yield path, without
+
+
+def may_lack(contents, path, names):
+    """Those of the files that a repository may have though it does not tell: nothing has one, or its owner is there too."""
+    others = [one.owners for one in contents.values()]
+    for name in sorted(names - contents[path].owners.keys()):
+        owners = set().union(*(owned[name] for owned in others if name in owned))
+        if not owners or owners & contents[path].names:
+            yield name
+
+
+def tell_made_without(paths):
+    """Tells where a file may be missing, since a repository was made without another one whose dependencies name it."""
+    suspected = list(made_without(paths))
+    contents = {path: Contents(path) for path in paths} if suspected else {}
+    for path, others in suspected:
+        for other in others:
+            if names := list(may_lack(contents, path, named_files(other))):
+                more = f" and {len(names) - 1} more" if len(names) > 1 else ""
+                print(f"{path} may lack {names[0]}{more}, for which {other} asks: it was made without --with {other}", file=sys.stderr)

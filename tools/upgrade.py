@@ -2,20 +2,23 @@
 """Tells whether the upgrade from one release to the next goes through, and what it changes.
 
     tools/upgrade.py OLD NEW .. [--beside OTHER ..] [--set WORD,WORD,..] .. [--groups COMPS] [--job JOB] .. [--script FILE]
+                     [--locale LOCALE ..] [--modalias FILE] [--filesystem NAME ..]
 
-OLD, each OTHER, which belongs to the old release too, and each NEW are repositories in testtags format, as rpmmd_to_testtags.py makes them. Each --set is an installation: what
-testsolv installs from the old release for its words, which are names of packages, or else what some package provides, or groups as @core
-of COMPS, a file as repodata has it (their mandatory and default packages, or the groups of an environment). Without a set all
-packages of the old release are what is installed, as rpmdb_to_testtags.py tells it of a machine.
+OLD, each OTHER, which belongs to the old release too, and each NEW are repositories in testtags format, as rpmmd_to_testtags.py
+makes them. Each --set is an installation: what testsolv installs from the old release for its words, which are names of
+packages, or else what some package provides, or groups as @core of COMPS, a file as repodata has it (their mandatory and
+default packages, or the groups of an environment). Without a set all packages of the old release are what is installed, as
+rpmdb_to_testtags.py tells it of a machine; those of another architecture, as source packages, are left out, which is told on
+the error stream. So is told where a repository may lack files, since the converter did not know of another one (--with).
 
 Each JOB is a further job of the upgrade, as "multiversion name kernel", "lock name vim" or "allowuninstall all packages".
+With --locale, --modalias and --filesystem what a machine has besides packages may call for some. What it would call for
+whatever is done, since nothing of it changes, is kept out where there is an answer without it.
 
 For each set testsolv is asked for a distribution upgrade to the packages of NEW, and it is told what goes, what another package
 obsoletes, what goes back to a lower version, what changes its architecture or vendor, and what stays though no NEW has it; or
 the problems with the ways out of each. With --script the script is written as one text, for `testsolv --proof` and picture.py;
 from the second set on its number stands in the name too, as upgrade-2.t.
-
-The status is 0 where all upgrades go through, 1 where one does not, and 2 where something is wrong, which one line tells.
 """
 import collections
 import pathlib
@@ -23,6 +26,7 @@ import sys
 import tempfile
 import xml.etree.ElementTree
 
+import machine
 import rounds
 import testtags
 
@@ -71,13 +75,26 @@ def answer_of(given, folder, head, jobs):
     return answer
 
 
+def answer_without_more(given, folder, repositories, head, jobs, installed=()):
+    """The answer, and its jobs: they lock what the machine would call for whatever is done, where that leaves no problem."""
+    answer = answer_of(given, folder, head + given.namespaces, jobs)
+    if not given.namespaces or rounds.problems(answer):
+        return answer, jobs
+    gone = {word for line in answer for word in line.split()[1:]}
+    stays = [(package, lines) for package, lines in installed if rounds.package_text(package, SYSTEM) not in gone]
+    names = machine.called_for(given, folder, repositories, given.namespaces, stays)
+    locking = jobs + "".join(f"job lock name {name}\n" for name in sorted(names))
+    other = answer_of(given, folder, head + given.namespaces, locking) if names else answer
+    return (answer, jobs) if rounds.problems(other) else (other, locking)
+
+
 def tell_problems(what, answer):
     found = rounds.problems(answer)
     print(f"  {what}: {len(found)} problem{'s' if len(found) > 1 else ''}")
     for number, problem in found.items():
         print(f"  problem {number}:" + "".join(f"\n    {line}" for line in problem.info))
         for way, lines in problem.solutions.items():
-            print(f"    way out {way}: {', '.join(lines)}")
+            print(f"    way out {way}: {', '.join(lines)}" if len(lines) < 3 else f"    way out {way}:" + "".join(f"\n      {line}" for line in lines))
 
 
 class Upgrade:
@@ -118,63 +135,86 @@ class Upgrade:
             print(f"  {what}: {len(lines)}" + "".join(f"\n    {line}" for line in lines))
 
 
-def upgrade(given, folder, number, installed, new_names):
-    """Asks for the upgrade of what is installed, tells of it, and whether it goes through."""
-    paths = [folder / f"{SYSTEM}.repo", *given.new]
-    head = rounds.head(paths, [SYSTEM, *new_names], given.arch, SYSTEM)
-    jobs = "".join(f"job {job}\n" for job in ["distupgrade all packages", *given.jobs])
+def write_script(given, folder, number, head, jobs):
+    """Writes the script of a set as one text, where that is wanted."""
     if given.script:
-        script = folder / "upgrade.t"
-        script.write_text("\n".join(head) + "\n" + jobs, **testtags.UTF)
         place = given.script if number == 1 else given.script.with_stem(f"{given.script.stem}-{number}")
-        place.write_text(rounds.run(given.program, "--write", script)[0], **testtags.UTF)
-    answer = answer_of(given, folder, head, jobs)
+        with rounds.script(folder, head + given.namespaces, [jobs]) as name:
+            place.write_text(rounds.run(given.program, "--write", name)[0], **testtags.UTF)
+
+
+def upgrade(given, folder, number, installed, news):
+    """Asks for the upgrade of what is installed, tells of it, and whether it goes through."""
+    head = rounds.head([folder / f"{SYSTEM}.repo", *news.values()], [SYSTEM, *news], given.arch, SYSTEM)
+    jobs = "".join(f"job {job}\n" for job in ["distupgrade all packages", *given.jobs])
+    write_script(given, folder, number, head, jobs)
+    answer, asked = answer_without_more(given, folder, news, head, jobs, installed)
+    if asked != jobs:
+        write_script(given, folder, number, head, asked)
     if rounds.problems(answer):
         tell_problems("it does not go through", answer)
         return False
-    new = {rounds.package_text(package, name): package
-           for name, path in zip(new_names, given.new) for package, _ in testtags.packages(path)}
-    Upgrade(answer, {rounds.package_text(package, SYSTEM): package for package in installed}, new).tell()
+    new = {rounds.package_text(package, name): package for name, path in news.items() for package, _ in testtags.packages(path)}
+    Upgrade(answer, {rounds.package_text(package, SYSTEM): package for package, _ in installed}, new).tell()
     return True
 
 
 def install(given, folder, words, groups, names):
-    """What is installed in a set, or None where it cannot be; written as a repository."""
-    olds, chosen = [given.old, *given.beside], None
-    old_names = rounds.repo_names(olds)
+    """The packages that are installed in a set with their lines, or None where it cannot be; they are written as a repository."""
+    olds, chosen = dict(zip(rounds.repo_names([given.old, *given.beside]), [given.old, *given.beside])), None
     if words is not None:
-        head = rounds.head(olds, old_names, given.arch)
-        answer = answer_of(given, folder, head, "".join(jobs_for(words, groups, names)))
+        head = rounds.head(olds.values(), olds, given.arch)
+        answer, _ = answer_without_more(given, folder, olds, head, "".join(jobs_for(words, groups, names)))
         if rounds.problems(answer):
             tell_problems("it cannot be installed from the old release", answer)
             return None
         chosen = {line.removeprefix("install ") for line in answer}
-    installed = []
+    found = [(package, lines) for name, path in olds.items() for package, lines in testtags.packages(path)
+             if chosen is None or rounds.package_text(package, name) in chosen]
+    installed = [(package, lines) for package, lines in found if package.arch in rounds.ALLOWED[given.arch]]
+    rounds.tell_left_out(package for package, _ in found if package.arch not in rounds.ALLOWED[given.arch])
+    if not installed:
+        raise testtags.Fault(f"{given.old}: no package of it is installed, so there is nothing to upgrade")
     with open(folder / f"{SYSTEM}.repo", "w", **testtags.UTF) as repo:
-        for path, name in zip(olds, old_names):
-            for package, lines in testtags.packages(path):
-                if chosen is None or rounds.package_text(package, name) in chosen:
-                    installed.append(package)
-                    repo.writelines(f"{line}\n" for line in lines)
+        repo.writelines(f"{line}\n" for _, lines in installed for line in lines)
     return installed
 
 
+def try_jobs(given, folder):
+    """Fails where testsolv does not take a further job; packages, which are not there yet, may be named."""
+    for job in given.jobs:
+        if "\n" in job:
+            raise testtags.Fault(f"--job {job!r}: it is more than one line")
+        try:
+            with rounds.script(folder, [f"repo {SYSTEM} 0 empty", f"system {given.arch} rpm {SYSTEM}"], [f"job {job}\n"]) as name:
+                rounds.run(given.program, "--write", name)
+        except testtags.Fault as fault:
+            if not str(fault).endswith(": UnknownPackage"):
+                raise
+
+
 def main(given):
+    testtags.can_be_written(given.script)
     groups = groups_of(given.groups) if given.groups else {}
+    paths = [given.old, *given.beside, *given.new]
+    testtags.expect_packages(paths)
+    given.namespaces = machine.namespaces(given, paths)
     names = {package.name for path in [given.old, *given.beside] for package, _ in testtags.packages(path)}
-    new_names = rounds.repo_names([pathlib.Path(SYSTEM), *given.new])[1:]
+    news = dict(zip(rounds.repo_names([pathlib.Path(SYSTEM), *given.new])[1:], given.new))
+    testtags.tell_made_without(paths)
     through = True
     with tempfile.TemporaryDirectory() as name:
         folder = pathlib.Path(name)
+        try_jobs(given, folder)
         for number, words in enumerate(given.sets or [None], 1):
             installed = install(given, folder, words.split(",") if words else None, groups, names)
             print(f"set {number}, {words or given.old}" + (f": {len(installed)} packages" if installed is not None else ""))
-            through = installed is not None and upgrade(given, folder, number, installed, new_names) and through
+            through = installed is not None and upgrade(given, folder, number, installed, news) and through
     return 0 if through else 1
 
 
 if __name__ == "__main__":
-    arguments = testtags.arguments(__doc__)
+    arguments = testtags.arguments(__doc__, "an upgrade does not go through, or a set cannot be installed")
     arguments.add_argument("old", metavar="OLD", type=pathlib.Path)
     arguments.add_argument("new", metavar="NEW", nargs="+", type=pathlib.Path)
     arguments.add_argument("--beside", metavar="OTHER", nargs="+", type=pathlib.Path, default=[])
@@ -184,4 +224,5 @@ if __name__ == "__main__":
     arguments.add_argument("--arch", choices=rounds.ARCHITECTURES, default="x86_64")
     arguments.add_argument("--script", metavar="FILE", type=pathlib.Path)
     arguments.add_argument("--program", type=pathlib.Path, default=rounds.TESTSOLV, help="testsolv, where it is not where it was built")
+    machine.add_options(arguments)
     testtags.run(main, arguments)
