@@ -78,6 +78,7 @@ def main(given):
     if not given.root.is_dir():
         raise testtags.Fault(f"{given.root}: it is no folder")
     testtags.can_be_written(given.output)
+    testtags.expect_packages(given.others)
     repository = testtags.Repository()
     installed = Installed(repository)
     place = ["--dbpath", given.dbpath] if given.dbpath else []

@@ -195,6 +195,7 @@ def is_in_primary(path):
 def named_by(other):
     """The names of files that another repository's dependencies ask for."""
     if not other.is_dir():
+        testtags.expect_packages([other])
         return testtags.named_files(other)
     repository = testtags.Repository()
     Primary(Index(other).read().place("primary"), repository).read()

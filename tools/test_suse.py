@@ -16,6 +16,7 @@ from rounds import TESTSOLV
 from rpmmd_for_tests import convert, named, package, primary, write
 from rpms_for_tests import same
 
+PAGE = pathlib.Path(__file__).resolve().parent.parent / "docs" / "MAINTAINERS.md"
 COMPARE = pathlib.Path(__file__).with_name("compare_readings.py")
 LIBSOLVS = "/usr/bin/testsolv"
 MANY = [f"l{number}" for number in range(61)]
@@ -69,6 +70,13 @@ def try_forms(folder):
     status, text, errors = convert(folder)
     wanted = "".join(f"=Pkg: p{number} 1 1 noarch\n{lines}\n" for number, (_, _, lines) in enumerate(FORMS))
     wanted += "=Pkg: both 1 1 noarch\n=Sup: ((a | namespace:filesystem(xfs)) & (b | c))\n=Pkg: alone 1 1 noarch\n=Sup: b\n"
+    page = PAGE.read_text().replace("\\|", "|")
+    rows = [line for line in page.splitlines() if line.startswith(("| conflicts |", "| supplements |", "| provides |"))]
+    known = {f"| {tag} | `{name}` |": lines.split("\n") for tag, name, lines in FORMS}
+    for row in rows:
+        lines = known.get("|".join(row.split("|", 3)[:3]) + "|")
+        same(f"docs/MAINTAINERS.md, {row}", "util:" in row if lines is None else f"`{lines[-1]}`" in row, True)
+    same("docs/MAINTAINERS.md has rows", len(rows), 8)
     same("the forms", (status, text, errors), (0, wanted + f"=Pkg: moved 1 1 noarch\n=Prv: {MOVED[0]}\n", MOVED[1]))
     python = next((one for one in (sys.executable, "/usr/bin/python3") if shutil.which(one)
                    and subprocess.run([one, "-c", "import solv"], capture_output=True).returncode == 0), None)
