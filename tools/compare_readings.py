@@ -86,7 +86,7 @@ def plain_text(text):
 
 
 def by_libsolv(folder, output):
-    """Has libsolv read a repository, and write it in testtags format."""
+    """Has libsolv read a repository and write it in testtags format, and gives its lists."""
     try:
         import solv
     except ImportError:
@@ -108,7 +108,7 @@ def by_libsolv(folder, output):
     solver = pool.Solver()
     solver.solve([])
     solver.write_testcase(str(output))
-    return output / "read.repo.gz"
+    return lists_of(output / "read.repo.gz", plain_text) if repository.nsolvables else {}
 
 
 def differences(ours, theirs):
@@ -126,9 +126,8 @@ def differences(ours, theirs):
 def main(given):
     with tempfile.TemporaryDirectory() as name:
         output = pathlib.Path(name)
-        theirs = lists_of(by_libsolv(given.folder, output), plain_text)
         rpmmd_to_testtags.main(argparse.Namespace(folder=given.folder, others=[], output=output / "here.repo"))
-        ours = lists_of(output / "here.repo")
+        ours, theirs = lists_of(output / "here.repo"), by_libsolv(given.folder, output)
     counts, example = collections.Counter(), {}
     for what, side, text in differences(ours, theirs):
         counts[what, side] += 1

@@ -49,16 +49,40 @@ def namespaces(given, paths):
     return [f"namespace namespace:{one} @SYSTEM" for one in dict.fromkeys(named)]
 
 
-def called_for(given, folder, repositories, lines, stays):
-    """The names of the packages that the machine calls for by what stays on it, whatever is done.
+def holding(given, folder, lines, packages, entries):
+    """The numbers of the supplements that hold on a machine with these packages, as testsolv has it.
 
-    They would come with any job. What stays is told by its names and what it provides alone, so that nothing else is asked for.
+    Each supplement is a made package. Of the others stands there what they are named and what they provide.
     """
-    staying = pathlib.Path(folder, "staying.repo")
-    kept = [line for _, of_package in stays for line in of_package if line.startswith(("=Pkg:", "=Prv:", "=Fls:"))]
-    staying.write_text("".join(f"{line}\n" for line in kept), **testtags.UTF)
-    paths, names = [staying, *repositories.values()], ["staying", *repositories]
-    answer = next(rounds.answers(given.program, folder, rounds.head(paths, names, given.arch, "staying") + lines, ["job noop\n"])) or ()
-    texts = {line.removeprefix("install ") for line in answer if line.startswith("install ")}
-    return {package.name for name, path in repositories.items() for package, _ in testtags.packages(path)
-            if rounds.package_text(package, name) in texts}
+    there, made = pathlib.Path(folder, "there.repo"), pathlib.Path(folder, "supplements.repo")
+    kept = [line for _, of_package in packages for line in of_package if line.startswith(("=Pkg:", "=Prv:", "=Fls:"))]
+    there.write_text("".join(f"{line}\n" for line in kept), **testtags.UTF)
+    made.write_text("".join(f"=Pkg: supplement-{number} 1 - noarch\n=Sup: {text}\n" for number, (_, text) in enumerate(entries)), **testtags.UTF)
+    head = rounds.head([there, made], ["there", "made"], given.arch, "there") + lines
+    answer = next(rounds.answers(given.program, folder, head, ["job noop\n"])) or ()
+    return {int(line.split("-")[1]) for line in answer if line.startswith("install supplement-")}
+
+
+def names_asked_for(packages):
+    """The names of what the packages require and recommend."""
+    texts = [line[6:] for _, lines in packages for line in lines if line[:5] in ("=Req:", "=Prq:", "=Rec:")]
+    return {word for text in texts for word in words_of(text)}
+
+
+def called_for_anyway(given, folder, lines, stays, comes):
+    """The names of packages that come since a supplement holds without any package that comes.
+
+    A package that comes besides since another one does, by a supplement, a requirement or a recommendation, is none of them.
+    """
+    entries = [(package.name, line[6:]) for package, of_package in comes for line in of_package if line.startswith("=Sup: ")]
+    if not entries:
+        return set()
+    before = holding(given, folder, lines, stays, entries)
+    after = holding(given, folder, lines, stays + comes, entries)
+    asked = names_asked_for(comes)
+    anyway = {entries[number][0] for number in before} - {entries[number][0] for number in after - before}
+    for package, of_package in comes:
+        provided = {package.name} | {line[6:].split(" ")[0] for line in of_package if line.startswith(("=Prv: ", "=Fls: "))}
+        if provided & asked:
+            anyway.discard(package.name)
+    return anyway

@@ -211,6 +211,8 @@ def files_of(index, primary, repository):
             repository.leave_out(f"the file {path}, which some package may have", f"{index.folder} has no list of files")
     elif wanted:
         found = Filelists(place, wanted).read().found
+        for id in sorted(found.keys() - set(primary.ids)):
+            repository.leave_out("files of a package of another checksum than those of the list of packages", f"{found[id][0]} of {id}")
         return {place: found[id] for place, id in enumerate(primary.ids) if id in found}
     return {}
 

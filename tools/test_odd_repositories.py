@@ -6,7 +6,7 @@
 import pathlib
 import tempfile
 
-from rpmmd_for_tests import convert, filelists, named, package, primary, write
+from rpmmd_for_tests import checksum, convert, filelists, named, package, primary, write
 from rpms_for_tests import same
 
 LOST = "left out, which may change the answer: "
@@ -32,6 +32,8 @@ CASES = {
     "the list of files is not there": (dict(primary=primary(package(requires=named("/usr/share/f", "/usr/share/g"))), kinds=["primary", "filelists"]),
         "=Req: /usr/share/f\n=Req: /usr/share/g\n", "".join(
             LOST + f"the file /usr/share/{name}, which some package may have: FOLDER has no list of files\n" for name in "fg")),
+    "a list of files of another time": (dict(primary=primary(SHARE), filelists=filelists(other=["/usr/share/f"])), "=Req: /usr/share/f\n",
+        LOST + f"files of a package of another checksum than those of the list of packages: /usr/share/f of {checksum('other')}\n"),
     "packages are missing": (dict(primary=primary(package(), count=3)), None,
         "FOLDER/repodata/primary.xml: it says that it has 3 packages, and has 1\n"),
     "packages are more": (dict(primary=primary(package(), package("b"), count=1)), "",

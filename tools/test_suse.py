@@ -87,6 +87,9 @@ def try_forms(folder):
     same(f"beside libsolv's reading, {compared.stderr}", (compared.returncode, compared.stdout), (1,
          "      1 only by libsolv: =Sup: namespace:splitprovides(util + /sbin/tool) of moved\n"
          f"{len(FORMS) + 3} packages here, {len(FORMS) + 3} by libsolv, 1 differences\n"))
+    write(folder, primary=primary())
+    compared = subprocess.run([python, COMPARE, folder], capture_output=True, text=True)
+    same("no package in either", (compared.returncode, compared.stdout), (0, "0 packages here, 0 by libsolv, 0 differences\n"))
 
 
 def come(program, script):

@@ -61,9 +61,10 @@ set 3, charts: 2 packages
 
 
 # a machine that speaks German, and its upgrade
-LANGUAGES = ("=Pkg: app 1 1 noarch\n=Pkg: old 1 1 noarch\n",
+LANGUAGES = ("=Pkg: app 1 1 noarch\n=Pkg: old 1 1 noarch\n=Pkg: words 1 1 noarch\n=Sup: namespace:language(de)\n",
              "=Pkg: app 2 1 noarch\n{}=Pkg: old 1 1 noarch\n=Pkg: app-lang 2 1 noarch\n=Sup: app & namespace:language(de)\n"
-             "=Pkg: old-lang 1 1 noarch\n=Sup: old & namespace:language(de)\n=Pkg: fonts 1 1 noarch\n=Sup: namespace:language(de)\n")
+             "=Pkg: old-lang 1 1 noarch\n=Sup: old & namespace:language(de)\n=Pkg: fonts 1 1 noarch\n=Sup: namespace:language(de)\n"
+             "=Pkg: words 2 1 noarch\n=Sup: namespace:language(de)\n=Pkg: both 1 1 noarch\n=Sup: namespace:language(de)\n=Sup: app\n")
 # an upgrade that one package stands in the way of, and many go with it
 MANY = ("=Pkg: lib 1 1 noarch\n" + "".join(f"=Pkg: user{number} 1 1 noarch\n=Req: lib < 2\n" for number in range(3)),
         "=Pkg: other 2 1 noarch\n=Obs: lib\n")
@@ -88,24 +89,22 @@ def try_languages(program, folder):
     """What a machine calls for whatever is done stays out, as by libsolv, but where it is required."""
     old, new, script = folder / "old.repo", folder / "new.repo", folder / "languages.t"
     old.write_text(LANGUAGES[0])
-    for requirement, wanted in (("", {"app-2-1.noarch@new", "app-lang-2-1.noarch@new"}),
-                                ("=Req: fonts\n", {"app-2-1.noarch@new", "app-lang-2-1.noarch@new", "fonts-1-1.noarch@new"})):
+    usual = {f"{name}.noarch@new" for name in ("app-2-1", "app-lang-2-1", "words-2-1", "both-1-1")}
+    for requirement, wanted in (("", usual), ("=Req: fonts >= 1\n", usual | {"fonts-1-1.noarch@new"}), ("=Rec: fonts\n", usual | {"fonts-1-1.noarch@new"})):
         new.write_text(LANGUAGES[1].format(requirement))
         status, told, errors = run(program, old, new, "--locale", "de_DE", "--script", script)
-        counts = f"  it goes through: 1 upgraded, {len(wanted) - 1} new, 0 gone, 1 as they are"
-        if requirement:
-            same("a required package that the machine calls for", (status, "fonts-1-1.noarch@new" in come(program, script)), (0, True))
-            continue
-        same("languages", (status, told.splitlines()[1], errors), (0, counts, ""))
-        same("what comes", come(program, script), wanted)
+        same(f"languages, {requirement}", (status, told.splitlines()[1], errors),
+             (0, f"  it goes through: 2 upgraded, {len(wanted) - 2} new, 0 gone, 1 as they are", ""))
+        same(f"what comes, {requirement}", come(program, script), wanted)
         if LIBSOLVS.is_file():
             plain = folder / "plain.t"
             plain.write_text("".join(f"{line}\n" for line in script.read_text().splitlines() if not line.startswith("job lock ")))
-            same("what comes by libsolv without any lock", come(LIBSOLVS, plain), wanted)
+            same(f"what comes by libsolv without any lock, {requirement}", come(LIBSOLVS, plain), wanted)
         else:
             print(f"skipped: there is no program {LIBSOLVS}")
-        same("a set", run(program, new, new, "--locale", "de", "--set", "old")[1].splitlines()[0], "set 1, old: 2 packages")
-        same("a set that asks for it", run(program, new, new, "--locale", "de", "--set", "old,fonts")[1].splitlines()[0], "set 1, old,fonts: 3 packages")
+    new.write_text(LANGUAGES[1].format(""))
+    same("a set", run(program, new, new, "--locale", "de", "--set", "old")[1].splitlines()[0], "set 1, old: 2 packages")
+    same("a set that asks for it", run(program, new, new, "--locale", "de", "--set", "old,fonts")[1].splitlines()[0], "set 1, old,fonts: 3 packages")
 
 
 def try_many(program, folder):

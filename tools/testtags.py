@@ -43,8 +43,12 @@ def run(main, arguments):
     for stream in (sys.stdout, sys.stderr):
         stream.reconfigure(**UTF)
     try:
-        status = main(arguments.parse_args())
-        sys.stdout.flush()
+        try:
+            status = main(arguments.parse_args())
+            sys.stdout.flush()
+        finally:
+            if Progress.shown:
+                Progress.shown.end()
     except KeyboardInterrupt:
         status = 130
     except BrokenPipeError:
@@ -52,8 +56,6 @@ def run(main, arguments):
         os.dup2(os.open(os.devnull, os.O_WRONLY), sys.stdout.fileno())
         status = 2
     except Exception as error:
-        if Progress.shown:
-            Progress.shown.end()
         print(cause_of(error), file=sys.stderr)
         status = 2
     sys.exit(status)

@@ -75,17 +75,32 @@ def answer_of(given, folder, head, jobs):
     return answer
 
 
+def locking(names):
+    return "".join(f"job lock name {name}\n" for name in sorted(names))
+
+
+def in_the_way(answer):
+    """The names of locks that the ways out of an answer's problems give up."""
+    lines = [line for problem in rounds.problems(answer).values() for way in problem.solutions.values() for line in way]
+    return {line.removeprefix("deljob lock name ") for line in lines if line.startswith("deljob lock name ")}
+
+
 def answer_without_more(given, folder, repositories, head, jobs, installed=()):
-    """The answer, and its jobs: they lock what the machine would call for whatever is done, where that leaves no problem."""
-    answer = answer_of(given, folder, head + given.namespaces, jobs)
-    if not given.namespaces or rounds.problems(answer):
-        return answer, jobs
-    gone = {word for line in answer for word in line.split()[1:]}
-    stays = [(package, lines) for package, lines in installed if rounds.package_text(package, SYSTEM) not in gone]
-    names = machine.called_for(given, folder, repositories, given.namespaces, stays)
-    locking = jobs + "".join(f"job lock name {name}\n" for name in sorted(names))
-    other = answer_of(given, folder, head + given.namespaces, locking) if names else answer
-    return (answer, jobs) if rounds.problems(other) else (other, locking)
+    """The answer and its jobs, which lock what the machine calls for whatever is done, but for what is needed all the same."""
+    answer, locked, needed = answer_of(given, folder, head + given.namespaces, jobs), set(), {package.name for package, _ in installed}
+    while given.namespaces and not rounds.problems(answer):
+        words = {word for line in answer for word in line.split()[1:]}
+        stays = [one for one in installed if rounds.package_text(one[0], SYSTEM) not in words]
+        comes = [one for name, path in repositories.items() for one in testtags.packages(path) if rounds.package_text(one[0], name) in words]
+        more = machine.called_for_anyway(given, folder, given.namespaces, stays, comes) - locked - needed
+        if not more:
+            break
+        other = answer_of(given, folder, head + given.namespaces, jobs + locking(locked | more))
+        if rounds.problems(other):
+            needed |= more & in_the_way(other) or more
+        else:
+            answer, locked = other, locked | more
+    return answer, jobs + locking(locked)
 
 
 def tell_problems(what, answer):
