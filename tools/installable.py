@@ -143,6 +143,7 @@ if __name__ == "__main__":
     arguments.add_argument("--proof", metavar="FILE", type=pathlib.Path)
     arguments.add_argument("--program", type=pathlib.Path, default=rounds.TESTSOLV, help="testsolv, where it is not where it was built")
     arguments.add_argument("--checker", type=pathlib.Path, default=rounds.PROOFCHECK, help="proofcheck")
-    arguments.add_argument("--jobs", dest="processes", metavar="N", type=number_of_processes, default=len(os.sched_getaffinity(0)))
+    arguments.add_argument("--jobs", dest="processes", metavar="N", type=number_of_processes, default=len(os.sched_getaffinity(0)),
+                           help="so many processes at a time")
     machine.add_options(arguments)
     testtags.run(main, arguments)

@@ -90,7 +90,10 @@ def script(folder, script_head, rounds):
             yield file.name
         except Fault as fault:
             match = re.fullmatch(rf"\S+: {re.escape(file.name)}:(\d+): (\w+)", str(fault))
-            raise Fault(f"testsolv does not take the line \"{text.splitlines()[int(match[1]) - 1]}\": {match[2]}") if match else fault
+            if not match:
+                raise
+            line = text.split("\n")[int(match[1]) - 1]
+            raise Fault(f'testsolv does not take the line "{line}": {match[2]}')
 
 
 def answers(program, folder, script_head, rounds):

@@ -130,7 +130,7 @@ def try_processes(program, folder):
     path.write_text(drawn(random.Random(3), 150))
     head = rounds.head([path], ["drawn"], "x86_64")
     found = []
-    for processes in (1, 2, 5):
+    for processes in (1, 2, 40):
         given = argparse.Namespace(repos=[path], only=[], arch="x86_64", program=program, processes=processes)
         found.append(list(asking.failing(given, folder, head, installable.asked_for(given, ["drawn"]))[0].items()))
     same("many shares", len(found[0]) > 3 * asking.TOGETHER, True)
@@ -162,7 +162,8 @@ def try_faults(programs, folder):
     path.write_text("# rpmmd_to_testtags.py /srv/os --with\n")
     same("a repository without packages", run(none, path), (2, "", f"there is no package to ask for: {path}\n"))
     lost = folder / "nosuch" / "proof"
-    same("proofs in no folder", run(none, *compose, "--proof", lost), (2, "", f"{lost}: it cannot be written, since its folder is not there, or may not be written\n"))
+    same("proofs in no folder", run(none, *compose, "--proof", lost),
+         (2, "", f"{lost}: it cannot be written, since its folder is not there, or may not be written\n"))
     for number in ("0", "-1", "two"):
         status, told, errors = run(none, *compose, f"--jobs={number}")
         same(f"processes, {number}", (status, told, errors.splitlines()[-1].partition("error: ")[2]),

@@ -74,7 +74,8 @@ def cause_of(error):
 def arguments(text, one=None):
     """The arguments of a tool whose help is its docstring, and what its status says; `one` is what status 1 means, if anything."""
     ones = f"1 where {one}, " if one else ""
-    status = f"The status is 0 where all is well, {ones}2 where the tool or its input failed, whatever it was, which one line tells, and 130 where it was interrupted."
+    status = (f"The status is 0 where all is well, {ones}2 where the tool or its input failed, whatever it was, "
+              "which one line tells, and 130 where it was interrupted.")
     return argparse.ArgumentParser(description=text, epilog=textwrap.fill(status, 125), allow_abbrev=False,
                                    formatter_class=argparse.RawDescriptionHelpFormatter)
 
