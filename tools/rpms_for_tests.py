@@ -23,6 +23,7 @@ Requires: libtext >= 1:4.0-2
 Requires(pre): /bin/sh
 Requires(post): /usr/sbin/register
 Requires(preun): cleaner < 3
+Requires(post,preun): keeper
 Requires: (spell-en if languages else spell-none)
 Requires: (words with words(en) >= 4 with words(en) < 5)
 Requires: /usr/share/words/en.txt
@@ -73,6 +74,7 @@ EXPECTED = """\
 =Prq: /bin/sh
 =Prq: /usr/sbin/register
 =Req: cleaner < 3
+=Prq: keeper
 =Req: (spell-en <IF> languages <ELSE> spell-none)
 =Req: (words + words(en) >= 4 + words(en) < 5)
 =Req: /usr/share/words/en.txt

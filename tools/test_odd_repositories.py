@@ -48,7 +48,7 @@ CASES = {
     "parentheses in paths": (dict(primary=primary(package(files="<file>/etc/x(1)</file>"), package("b", requires=PATHS)),
         filelists=filelists(a=["/usr/share/x(1)", "/usr/share/y(1)"])),
         "=Fls: /etc/x(1)\n=Fls: /usr/share/x(1)\n=Fls: /usr/share/y(1)\n=Req: /usr/share/x(1)\n=Req: (/usr/share/y(1) | z)\n=Req: /etc/x(1)\n", ""),
-    "a blank that testsolv takes for none": (dict(primary=requiring(*named("b\u00a0c"))), "=Req: b\u00a0c\n", ""),
+    "a blank that testsolv takes for none": (dict(primary=requiring(*named("b\u00a0c", "(b\u00a0c or d)"))), "=Req: b\u00a0c\n=Req: (b\u00a0c | d)\n", ""),
     "a vendor with a line of its own": (dict(primary=primary(package(vendor=" A\u2028B\nC "))), "=Vnd: A\u2028B C\n", ""),
     "a blank in a path": (dict(primary=requiring(*named("/etc/x y"))), "",
         LOST + "=Req: a blank in a name or version, or too many operators: /etc/x y of a\n"),
