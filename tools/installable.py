@@ -111,7 +111,7 @@ def number_of_processes(text):
 
 def main(given):
     for path in [given.proof, pathlib.Path(f"{given.proof}.t")] if given.proof else []:
-        testtags.can_be_written(path)
+        testtags.expect_writable(path)
     paths = given.repos + given.beside
     names = rounds.repo_names(paths)
     testtags.expect_packages(paths)

@@ -196,7 +196,7 @@ def named_and_met(program, folder, script, problem):
 
 
 def main(given):
-    testtags.can_be_written(given.svg)
+    testtags.expect_writable(given.svg)
     answers = rounds.rounds_of(rounds.run(given.program, *rounds.BUDGET, "-r", given.script, statuses=(0, 1))[0])
     problems = [rounds.problems(answer) for answer in answers]
     number = given.round or next((n for n, found in enumerate(problems, 1) if found), 0)

@@ -77,7 +77,7 @@ def main(given):
         raise testtags.Fault("there is no program rpm: install the package rpm")
     if not given.root.is_dir():
         raise testtags.Fault(f"{given.root}: it is no folder")
-    testtags.can_be_written(given.output)
+    testtags.expect_writable(given.output)
     testtags.expect_packages(given.others)
     repository = testtags.Repository()
     installed = Installed(repository)

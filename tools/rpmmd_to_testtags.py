@@ -130,6 +130,11 @@ class Primary(Reader):
         self.found, self.lines = collections.defaultdict(str), []
         self.progress = testtags.Progress("packages")
 
+    def read(self):
+        super().read()
+        self.progress.end()
+        return self
+
     def start(self, element, attributes):
         if element == ENTRY:
             text, tag = attributes["name"], self.tag
@@ -218,11 +223,10 @@ def files_of(index, primary, repository):
 
 
 def main(given):
-    testtags.can_be_written(given.output)
+    testtags.expect_writable(given.output)
     repository = testtags.Repository()
     index = Index(given.folder).read()
     primary = Primary(index.place("primary"), repository).read()
-    primary.progress.end()
     for other in given.others:
         repository.named |= named_by(other)
     repository.write(given.output, testtags.origin(__file__, given.folder, given.others), files_of(index, primary, repository))

@@ -60,7 +60,7 @@ CASES = {
     "a colon in a version": (dict(primary=version('epoch="0" ver="1:2" rel="1"')), None, f"FOLDER/repodata/primary.xml:1: {NUMBER}: a 1:2 1 noarch\n"),
     "a package twice": (dict(primary=primary(package(), package())), "", ""),
     "a package twice, with other lists": (dict(primary=primary(package(), package(requires=named("b")))), "=Req: b\n",
-        LOST + "a package that stands twice, with other lists: testsolv takes its text for the first: a 1 1 noarch\n"),
+        LOST + "which of two packages is meant by a text, though their lists differ (it is the first): a 1 1 noarch\n"),
     "a folder, and its name with a slash": (dict(primary=primary(package(files='<file type="dir">/etc/a.d</file>'), package("b", requires=named("/etc/a.d/")))),
         "=Req: /etc/a.d/\n", ""),
     "zchunk alone": (dict(primary_zck=primary(package())), None,

@@ -80,11 +80,14 @@ def arguments(text, one=None):
                                    formatter_class=argparse.RawDescriptionHelpFormatter)
 
 
-def can_be_written(path):
+def expect_writable(path):
     """Fails where a file cannot be written, before anything is done for it; None is the output stream."""
-    if path and (path.is_dir() or not os.access(path if path.exists() else path.absolute().parent, os.W_OK)):
-        raise Fault(f"{path}: it cannot be written, since " + (
-            "it is a folder" if path.is_dir() else "it may not be" if path.exists() else "its folder is not there, or may not be written"))
+    if path and path.is_dir():
+        raise Fault(f"{path}: it cannot be written, since it is a folder")
+    if path and path.exists() and not os.access(path, os.W_OK):
+        raise Fault(f"{path}: it may not be written")
+    if path and not path.exists() and not os.access(path.absolute().parent, os.W_OK):
+        raise Fault(f"{path}: it cannot be written, since its folder is not there, or may not be written")
 
 
 class Progress:
@@ -165,7 +168,7 @@ class Parts:
 
 
 def heading_of(epoch, words):
-    """What stands behind =Pkg:, which four words may."""
+    """The words behind =Pkg:; it fails where testsolv would not read them as they are meant."""
     name, version, release, arch = words
     heading = f"{name} {evr_text(epoch, version, None)} {release or '-'} {arch}"
     if len(WORDS.findall(heading)) != 4 or heading.count(" ") != 3:
@@ -198,7 +201,7 @@ class Repository:
         vendor = vendor.replace("\n", " ").strip(BLANKS)
         text = f"=Pkg: {heading}\n" + (f"=Vnd: {vendor}\n" if vendor else "") + "".join(lines)
         if self.headings.setdefault(heading, hash(text)) != hash(text):
-            self.leave_out("a package that stands twice, with other lists: testsolv takes its text for the first", heading)
+            self.leave_out("which of two packages is meant by a text, though their lists differ (it is the first)", heading)
         self.draft.write(text.encode(**UTF))
 
     def readable(self, lines, name):
@@ -333,9 +336,9 @@ class Contents:
 def made_without(paths):
     """Which of the repositories were made without which others of them: the converter then left files out that those name."""
     origins = {path: origin_of(path) for path in paths}
-    for path, origin in origins.items():
-        if origin:
-            known = {origin[0], *origin[1]}
+    for path, made in origins.items():
+        if made:
+            known = {made[0], *made[1]}
             made_of = lambda other: {str(other.resolve()), *(origins[other] or ())[:1]}
             if without := [other for other in paths if other != path and not known & made_of(other)]:
                 yield path, without

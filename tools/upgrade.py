@@ -209,7 +209,7 @@ def try_jobs(given, folder):
 
 
 def main(given):
-    testtags.can_be_written(given.script)
+    testtags.expect_writable(given.script)
     groups = groups_of(given.groups) if given.groups else {}
     paths = [given.old, *given.beside, *given.new]
     testtags.expect_packages(paths)
