@@ -7,10 +7,11 @@ Without the word it takes the program where `rt run` builds it. The texts are a 
 """
 import pathlib
 import random
+import re
 import subprocess
 import sys
 
-from dependencies import evr_text, unfit
+from dependencies import evr_text, unfit, with_signs
 from rounds import TESTSOLV
 from rpms_for_tests import same
 
@@ -82,6 +83,17 @@ def operand(draw, depth):
     return text + (f" {draw.choice((operator, 'else'))} {operand(draw, depth - 1)})" if draw.random() < 0.4 else ")")
 
 
+def try_signs(program, texts):
+    """A text with signs is to testsolv what it is with words: both are written again as the same."""
+    packages = "".join(f"#>=Pkg: p 1 1 noarch\n#>=Req: {text}\n" for rich in texts for text in (rich, with_signs(rich)))
+    done = subprocess.run([program, "--write", "/dev/stdin"], input=f"repo a 0 testtags <inline>\n{packages}", capture_output=True, text=True)
+    written = [line for line in done.stdout.splitlines() if line.startswith("#>=Req: ")]
+    same("how many are written again", len(written), 2 * len(texts))
+    for text, words, signs in zip(texts, written[::2], written[1::2]):
+        same(f"{text} with signs, {with_signs(text)}", signs, words)
+    same("no word is left", [text for text in texts if re.search(r"\) (and|or|if|unless|else|with|without) |[a-z0-9] (if|unless|else) ", with_signs(text))], [])
+
+
 def main():
     program = pathlib.Path(sys.argv[1]) if len(sys.argv) > 1 else TESTSOLV
     if not program.is_file():
@@ -95,6 +107,9 @@ def main():
         why = unfit(text, tag)
         fitting += why is None
         same(f"={tag}: {text} is read ({why})", is_read(program, tag, text), why is None)
+    rich = list(dict.fromkeys(text for _, text in tried if text[0] == "(" and unfit(text, "Req") is None))
+    same(f"many rich texts, {len(rich)}", len(rich) > 60, True)
+    try_signs(program, rich)
     same("texts of both kinds are tried", fitting > 200 and len(tried) - fitting > 200, True)
     # (rpm takes a name with a blank for one name, so its words are no operators)
     same("a name with a blank", unfit("a and b", "Req"), "a name with a blank")
