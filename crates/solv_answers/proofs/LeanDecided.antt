@@ -19,7 +19,7 @@ use Rattle.solv_questions.specs.Questions.{asks, request_of}
 use Rattle.solv_decide.specs.Deciding.{IsRefuted, IsSolution}
 use Rattle.solv_decide.specs.Inner.Deciding.{IsAskedFor, IsDecided}
 use Rattle.solv_decide.specs.declared.deciding.Decided.{Decided}
-use Rattle.solv_answers.specs.Answers.{all_made, made_core, made_request}
+use Rattle.solv_answers.specs.Inner.Made.{all_made, made_core, made_request}
 use Rattle.solv_questions.specs.Questions.{asks}
 use Rattle.solv_answers.specs.Inner.Lean.{HasDecidedLean, IsLean}
 use Rattle.solv_answers.specs.declared.lean.Lean.{Lean}

@@ -12,14 +12,14 @@ use Rattle.solv_jobs.specs.Marking.{HasMarks}
 use Rattle.solv_rules.specs.Books.{IsBook, first_fault, is_bookable, most_words, read_rules}
 use Rattle.solv_pool.specs.TaskForms.{asks_in_form}
 use Rattle.solv_rules.specs.Inner.Books.{HardRulesAreBookable}
-use Rattle.solv_leaving.specs.Leaving.{leaving}
+use Rattle.solv_leaving.specs.Inner.Leaving.{leaving}
 use Rattle.solv_leaving.specs.Inner.Fitting.{AllFit, words_left_out}
-use Rattle.solv_answers.specs.Answers.{made_rules}
+use Rattle.solv_answers.specs.Inner.Made.{made_rules}
 use Rattle.solv_answers.specs.Inner.Lean.{HasLeft, IsLean}
 use Rattle.solv_answers.specs.declared.lean.Lean.{Lean}
 
 -- the marks with nothing left out have an entry for each package too
-marks_whole : (count : ℕ) (marks : Marks) (left : List Bool) → HasMarks count (leaving marks left) → HasMarks count marks
+pub marks_whole : (count : ℕ) (marks : Marks) (left : List Bool) → HasMarks count (leaving marks left) → HasMarks count marks
 marks_whole count marks left each = record {
   update = each.update;
   dup = each.dup;

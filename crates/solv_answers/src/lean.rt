@@ -6,19 +6,21 @@ ghost use Rattle.solv_prov.specs.Index.{IsIndexOf};
 ghost use Rattle.solv_jobs.specs.Marking.{HasMarks};
 ghost use Rattle.solv_rules.specs.Books.{first_fault, read_rules};
 ghost use Rattle.solv_pool.specs.TaskForms.{asks_in_form};
-ghost use Rattle.solv_answers.specs.Answers.{IsAnswered, IsTransactionUnlessChoicesClash, is_spent, is_transaction, left_of, made_rules};
+ghost use Rattle.solv_answers.specs.Answers.{IsAnswered, IsTransactionUnlessChoicesClash, is_transaction};
+ghost use Rattle.solv_answers.specs.Inner.Made.{IsAnsweredMade, answer_at};
 ghost use Rattle.solv_answers.specs.Inner.Lean.{HasDecidedLean, HasLeft, IsLean};
 
 use crate::answering::{Refutation, problems_of, solved};
-use crate::answers::Answered;
+use crate::answers::{Answer, Answered};
 use crate::making::hard_rules;
 use crate::preparing::marks;
 use solv_core::Verdict;
 use solv_decide::{Decided, decide};
 use solv_leaving::{all_fit, all_rules_fit, left_out};
 use solv_list::Items;
+use solv_over::{Places, is_inside, moved_ledger, moved_problems};
 use solv_pool::laws::{clauses_name_packages, clauses_say_the_rule};
-use solv_pool::{Marks, Task};
+use solv_pool::{Marks, Rules, Task};
 use solv_prov::Providers;
 use solv_questions::questions_keep_the_law;
 use solv_rules::{Book, BookFault, hard_rules_are_bookable};
@@ -37,12 +39,13 @@ impl Drop for Lean {
 }
 
 impl Lean {
-    /// The book alone.
-    fn into_book(self) -> Book
-        ensures { result ≡ self.book }
+    /// The marks alone, with nothing left out.
+    fn into_marks(self, alloc: Global) -> Marks
+        ensures { result ≡ record self.marks { left_out = [] } }
     {
-        let Lean { marks: _, book } = self;
-        book
+        let Lean { mut marks, book: _ } = self;
+        marks.left_out = Items::wrap(Vec::new(alloc));
+        marks
     }
 }
 
@@ -87,49 +90,21 @@ fn lean_on(
     Ok(Some(Lean { marks, book }))
 }
 
-/// An answer, and the book of the rules that were made for it.
-pub struct LeanAnswer {
-    pub answered: Answered,
-    pub book: Book,
-}
-
-impl Drop for LeanAnswer {
-    fn drop(self) {
-        let LeanAnswer {
-            answered: _,
-            book: _,
-        } = self;
-    }
-}
-
-impl LeanAnswer {
-    /// Both, each by itself.
-    pub fn parts(self) -> (Answered, Book)
-        ensures answered { result.0 ≡ self.answered }
-        ensures book { result.1 ≡ self.book }
-    {
-        let LeanAnswer { answered, book } = self;
-        (answered, book)
-    }
-}
-
-/// The answer by a decision over the rules that are made, where the budget was not spent.
+/// An answer by the rules that are made.
 fn answered_by(
     alloc: Global,
     task: &Task,
     prov: &Providers,
     lean: &Lean,
     decided: Decided<'_>,
-) -> Result<Option<Answered>, AllocError>
+) -> Result<Answered, AllocError>
     requires closed { IsClosed task.now }
     requires formed { list_all (asks_in_form (catalog_of task.now)) task.now.universe.packages ≡ true }
     requires index { IsIndexOf prov.now (catalog_of task.now) }
     requires lean { IsLean task.now lean.now }
     requires decided { HasDecidedLean task.now lean.now decided }
     requires budget { decided.ledger.budget ≤ 1000000 }
-    ensures good { IfOk result (λ o. IfSome o (λ a. IsAnswered task.now decided.entry.ledger.budget a.answer a.ledger)) }
-    ensures unspent { IfOk result (λ o. IfSome o (λ a. is_spent a.answer ≡ false)) }
-    ensures told { IfOk result (λ o. IfSome o (λ a. is_transaction a.answer ≡ false → left_of a.answer ≡ lean.now.marks.left_out)) }
+    ensures { IfOk result (λ a. IsAnsweredMade task.now lean.now.marks.left_out decided.entry.ledger.budget a.answer a.ledger) }
 {
     let left = lean.marks.left_out.held();
     let Decided {
@@ -139,25 +114,95 @@ fn answered_by(
         mut core,
     } = decided;
     match verdict {
-        Verdict::Sat(trail) => {
-            let answered = solved(alloc, task, prov, left, trail, ledger)?;
-            Ok(Some(answered))
-        }
+        Verdict::Sat(trail) => solved(alloc, task, prov, left, trail, ledger),
         Verdict::Unsat(log) => {
             let refutation = Refutation { log, ledger };
             let (book, core) = (&lean.book, &mut core);
-            let answered = problems_of(alloc, task, left, book, &phases, core, refutation)?;
-            if answered.answer.is_spent() {
-                return Ok(None);
-            }
-            Ok(Some(answered))
+            problems_of(alloc, task, left, book, &phases, core, refutation)
         }
-        Verdict::Spent => Ok(None),
+        Verdict::Spent => Ok(Answered {
+            answer: Answer::Spent,
+            ledger,
+        }),
     }
 }
 
-/// The answer to a task whose clauses pass no limit, where the budget suffices, by the rules of what can be asked for. No rules are made of what packages require
-/// that nothing can ask for, which most packages of a large repository are. Nothing where the budget was spent, or where a limit may be passed.
+/// An answer with the numbers of its rules among all hard rules.
+fn moved_answer(alloc: Global, places: &Places<'_>, answer: Answer) -> Result<Answer, AllocError>
+    ensures { IfOk result (λ moved. moved ≡ answer_at places.now answer) }
+{
+    match answer {
+        Answer::Problems(problems) => {
+            Ok(Answer::Problems(moved_problems(alloc, places, problems)?))
+        }
+        other => Ok(other),
+    }
+}
+
+/// An answer by the rules that are made with the numbers of all rules and clauses among those of all hard rules. Nothing where a learnt clause speaks of a package
+/// that is left out, which no search gives.
+fn moved(
+    alloc: Global,
+    task: &Task,
+    prov: &Providers,
+    lean: &Lean,
+    budget: u32,
+    answered: Answered,
+) -> Result<Option<Answered>, AllocError>
+    requires closed { IsClosed task.now }
+    requires index { IsIndexOf prov.now (catalog_of task.now) }
+    requires lean { IsLean task.now lean.now }
+    requires made { IsAnsweredMade task.now lean.now.marks.left_out budget answered.answer answered.ledger }
+    ensures { IfOk result (λ o. IfSome o (λ a. IsAnswered task.now budget a.answer a.ledger)) }
+{
+    clauses_name_packages();
+    clauses_say_the_rule();
+    let left = lean.marks.left_out.held();
+    let Answered { answer, ledger } = answered;
+    if !is_inside(&ledger, left, task.universe.count()) {
+        return Ok(None);
+    }
+    let places = Places::of(alloc, task, prov, left, &lean.book)?;
+    let ledger = moved_ledger(alloc, &places, ledger)?;
+    let answer = moved_answer(alloc, &places, answer)?;
+    Ok(Some(Answered { answer, ledger }))
+}
+
+/// The hard rules of a task, where an answer names some.
+fn rules_named(
+    alloc: Global,
+    task: &Task,
+    prov: &Providers,
+    lean: Lean,
+    answer: &Answer,
+) -> Result<Rules, AllocError>
+    requires closed { IsClosed task.now }
+    requires formed { list_all (asks_in_form (catalog_of task.now)) task.now.universe.packages ≡ true }
+    requires index { IsIndexOf prov.now (catalog_of task.now) }
+    requires lean { IsLean task.now lean }
+    ensures { IfOk result (λ rules. is_transaction answer.now ≡ false → read_rules rules ≡ all_rules task.now) }
+{
+    match answer {
+        Answer::Transaction { .. } => Ok(Rules {
+            list: Items::wrap(Vec::new(alloc)),
+            sets: Items::wrap(Vec::new(alloc)),
+        }),
+        _ => {
+            let marks = lean.into_marks(alloc);
+            hard_rules(alloc, task, prov, &marks)
+        }
+    }
+}
+
+/// An answer, and the hard rules of its task, where it names some.
+#[derive(Drop)]
+pub struct LeanAnswer {
+    pub answered: Answered,
+    pub rules: Rules,
+}
+
+/// The answer to a task whose clauses pass no limit, by the rules of what can be asked for. No rules are made of what packages require
+/// that nothing can ask for, which most packages of a large repository are. Nothing where a limit may be passed.
 pub fn answer_lean(
     alloc: Global,
     task: &Task,
@@ -170,8 +215,7 @@ pub fn answer_lean(
     requires budget { budget ≤ 1000000 }
     ensures good { IfOk result (λ o. IfSome o (λ a. IsAnswered task.now budget a.answered.answer a.answered.ledger)) }
     ensures direct { IfOk result (λ o. IfSome o (λ a. IsTransactionUnlessChoicesClash task.now a.answered.answer)) }
-    ensures unspent { IfOk result (λ o. IfSome o (λ a. is_spent a.answered.answer ≡ false)) }
-    ensures rules { IfOk result (λ o. IfSome o (λ a. is_transaction a.answered.answer ≡ false → read_rules a.book.rules ≡ made_rules task.now (left_of a.answered.answer))) }
+    ensures rules { IfOk result (λ o. IfSome o (λ a. is_transaction a.answered.answer ≡ false → read_rules a.rules ≡ all_rules task.now)) }
     ensures fits { IfOk result (λ o. IfSome o (λ a. first_fault (catalog_of task.now) 0 (all_rules task.now) ≡ None)) }
 {
     questions_keep_the_law();
@@ -183,10 +227,11 @@ pub fn answer_lean(
         None => return Ok(None),
     };
     let decided = decide(alloc, task, prov, &lean.marks, &lean.book, budget)?;
-    match answered_by(alloc, task, prov, &lean, decided)? {
+    let made = answered_by(alloc, task, prov, &lean, decided)?;
+    match moved(alloc, task, prov, &lean, budget, made)? {
         Some(answered) => {
-            let book = lean.into_book();
-            Ok(Some(LeanAnswer { answered, book }))
+            let rules = rules_named(alloc, task, prov, lean, &answered.answer)?;
+            Ok(Some(LeanAnswer { answered, rules }))
         }
         None => Ok(None),
     }

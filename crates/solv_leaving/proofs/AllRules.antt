@@ -18,7 +18,7 @@ use Rattle.solv_rules.specs.declared.fault.BookFault.{BookFault}
 use Rattle.solv_rules.proofs.Fronts.{neither_fault}
 use Rattle.solv_leaving.proofs.ClauseWords.{size, passes_no_limit}
 use Rattle.solv_leaving.proofs.Totals.{total, total_is, total_join}
-use Rattle.solv_leaving.specs.Leaving.{leaving}
+use Rattle.solv_leaving.specs.Inner.Leaving.{leaving}
 use Rattle.solv_leaving.specs.Inner.Starting.{is_met_alone}
 use Rattle.solv_leaving.specs.Inner.Fitting.{need_words, required_words, AllFit}
 use Rattle.solv_leaving.proofs.RequiredWords.{words_alone, not_rich_alone, fewer_required}

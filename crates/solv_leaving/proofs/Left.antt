@@ -1,7 +1,7 @@
 -- What is left out, by the tables of a search.
 use Rattle.std.proofs.Common.{◌≡◌, ℕ, zero, suc, ◌+◌, ◌<◌, ◌≤◌, Bool, true, false, ◌&&◌, List, [], ◌∷◌, length, inl, inr, refl, ◌∙◌, arith, eqb, eq-eqb, Option, Some, None}
 use Rattle.std.specs.Prelude.{not}
-use Rattle.std.specs.List.{list_all, list_any}
+use Rattle.std.specs.List.{list_any}
 use Rattle.std.proofs.lemmas.Bool.{and_from, false≢true, or_left, or_right, cases_lt}
 use Rattle.solv_pool.specs.Prelude.{is_among, passes, Catalog, packages, package_at, is_installed, feature_candidates, marked}
 use Rattle.solv_pool.specs.Needs.{serves_package}
@@ -12,7 +12,8 @@ use Rattle.solv_pool.specs.declared.tasks.Flags.{Flags}
 use Rattle.solv_clean.specs.Inner.Tables.{is_marked}
 use Rattle.solv_clean.proofs.Reached.{marked_is}
 use Rattle.solv_clean.proofs.Told.{installed_there}
-use Rattle.solv_leaving.specs.Leaving.{LeavesOut, asks_plainly}
+use Rattle.solv_leaving.specs.Inner.Leaving.{LeavesOut, touches_package}
+use Rattle.solv_leaving.specs.Inner.Checking.{IsPackageIn}
 use Rattle.solv_leaving.specs.Inner.Starting.{AreStarts, kept_by, stands_alone, is_met_alone}
 
 marked_past : (M : List Bool) (q : ℕ) → length M ≤ q → marked M q ≡ false
@@ -21,18 +22,6 @@ marked_past (x ∷ M) zero le = absurd (omega arith)
 marked_past (x ∷ M) (suc q) le = marked_past M q (omega (arith, le))
 
 module _ (catalog : Catalog) (flags : Flags) (jobs : List Job) (marks : Marks) where
-  -- where some package does not ask plainly
-  pub leaves_none : LeavesOut catalog flags jobs marks []
-  leaves_none = record {
-    plain = λ q h. absurd (false≢true h);
-    system = refl;
-    kept = λ p q h k. refl;
-    selected = λ q h. refl;
-    offered = λ q h. refl;
-    rich = λ q h. refl;
-    needed = λ p q h k s. refl;
-  }
-
   module _ (starts left : List Bool)
       (are : AreStarts catalog flags marks jobs starts)
       (size : length left ≡ length catalog.universe.packages + 1)
@@ -54,11 +43,9 @@ module _ (catalog : Catalog) (flags : Flags) (jobs : List Job) (marks : Marks) w
     alone_out q h = out_by q (λ low lt.
         are.starts q q low lt lt (or_right (kept_by catalog flags marks q q) (eqb q q && passes (package_at catalog q) (stands_alone catalog)) (and_from (eqb q q) (passes (package_at catalog q) (stands_alone catalog)) (eq-eqb q q refl) h)))
 
-    pub leaves_out : list_all (asks_plainly catalog) catalog.universe.packages ≡ true
-        → ((p q : ℕ) → is_among (packages catalog) p ≡ true → marked left p ≡ false → serves_package catalog q p ≡ true → marked left q ≡ false)
-        → LeavesOut catalog flags jobs marks left
-    leaves_out plain needed = record {
-      plain = λ q h. plain;
+    -- where it is seen of each package that nothing is left out which it asks for
+    pub leaves_out : ((p : ℕ) → is_among (packages catalog) p ≡ true → marked left p ≡ false → IsPackageIn catalog left p) → LeavesOut catalog flags jobs marks left
+    leaves_out each = record {
       system = system;
       kept = λ p q h k. out_by q (λ low lt.
           let there = installed_there catalog p h in
@@ -67,5 +54,6 @@ module _ (catalog : Catalog) (flags : Flags) (jobs : List Job) (marks : Marks) w
       selected = λ q h. out_by q (λ low lt. are.selected q low lt h);
       offered = λ q h. alone_out q (wider (package_at catalog q) (λ a. list_any (λ d. true) a.supplements) (stands_alone catalog) (λ a k. or_left (list_any (λ d. true) a.supplements) (not (is_met_alone catalog a)) k) h);
       rich = λ q h. alone_out q (wider (package_at catalog q) (λ a. not (is_met_alone catalog a)) (stands_alone catalog) (λ a k. or_right (list_any (λ d. true) a.supplements) (not (is_met_alone catalog a)) k) h);
-      needed = needed;
+      needed = λ p q there own h. each p there own q (or_left (serves_package catalog q p) (touches_package catalog q p) h);
+      touched = λ p q there own h. each p there own q (or_right (serves_package catalog q p) (touches_package catalog q p) h);
     }

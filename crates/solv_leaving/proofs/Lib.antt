@@ -10,3 +10,5 @@ pub mod Plain
 pub mod Begun
 pub mod Left
 mod NoConditions
+pub mod Closed
+pub mod Untouched

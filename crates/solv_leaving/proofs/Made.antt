@@ -20,7 +20,7 @@ use Rattle.solv_pool.specs.declared.packages.Package.{Package}
 use Rattle.solv_pool.specs.declared.tasks.Flags.{Flags}
 use Rattle.solv_pool.proofs.Among.{among_filter}
 use Rattle.solv_pool.proofs.Members.{Has, has_front, has_back, has_split, has_mapped, has_flat, has_filtered, has_option, of_mapped, of_flat, of_filtered, of_when, of_option, any_at}
-use Rattle.solv_leaving.specs.Leaving.{leaving}
+use Rattle.solv_leaving.specs.Inner.Leaving.{leaving}
 
 -- a numbered job is a job
 of_numbered : (i : ℕ) (jobs : List Job) (j : ℕ) (job : Job) → Has (enumerate_from i jobs) (j, job) → Has jobs job

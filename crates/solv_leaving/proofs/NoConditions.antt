@@ -6,11 +6,9 @@ use Rattle.std.proofs.lemmas.Bool.Decides.{nat_tests}
 use Rattle.solv_list.proofs.Lists.{all_weaker}
 use Rattle.solv_pool.specs.Prelude.{DepNode, tree, package_wise}
 use Rattle.solv_pool.specs.declared.packages.Need.{Need}
-use Rattle.solv_clean.specs.Inner.Readiness.{dep_below, need_below}
+use Rattle.solv_clean.specs.Inner.Readiness.{need_below}
 use Rattle.solv_clean.specs.Inner.Tables.{table_of}
 use Rattle.solv_leaving.specs.Inner.Wise.{AreWise}
-use Rattle.solv_leaving.specs.Leaving.{is_plainly_met}
-use Rattle.solv_leaving.proofs.Plain.{wise_is_plain}
 
 entry_from : (f : ℕ → Bool) (a n p : ℕ) → p < n → slice_index_or (map f (range_with_len a n)) p true ≡ f (a + p)
 entry_from f a zero p lt = absurd (omega arith)
@@ -33,14 +31,5 @@ module _ (nodes : List DepNode) (wise : List Bool) (are : AreWise nodes wise) (n
       empty [] h = refl
       empty (w ∷ ws) h = absurd (grind (arith, nat_tests, h))
 
-  pub deps_wise : (deps : List ℕ) → list_all (dep_below (length nodes)) deps ≡ true → list_all (λ d. package_wise (tree nodes d)) deps ≡ true
-  deps_wise = all_weaker (dep_below (length nodes)) (λ d. package_wise (tree nodes d)) (λ d h. all_wise d (below d (length nodes) h))
-
-  pub deps_plain : (deps : List ℕ) → list_all (dep_below (length nodes)) deps ≡ true → list_all (λ d. is_plainly_met (tree nodes d)) deps ≡ true
-  deps_plain = all_weaker (dep_below (length nodes)) (λ d. is_plainly_met (tree nodes d)) (λ d h. wise_is_plain (tree nodes d) (all_wise d (below d (length nodes) h)))
-
   pub needs_wise : (needs : List Need) → list_all (need_below (length nodes)) needs ≡ true → list_all (λ (need : Need). package_wise (tree nodes need.dep)) needs ≡ true
   needs_wise = all_weaker (need_below (length nodes)) (λ (need : Need). package_wise (tree nodes need.dep)) (λ (need : Need) h. all_wise need.dep (below need.dep (length nodes) h))
-
-  pub needs_plain : (needs : List Need) → list_all (need_below (length nodes)) needs ≡ true → list_all (λ (need : Need). is_plainly_met (tree nodes need.dep)) needs ≡ true
-  needs_plain = all_weaker (need_below (length nodes)) (λ (need : Need). is_plainly_met (tree nodes need.dep)) (λ (need : Need) h. wise_is_plain (tree nodes need.dep) (all_wise need.dep (below need.dep (length nodes) h)))

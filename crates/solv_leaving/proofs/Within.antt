@@ -11,7 +11,7 @@ use Rattle.solv_pool.specs.Inner.RuleMeaning.{holds_some}
 use Rattle.solv_pool.proofs.Among.{any_from, any_gives}
 use Rattle.solv_pool.proofs.Clauses.{holds-package_wise}
 use Rattle.solv_pool.proofs.Members.{Has, all_at, all_by, any_at, any_has}
-use Rattle.solv_leaving.specs.Leaving.{is_plainly_met}
+use Rattle.solv_leaving.specs.Inner.Leaving.{is_plainly_met}
 
 -- what implies another fails where that one fails
 contrary : (a b : Bool) → (a ≡ true → b ≡ true) → not b ≡ true → not a ≡ true

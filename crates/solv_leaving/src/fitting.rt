@@ -54,7 +54,7 @@ fn with_needs(prov: &Providers, needs: &[Need], words: u64) -> Option<u64>
 }
 
 /// Whether a package is left out.
-fn is_left_out(left: &[bool], pack: PackNo) -> bool
+pub(crate) fn is_left_out(left: &[bool], pack: PackNo) -> bool
     ensures { result ≡ marked left.now pack }
 {
     match left.get(pack.0 as usize) {

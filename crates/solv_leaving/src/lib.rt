@@ -7,8 +7,10 @@
 //! left out is what no walk leads to that begins at a package which may be asked for by itself, and goes on to whatever serves what a package asks for.
 #![tactic(auto)]
 
+mod checking;
 mod fitting;
 mod leaving;
+mod searching;
 mod starting;
 mod wise;
 

@@ -2,9 +2,7 @@
 use Rattle.std.proofs.Common.{ℕ, zero, suc, ◌≡◌, ◌-◌, ◌+◌, ◌≤◌, ◌<◌, Option, Some, None, arith, Bool, true, false, ◌&&◌, ◌||◌, List, [], ◌∷◌, ◌++◌, length, map, drop, refl, ap, sym, ◌∙◌, subst, append_assoc}
 use Rattle.std.specs.Prelude.{codes, flat_map, slice_get, unwrap_or, IfSome, OnOk, Result, Ok, Err, ⊤}
 use Rattle.std.specs.List.{list_all, zip}
-use Rattle.std.proofs.lemmas.Bool.{and_from}
-use Rattle.std.proofs.lemmas.List.Folds.{list_all-append}
-use Rattle.solv_answers.specs.Answers.{is_spent, is_whole}
+use Rattle.solv_answers.specs.Answers.{is_spent}
 use Rattle.solv_answers.specs.declared.answers.Answer.{Answer}
 use Rattle.solv_answers.specs.declared.answers.Answer.TheVariants.{Transaction, Problems, Spent}
 use Rattle.solv_answers.specs.declared.answers.Answered.{Answered}
@@ -31,7 +29,7 @@ use Rattle.solv_io.proofs.WrittenLines.{ended_lines-append}
 
 spent_is : (a : Answer) → is_spent a ≡ true → a ≡ Spent
 spent_is (Transaction trail set made ordered) h = absurd (cc)
-spent_is (Problems left problems) h = absurd (cc)
+spent_is (Problems problems) h = absurd (cc)
 spent_is Spent h = refl
 
 and_more : (a b c : Bool) → ((a && b) && c) ≡ (a && (b && c))
@@ -50,18 +48,14 @@ some_more (x ∷ xs) a h = by (is_spent x) h (λ k. some_more xs a k)
     by true e again = absurd (cc)
     by false e again = again e
 
--- where each names rules among all hard rules and one more does, all do
-all_more : (xs : List Answer) (a : Answer) → list_all is_whole xs ≡ true → is_whole a ≡ true → list_all is_whole (xs ++ a ∷ []) ≡ true
-all_more xs a all one = list_all-append is_whole xs (a ∷ []) ∙ and_from (list_all is_whole xs) (is_whole a && true) all (sym (and_true (is_whole a)) ∙ one)
-
 -- an answer that is not spent left what it used
 left_over : (task : Task) (budget : ℕ) (answered : Answered) → IsGoodAnswer task budget answered.answer answered.ledger → is_spent answered.answer ≡ false → length answered.ledger.entries ≤ budget
 left_over task budget answered good unspent = within (length answered.ledger.entries) budget (few task budget answered.answer answered.ledger good) (sym good.is.learnt.spent ∙ unspent)
 
 -- an answer that was taken in is one round more, where no lines are asked for
 pub taken_alone : {E : Type 0} (command : Command) (turn : Turn) (answered : Answered) (r : Result ⊤ E) (old new : Begun) → prints_lines command.output ≡ false → IsGoodAnswer turn.task old.left answered.answer answered.ledger
-    → is_whole answered.answer ≡ true → OnOk r (HasTaken answered old new) → OnOk r (IsOneMore command [] turn old new)
-taken_alone command turn answered (Ok x) old new asked good whole took = record {
+    → OnOk r (HasTaken answered old new) → OnOk r (IsOneMore command [] turn old new)
+taken_alone command turn answered (Ok x) old new asked good took = record {
   answer = answered.answer;
   ledger = answered.ledger;
   good = good;
@@ -71,9 +65,8 @@ taken_alone command turn answered (Ok x) old new asked good whole took = record 
   as_wanted = λ plain. absurd (let clash = sym plain ∙ asked in cc);
   spent = took.spent;
   left = λ unspent. took.left (left_over turn.task old.left answered good unspent);
-  whole = λ none. whole;
 }
-taken_alone command turn answered (Err e) old new asked good whole took = took
+taken_alone command turn answered (Err e) old new asked good took = took
 
 -- and so it is after what is printed of it
 pub taken_behind : {E : Type 0} (command : Command) (turn : Turn) (answered : Answered) (r : Result ⊤ E) (old mid new : Begun) → prints_lines command.output ≡ true → IsGoodAnswer turn.task old.left answered.answer answered.ledger
@@ -90,7 +83,6 @@ taken_behind command turn answered (Ok x) old mid new plain good printed took = 
   left = λ unspent.
       let low : length answered.ledger.entries ≤ mid.left = (let P : ℕ → Type 0 = λ n. length answered.ledger.entries ≤ n in subst P (sym printed.left) (left_over turn.task old.left answered good unspent)) in
       took.left low ∙ ap (λ n. n - length answered.ledger.entries) printed.left;
-  whole = λ none. absurd (let clash = sym none ∙ plain in cc);
 }
 taken_behind command turn answered (Err e) old mid new plain good printed took = took
 
@@ -108,7 +100,6 @@ behind_next command turn (Ok x) old mid new next more = record {
   as_wanted = λ plain. more.as_wanted plain ∙ ap (λ b. b && is_as_wanted turn more.answer) next.as_wanted;
   spent = more.spent;
   left = λ unspent. more.left unspent ∙ ap (λ n. n - length more.ledger.entries) next.left;
-  whole = more.whole;
 }
 behind_next command turn (Err e) old mid new next more = more
 
@@ -150,7 +141,6 @@ module _ (command : Command) (ts : List Task) (us : List Turn) (turn : Turn) (la
         ∙ has.as_wanted plain (more.answer ∷ answers)
         ∙ ap (are_as_wanted us) (sym (answers_are answers));
     spent = more.spent ∙ sym (some_more old.reached.answers more.answer (sym has.spent ∙ calm)) ∙ ap some_spent (sym more.answers);
-    whole = λ none. ap (list_all is_whole) more.answers ∙ all_more old.reached.answers more.answer (has.whole none) (more.whole none);
   }
     where
       answers_are : (answers : List Answer) → new.reached.answers ++ answers ≡ old.reached.answers ++ more.answer ∷ answers
@@ -193,7 +183,6 @@ first_begun command turn later_tasks later_turns old new no_answer no_ledger no_
           ap (λ b. b && are_as_wanted later_turns told) (more.as_wanted plain ∙ ap (λ b. b && is_as_wanted turn more.answer) all)
           ∙ ap (λ l. are_as_wanted (turn ∷ later_turns) (l ++ told)) (sym answers);
       spent = more.spent ∙ sym (or_false (is_spent more.answer)) ∙ ap some_spent (sym answers);
-      whole = λ none. ap (list_all is_whole) answers ∙ all_more [] more.answer refl (more.whole none);
     }
 
 -- of no answers nothing is said
@@ -208,7 +197,6 @@ all_begun command ts us begun has = record {
   text = λ plain. sym (append-nil begun.text.items) ∙ has.text plain [] ∙ ap (λ l. ended_lines (rounds_lines command.shows us l)) (append-nil begun.reached.answers);
   as_wanted = λ plain. and_true begun.as_wanted ∙ has.as_wanted plain [] ∙ ap (are_as_wanted us) (append-nil begun.reached.answers);
   spent = has.spent;
-  whole = has.whole;
 }
   where
     by : (b : Bool) → begun.spent ≡ b → AreAnswers command.budget ts begun.reached.answers begun.reached.ledgers
@@ -229,7 +217,6 @@ spent_begun command ts us later_tasks later_turns begun has spent = record {
       and_true begun.as_wanted ∙ ap (λ (l : List (Turn × Answer)). begun.as_wanted && list_all (λ x. is_as_wanted x.0 x.1) l) (sym (none_beside later_turns))
       ∙ has.as_wanted plain [] ∙ ap (are_as_wanted us) (append-nil begun.reached.answers);
   spent = has.spent;
-  whole = has.whole;
 }
 
 -- an element at its place, and the rest after it

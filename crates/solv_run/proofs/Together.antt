@@ -63,7 +63,7 @@ gave_transactions budget tasks answers ledgers (then_next b task later answer le
 -- one answer to one task
 pub one_answer : (budget : ℕ) (task : Task) (answer : Answer) (ledger : Ledger) → IsGoodAnswer task budget answer ledger → AreAnswers budget (task ∷ []) (answer ∷ []) (ledger ∷ [])
 one_answer budget task (Transaction trail set made ordered) ledger good = then_next budget task [] (Transaction trail set made ordered) ledger [] [] good refl (all_answered (budget - length ledger.entries))
-one_answer budget task (Problems left problems) ledger good = then_next budget task [] (Problems left problems) ledger [] [] good refl (all_answered (budget - length ledger.entries))
+one_answer budget task (Problems problems) ledger good = then_next budget task [] (Problems problems) ledger [] [] good refl (all_answered (budget - length ledger.entries))
 one_answer budget task Spent ledger good = one_spent budget task [] ledger good
 
 -- one task at most has its answer

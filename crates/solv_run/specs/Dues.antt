@@ -39,7 +39,7 @@ status_of spent as_wanted = if spent then status.Spent else (if as_wanted then s
 -- an answer in few words
 abbrev pub answer_words : Answer → List ℕ
 answer_words (Transaction trail set made ordered) = codes "transaction of " ++ (decimal (length made) ++ codes " changes")
-answer_words (Problems left problems) = decimal (length problems) ++ codes " problems"
+answer_words (Problems problems) = decimal (length problems) ++ codes " problems"
 answer_words Spent = codes "spent"
 
 -- the line on the task of a seed: its packages besides the system, its hard rules, and its answer

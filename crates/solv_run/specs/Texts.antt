@@ -4,13 +4,14 @@ use Rattle.std.specs.Fmt.{decimal}
 use Rattle.std.specs.List.{enumerate_from, list_all, zip}
 use Rattle.std.specs.Option.{option_map_or}
 use Rattle.solv_pool.specs.Catalog.{catalog_of}
+use Rattle.solv_pool.specs.HardRules.{hard_rules}
 use Rattle.solv_pool.specs.RuleMeaning.{HardRule}
 use Rattle.solv_pool.specs.Words.{when}
 use Rattle.solv_pool.specs.declared.tasks.Task.{Task}
 use Rattle.solv_script.specs.Rounds.{Turn, turns}
 use Rattle.solv_script.specs.declared.scripts.Kinds.{Kinds}
 use Rattle.solv_script.specs.declared.scripts.Script.{Script}
-use Rattle.solv_answers.specs.Answers.{is_spent, made_rules}
+use Rattle.solv_answers.specs.Answers.{is_spent}
 use Rattle.solv_answers.specs.declared.answers.Answer.{Answer}
 use Rattle.solv_answers.specs.declared.answers.Answer.TheVariants.{Transaction, Problems, Spent}
 use Rattle.solv_remedy.specs.declared.problems.Problem.{Problem}
@@ -30,10 +31,10 @@ module _ (task : Task) (rules : List HardRule) where
       ++ flat_map (λ x. map (solution_line number x.0) (solution_texts task rules x.1.dropped x.1.set)) (enumerate_from 1 problem.solutions)
 
 -- the result lines of an answer, of the kinds that are asked for: those of its changes, their order, the reasons of what comes, and who needs its packages; or those of its problems,
--- which are numbered from 1, and name rules by their numbers among those that are made
+-- which are numbered from 1, and name rules by their numbers among the hard rules
 abbrev pub answer_lines : Task → Kinds → Answer → List (List ℕ)
 answer_lines task kinds (Transaction trail set made ordered) = solved_lines (catalog_of task) task.jobs kinds made ordered trail.events set
-answer_lines task kinds (Problems left problems) = when kinds.problems (flat_map (λ x. problem_lines task (made_rules task left) x.0 x.1) (enumerate_from 1 problems))
+answer_lines task kinds (Problems problems) = when kinds.problems (flat_map (λ x. problem_lines task (hard_rules task) x.0 x.1) (enumerate_from 1 problems))
 answer_lines task kinds Spent = []
 
 -- the result lines of an answer to a round, sorted by bytes, each once

@@ -5,7 +5,7 @@ ghost use Rattle.solv_pool.specs.Prelude.{catalog_of, hard_rules, IsClosed};
 ghost use Rattle.solv_pool.specs.TaskForms.{HasForms};
 ghost use Rattle.solv_prov.specs.Index.{IsIndexOf};
 ghost use Rattle.solv_rules.specs.Books.{first_fault, read_rules};
-ghost use Rattle.solv_answers.specs.Answers.{is_transaction, left_of, made_rules};
+ghost use Rattle.solv_answers.specs.Answers.{is_transaction};
 ghost use Rattle.solv_script.specs.Rounds.{tasks};
 ghost use Rattle.solv_words.specs.declared.command_line.Output.TheVariants as output;
 ghost use Rattle.solv_run.specs.Inner.ByOutput.{IsDueForScript, asks_answers};
@@ -33,27 +33,19 @@ fn answer_due(
     requires alone { script.now.later ≡ [] }
     requires index { IsIndexOf prov.now (catalog_of script.now.task) }
     requires good { IsGoodAnswer script.now.task command.now.budget given.answered.answer given.answered.ledger }
-    requires rules { is_transaction given.answered.answer ≡ false → read_rules given.book.rules ≡ made_rules script.now.task (left_of given.answered.answer) }
+    requires rules { is_transaction given.answered.answer ≡ false → read_rules given.rules ≡ hard_rules script.now.task }
     requires fits { first_fault (catalog_of script.now.task) 0 (hard_rules script.now.task) ≡ None }
     ensures { IfOk result (λ conclusion. IsDueForScript command.now script.now conclusion.due conclusion.reached) }
 {
     let mut begun = none_begun(alloc, command.budget);
-    let (answered, book) = given.parts();
-    begun.print(
-        alloc,
-        command.shows,
-        script,
-        prov,
-        book.rules(),
-        &answered.answer,
-    )?;
-    drop(book);
+    let LeanAnswer { answered, rules } = given;
+    begun.print(alloc, command.shows, script, prov, &rules, &answered.answer)?;
+    drop(rules);
     begun.take(answered)?;
     answers_concluded(alloc, command, script, begun)
 }
 
-/// What is due for a script of one round whose lines are asked for, where the rules of what can be asked for give the answer. Proofs, and what rounds share, rest
-/// on all hard rules.
+/// What is due for a script of one round whose lines are asked for, where the rules of what can be asked for give the answer.
 pub(crate) fn lean_due(
     alloc: Global,
     command: &Command,

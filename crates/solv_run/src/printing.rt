@@ -1,10 +1,10 @@
 //! What is printed for an answer.
 ghost use Rattle.std.specs.Prelude.{◌≡◌, ◌++◌, ◌∷◌, [], ◌||◌, map, true, false, length, is_none, IfOk, OnOk};
 ghost use Rattle.solv_io.specs.Lines.{ended_lines};
-ghost use Rattle.solv_pool.specs.Prelude.{when, IsClosed, catalog_of};
+ghost use Rattle.solv_pool.specs.Prelude.{when, IsClosed, catalog_of, hard_rules};
 ghost use Rattle.solv_prov.specs.Index.{IsIndexOf};
 ghost use Rattle.solv_rules.specs.Books.{read_rules};
-ghost use Rattle.solv_answers.specs.Answers.{is_transaction, left_of, made_rules};
+ghost use Rattle.solv_answers.specs.Answers.{is_transaction};
 ghost use Rattle.solv_script.specs.Inner.Turns.{first_turn};
 ghost use Rattle.solv_run.specs.Inner.Outcomes.{has_listed};
 ghost use Rattle.solv_run.specs.Inner.Texts.{problems_lines, is_as_wanted};
@@ -46,7 +46,7 @@ fn answer_lines(
 ) -> Result<LineSet, AllocError>
     requires closed { IsClosed script.now.task }
     requires index { IsIndexOf prov.now (catalog_of script.now.task) }
-    requires rules { is_transaction answer.now ≡ false → read_rules rules.now ≡ made_rules script.now.task (left_of answer.now) }
+    requires rules { is_transaction answer.now ≡ false → read_rules rules.now ≡ hard_rules script.now.task }
     requires listed { has_listed (length script.now.task.universe.packages) answer.now ≡ true }
     ensures { IfOk result (λ lines. lines ≡ line_set (answer_lines script.now.task script.now.kinds answer.now)) }
 {
@@ -66,7 +66,7 @@ fn answer_lines(
             };
             result_lines(alloc, script.kinds, task, prov, rules, &solved)
         }
-        Answer::Problems { problems, .. } => {
+        Answer::Problems(problems) => {
             lines_of_problems(alloc, script, prov, rules, problems.held())
         }
         Answer::Spent => {
@@ -176,7 +176,7 @@ pub(crate) fn round_said(
 ) -> Result<Said, AllocError>
     requires closed { IsClosed script.now.task }
     requires index { IsIndexOf prov.now (catalog_of script.now.task) }
-    requires rules { is_transaction answer.now ≡ false → read_rules rules.now ≡ made_rules script.now.task (left_of answer.now) }
+    requires rules { is_transaction answer.now ≡ false → read_rules rules.now ≡ hard_rules script.now.task }
     requires listed { has_listed (length script.now.task.universe.packages) answer.now ≡ true }
     ensures text { IfOk result (λ made. made.text.items ≡ ended_lines (round_lines shows (first_turn script.now) answer.now)) }
     ensures as_wanted { IfOk result (λ made. made.as_wanted ≡ is_as_wanted (first_turn script.now) answer.now) }

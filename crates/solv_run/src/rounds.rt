@@ -7,7 +7,7 @@ ghost use Rattle.solv_pool.specs.TaskForms.{HasForms};
 ghost use Rattle.solv_prov.specs.Index.{IsIndexOf};
 ghost use Rattle.solv_rules.specs.Books.{IsDue, first_fault, read_rules};
 ghost use Rattle.solv_rounds.specs.Inner.Fronts.{IsDueAt, IsLimitAt};
-ghost use Rattle.solv_answers.specs.Answers.{IsPrepared, first_limit, is_transaction, left_of, made_rules};
+ghost use Rattle.solv_answers.specs.Answers.{IsPrepared, first_limit, is_transaction};
 ghost use Rattle.solv_answers.specs.Inner.Fronts.{MayGoOn};
 ghost use Rattle.solv_script.specs.Rounds.{tasks, turn_of, turns, with_jobs_of};
 ghost use Rattle.solv_script.specs.Inner.Turns.{first_turn};
@@ -62,7 +62,7 @@ impl Begun {
     ) -> Result<(), AllocError>
         requires closed { IsClosed script.now.task }
         requires index { IsIndexOf prov.now (catalog_of script.now.task) }
-        requires rules { is_transaction answer.now ≡ false → read_rules rules.now ≡ made_rules script.now.task (left_of answer.now) }
+        requires rules { is_transaction answer.now ≡ false → read_rules rules.now ≡ hard_rules script.now.task }
         requires listed { has_listed (length script.now.task.universe.packages) answer.now ≡ true }
         ensures { OnOk result (HasPrinted shows (first_turn script.now) answer.now self.old self.new) }
     {

@@ -11,7 +11,7 @@ use Rattle.solv_pool.specs.declared.tasks.Task.{Task}
 use Rattle.solv_rules.specs.Books.{IsDue, first_fault}
 use Rattle.solv_rules.specs.declared.fault.BookFault.{BookFault}
 use Rattle.solv_script.specs.declared.scripts.Script.{Script}
-use Rattle.solv_answers.specs.Answers.{IsAnswered, IsTransactionUnlessChoicesClash, is_whole}
+use Rattle.solv_answers.specs.Answers.{IsAnswered, IsTransactionUnlessChoicesClash}
 use Rattle.solv_draft.proofs.Drawing.{selection_fits}
 use Rattle.solv_solved.specs.Anew.{IsSame}
 use Rattle.solv_draft.specs.JobRows.{are_rows, is_number_of, flags_of, is_row, job_of, with_rows}
@@ -58,8 +58,8 @@ module _ (script : Script) (row : FlagRow) (rows : List JobRow) (flags : Flags) 
   given P h = subst (λ (j : List Job). P (flags_of row) j) is (subst (λ (f : Flags). P f jobs) same_flags h)
 
   pub solved_anew : (budget : ℕ) (new : Solved) → new.script ≡ script_with script flags jobs → first_fault (catalog_of (task_with script.task flags jobs)) 0 (hard_rules (task_with script.task flags jobs)) ≡ None
-      → IsAnswered (task_with script.task flags jobs) budget new.answer new.ledger → IsTransactionUnlessChoicesClash (task_with script.task flags jobs) new.answer → is_whole new.answer ≡ true → IsSolved budget (with_rows script row rows) new
-  solved_anew budget new same fits good direct whole = given (λ f j. IsSolved budget (script_with script f j) new) (record { of_script = same; fits = fits; good = good; direct = direct; whole = whole })
+      → IsAnswered (task_with script.task flags jobs) budget new.answer new.ledger → IsTransactionUnlessChoicesClash (task_with script.task flags jobs) new.answer → IsSolved budget (with_rows script row rows) new
+  solved_anew budget new same fits good direct = given (λ f j. IsSolved budget (script_with script f j) new) (record { of_script = same; fits = fits; good = good; direct = direct })
 
   pub due_anew : (fault : BookFault) → IsDue (first_fault (catalog_of (task_with script.task flags jobs)) 0 (hard_rules (task_with script.task flags jobs))) fault
       → IsDue (first_fault (catalog_of (with_rows script row rows).task) 0 (hard_rules (with_rows script row rows).task)) fault

@@ -4,9 +4,7 @@ use Rattle.std.specs.Prelude.{IsSomeAnd, slice_get}
 use Rattle.std.specs.List.{enumerate_from, list_all}
 use Rattle.std.proofs.lemmas.Bool.{and_parts, and_from}
 use Rattle.std.proofs.lemmas.List.{append-nil}
-use Rattle.solv_answers.specs.Answers.{IsAnswered, is_whole, made_core}
-use Rattle.solv_answers.specs.Inner.Answers.{request}
-use Rattle.solv_answers.proofs.Whole.{whole_problems}
+use Rattle.solv_answers.specs.Answers.{IsAnswered, hard_core, request}
 use Rattle.solv_answers.specs.declared.answers.Answer.{Answer}
 use Rattle.solv_answers.specs.declared.answers.Answer.TheVariants.{Transaction, Problems, Spent}
 use Rattle.solv_core.specs.declared.ledger.Ledger.{Ledger}
@@ -54,16 +52,16 @@ at_round task p (suc zero) said = said
 at_round task p (suc (suc n)) said = absurd said
 
 -- good problems of a task are those of the one round
-each_good : (task : Task) (problems : List Problem) → IsGoodList (request task) (made_core task []) problems → (i : ℕ) (r : Request) (ps : List Problem) → slice_get (request task ∷ []) i ≡ Some r
+each_good : (task : Task) (problems : List Problem) → IsGoodList (request task) (hard_core task) problems → (i : ℕ) (r : Request) (ps : List Problem) → slice_get (request task ∷ []) i ≡ Some r
     → slice_get (problems ∷ []) i ≡ Some ps → 0 < length ps → AreGoodFor r ps
 each_good task problems good zero r ps at there some =
-    let here : AreGoodFor (request task) problems = record { core = made_core task []; clauses = refl; good = good } in
+    let here : AreGoodFor (request task) problems = record { core = hard_core task; clauses = refl; good = good } in
     let one : request task ≡ r = cc in
     let all : problems ≡ ps = cc in
     subst (λ (q : Request). AreGoodFor q ps) one (subst (λ (l : List Problem). AreGoodFor (request task) l) all here)
 each_good task problems good (suc i) r ps at there some = absurd (cc)
 
-good_proved : ProblemsMayBeWritten → ProblemsAreProved → (task : Task) (problems : List Problem) → IsGoodList (request task) (made_core task []) problems → are_proved task problems ≡ true
+good_proved : ProblemsMayBeWritten → ProblemsAreProved → (task : Task) (problems : List Problem) → IsGoodList (request task) (hard_core task) problems → are_proved task problems ≡ true
 good_proved may law task [] good = refl
 good_proved may law task (first ∷ others) good =
     let problems : List Problem = first ∷ others in
@@ -78,10 +76,10 @@ good_proved may law task (first ∷ others) good =
     (λ i p e. at_round task p p.round (law requests rounds of i p (subst (λ (l : List Proof). slice_get l i ≡ Some p) (sym same) e)))
 
 -- the proofs of the problems of an answer, be it what it may
-pub proved : ProblemsMayBeWritten → ProblemsAreProved → (task : Task) (budget : ℕ) (answer : Answer) (ledger : Ledger) → IsAnswered task budget answer ledger → is_whole answer ≡ true → are_proved task (problems_in answer) ≡ true
-proved may law task budget (Transaction trail set made ordered) ledger is whole = refl
-proved may law task budget (Problems left problems) ledger is whole = good_proved may law task problems (whole_problems task budget left problems ledger is whole).good
-proved may law task budget Spent ledger is whole = refl
+pub proved : ProblemsMayBeWritten → ProblemsAreProved → (task : Task) (budget : ℕ) (answer : Answer) (ledger : Ledger) → IsAnswered task budget answer ledger → are_proved task (problems_in answer) ≡ true
+proved may law task budget (Transaction trail set made ordered) ledger is = refl
+proved may law task budget (Problems problems) ledger is = good_proved may law task problems is.is.good
+proved may law task budget Spent ledger is = refl
 
 -- the proof of the problem at a place may be written, and yes is said of it
 proved_at : (task : Task) (n i : ℕ) (problems : List Problem) (problem : Problem) → list_all (is_proved task) (map (λ x. proof_of 1 x.0 x.1) (enumerate_from n problems)) ≡ true → slice_get problems i ≡ Some problem

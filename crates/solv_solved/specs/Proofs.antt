@@ -15,7 +15,7 @@ use Rattle.solv_verdicts.specs.declared.verdicts.Verdict.TheVariants.{Yes}
 -- the problems of an answer; a transaction has none
 abbrev pub problems_in : Answer → List Problem
 problems_in (Transaction trail set made ordered) = []
-problems_in (Problems left problems) = problems
+problems_in (Problems problems) = problems
 problems_in Spent = []
 
 -- the text of the proof of the problem of this number, from 0 on; in it the problem is one of the first round, in which problems are numbered from 1

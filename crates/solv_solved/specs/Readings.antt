@@ -14,29 +14,29 @@ use Rattle.solv_solved.specs.declared.outcomes.Held.TheVariants.{Answered, Refus
 -- the changes of an answer, their order, and the packages that are there after them, with the system; problems have none
 abbrev pub changes_in : Answer → List Change
 changes_in (Transaction trail set made ordered) = made
-changes_in (Problems left problems) = []
+changes_in (Problems problems) = []
 changes_in Spent = []
 
 abbrev pub order_in : Answer → List ℕ
 order_in (Transaction trail set made ordered) = ordered.parts
-order_in (Problems left problems) = []
+order_in (Problems problems) = []
 order_in Spent = []
 
 abbrev pub set_in : Answer → List ℕ
 set_in (Transaction trail set made ordered) = set
-set_in (Problems left problems) = []
+set_in (Problems problems) = []
 set_in Spent = []
 
 -- the cycles in what its parts require of each other: of pre-requirements, or of all requirements; each ascending, by their lowest members
 abbrev pub cycles_in : Bool → Answer → List (List ℕ)
 cycles_in pre (Transaction trail set made ordered) = if pre then ordered.pre_cycles else ordered.cycles
-cycles_in pre (Problems left problems) = []
+cycles_in pre (Problems problems) = []
 cycles_in pre Spent = []
 
 -- the number of an answer: a transaction, problems, or that the budget is spent
 abbrev pub answer_number : Answer → ℕ
 answer_number (Transaction trail set made ordered) = 0
-answer_number (Problems left problems) = 9
+answer_number (Problems problems) = 9
 answer_number Spent = 5
 
 -- the same of what is held; a refusal has none of them, and the number of its status; nor has a task without an answer, whose number is 10

@@ -10,7 +10,7 @@ use Rattle.solv_io.specs.declared.status.Status.TheVariants.{ReadFault}
 use Rattle.solv_said.specs.Dues.{limit_due, read_fault_due}
 use Rattle.solv_said.specs.Fetches.{IsUnreadDue, WasFetched}
 use Rattle.solv_said.specs.declared.dues.Due.{Due}
-use Rattle.solv_answers.specs.Answers.{IsAnswered, IsTransactionUnlessChoicesClash, is_whole}
+use Rattle.solv_answers.specs.Answers.{IsAnswered, IsTransactionUnlessChoicesClash}
 use Rattle.solv_lent.specs.Lent.{is_missing, lent_bytes}
 use Rattle.solv_lent.specs.declared.lent_file.LentFile.{LentFile}
 use Rattle.solv_solved.specs.declared.with_answer.Solved.{Solved}
@@ -22,13 +22,12 @@ abbrev pub program : List ℕ
 program = codes "gachuswi"
 
 -- The first round of this script is answered within the budget: a transaction, problems, or that the budget is spent, with what holds of each. It is a
--- transaction where the choices of the task's questions meet no conflict, and problems name rules by their numbers among all hard rules.
+-- transaction where the choices of the task's questions meet no conflict.
 pub record IsSolved (budget : ℕ) (script : Script) (solved : Solved) : Type 0 where
   pub of_script : solved.script ≡ script
   pub fits : first_fault (catalog_of script.task) 0 (hard_rules script.task) ≡ None
   pub good : IsAnswered script.task budget solved.answer solved.ledger
   pub direct : IsTransactionUnlessChoicesClash script.task solved.answer
-  pub whole : is_whole solved.answer ≡ true
 
 -- what a script that was read comes to: an answer to its first round, or the line on the first limit that the clauses of this round pass
 pub data IsHeldFor (budget : ℕ) (script : Script) : Held → Type 0 where

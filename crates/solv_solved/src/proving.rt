@@ -1,7 +1,7 @@
 //! The proofs of an answer's problems.
 ghost use Rattle.std.specs.Prelude.{Ok as is_ok, ◌≡◌, ◌∷◌, [], true, slice_get, IfOk, IfSome};
 ghost use Rattle.std.specs.Option.{option_copied};
-ghost use Rattle.solv_answers.specs.Answers.{IsAnswered, is_whole};
+ghost use Rattle.solv_answers.specs.Answers.{IsAnswered};
 ghost use Rattle.solv_proof.specs.Reading.{proof_read};
 ghost use Rattle.solv_proof.specs.Texts.{are_listed, proof_text};
 ghost use Rattle.solv_verdicts.specs.Laws.{proof_of};
@@ -24,7 +24,6 @@ use std::alloc::{AllocError, Global};
 /// That the proof of each problem of an answer may be written by itself, and that yes is said of it.
 pub(crate) fn answer_is_proved(task: &Task, answered: &Answered, budget: u32)
     requires good { IsAnswered task.now budget answered.now.answer answered.now.ledger }
-    requires whole { is_whole answered.now.answer ≡ true }
     ensures { are_proved task.now (problems_in answered.now.answer) ≡ true }
 {
     problems_may_be_written();

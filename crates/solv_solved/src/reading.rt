@@ -17,7 +17,7 @@ fn answer_number(answer: &Answer) -> u8
 {
     match answer {
         Answer::Transaction { .. } => 0,
-        Answer::Problems { .. } => 9,
+        Answer::Problems(_) => 9,
         Answer::Spent => 5,
     }
 }
@@ -73,7 +73,7 @@ pub(crate) fn problems_in(answer: &Answer) -> &[Problem]
     ensures { result.now ≡ problems_in answer.now }
 {
     match answer {
-        Answer::Problems { problems, .. } => problems.held(),
+        Answer::Problems(problems) => problems.held(),
         _ => &[],
     }
 }

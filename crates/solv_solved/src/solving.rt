@@ -4,7 +4,7 @@ ghost use Rattle.solv_pool.specs.Prelude.{catalog_of, hard_rules, IsClosed};
 ghost use Rattle.solv_pool.specs.TaskForms.{HasForms};
 ghost use Rattle.solv_prov.specs.Index.{IsIndexOf};
 ghost use Rattle.solv_rules.specs.Books.{IsDue, first_fault, read_rules};
-ghost use Rattle.solv_answers.specs.Answers.{IsAnswered, IsPrepared, IsTransactionUnlessChoicesClash, is_whole};
+ghost use Rattle.solv_answers.specs.Answers.{IsAnswered, IsPrepared, IsTransactionUnlessChoicesClash};
 ghost use Rattle.solv_said.specs.Inner.Faults.{IsFaultDue};
 ghost use Rattle.solv_said.specs.Runs.{files_run};
 ghost use Rattle.solv_solved.specs.Inner.Answering.{IsRefusalOf};
@@ -69,7 +69,6 @@ fn answer_with_rules(
     requires budget { budget ≤ 1000000 }
     ensures good { IfOk result (λ a. IsAnswered task.now budget a.answered.answer a.answered.ledger) }
     ensures direct { IfOk result (λ a. IsTransactionUnlessChoicesClash task.now a.answered.answer) }
-    ensures whole { IfOk result (λ a. is_whole a.answered.answer ≡ true) }
     ensures rules { IfOk result (λ a. read_rules a.rules ≡ hard_rules task.now) }
     ensures proved { IfOk result (λ a. are_proved task.now (problems_in a.answered.answer) ≡ true) }
 {
@@ -92,7 +91,6 @@ pub(crate) fn answer_of(
     requires budget { budget ≤ 1000000 }
     ensures good { IfOk result (λ a. IsAnswered task.now budget a.answered.answer a.answered.ledger) }
     ensures direct { IfOk result (λ a. IsTransactionUnlessChoicesClash task.now a.answered.answer) }
-    ensures whole { IfOk result (λ a. is_whole a.answered.answer ≡ true) }
     ensures rules { IfOk result (λ a. read_rules a.rules ≡ hard_rules task.now) }
     ensures proved { IfOk result (λ a. are_proved task.now (problems_in a.answered.answer) ≡ true) }
     ensures fits { OnOk result (first_fault (catalog_of task.now) 0 (hard_rules task.now) ≡ None) }
@@ -120,7 +118,6 @@ pub(crate) fn index_and_answer(
     ensures index { IfOk result (λ made. IsIndexOf made.0 (catalog_of task.now)) }
     ensures good { IfOk result (λ made. IsAnswered task.now budget made.1.answered.answer made.1.answered.ledger) }
     ensures direct { IfOk result (λ made. IsTransactionUnlessChoicesClash task.now made.1.answered.answer) }
-    ensures whole { IfOk result (λ made. is_whole made.1.answered.answer ≡ true) }
     ensures rules { IfOk result (λ made. read_rules made.1.rules ≡ hard_rules task.now) }
     ensures proved { IfOk result (λ made. are_proved task.now (problems_in made.1.answered.answer) ≡ true) }
     ensures fits { OnOk result (first_fault (catalog_of task.now) 0 (hard_rules task.now) ≡ None) }

@@ -6,12 +6,12 @@ use Rattle.solv_pool.specs.declared.job_marks.Marks.{Marks}
 use Rattle.solv_pool.specs.declared.tasks.Task.{Task}
 use Rattle.solv_jobs.specs.Marking.{HasMarks}
 use Rattle.solv_rules.specs.Books.{IsBook, first_fault, is_bookable, read_rules}
-use Rattle.solv_leaving.specs.Leaving.{LeavesOut, leaving}
+use Rattle.solv_leaving.specs.Inner.Leaving.{LeavesOut, leaving}
 use Rattle.solv_core.specs.Inner.Holding.{IsHeldBy}
 use Rattle.solv_core.specs.Inner.Running.{is_spent_verdict}
 use Rattle.solv_decide.specs.Inner.Deciding.{IsAskedFor, IsDecided}
 use Rattle.solv_decide.specs.declared.deciding.Decided.{Decided}
-use Rattle.solv_answers.specs.Answers.{all_made, made_core, made_request, made_rules}
+use Rattle.solv_answers.specs.Inner.Made.{all_made, made_core, made_request, made_rules}
 use Rattle.solv_answers.specs.Inner.Beginnings.{HasBegun}
 use Rattle.solv_answers.specs.declared.lean.Lean.{Lean}
 

@@ -8,7 +8,7 @@ use Rattle.solv_pool.specs.declared.packages.Need.{Need}
 use Rattle.solv_pool.specs.declared.packages.Package.{Package}
 use Rattle.solv_pool.specs.declared.tasks.Flags.{Flags}
 use Rattle.solv_rules.specs.Books.{first_fault, most_words}
-use Rattle.solv_leaving.specs.Leaving.{leaving}
+use Rattle.solv_leaving.specs.Inner.Leaving.{leaving}
 use Rattle.solv_leaving.specs.Inner.Starting.{is_met_alone}
 
 -- so many words, where a book may have them

@@ -4,7 +4,7 @@ use Rattle.std.specs.List.{list_all, zip}
 use Rattle.solv_io.specs.Lines.{ended_lines}
 use Rattle.solv_pool.specs.declared.tasks.Task.{Task}
 use Rattle.solv_core.specs.declared.ledger.Ledger.{Ledger}
-use Rattle.solv_answers.specs.Answers.{is_spent, is_whole}
+use Rattle.solv_answers.specs.Answers.{is_spent}
 use Rattle.solv_answers.specs.declared.answers.Answer.{Answer}
 use Rattle.solv_answers.specs.declared.answers.Answered.{Answered}
 use Rattle.solv_script.specs.Rounds.{Turn}
@@ -52,8 +52,7 @@ pub record HasNext (command : Command) (old new : Begun) : Type 0 where
   pub reached : new.reached ≡ old.reached
   pub left : new.left ≡ old.left
 
--- One round more was begun, with these lines before its own. What is printed is said where lines are asked for; where they are not,
--- rules are named by their numbers among all hard rules.
+-- One round more was begun, with these lines before its own. What is printed is said where lines are asked for.
 pub record IsOneMore (command : Command) (before : List (List ℕ)) (turn : Turn) (old new : Begun) : Type 0 where
   pub answer : Answer
   pub ledger : Ledger
@@ -64,7 +63,6 @@ pub record IsOneMore (command : Command) (before : List (List ℕ)) (turn : Turn
   pub as_wanted : prints_lines command.output ≡ true → new.as_wanted ≡ (old.as_wanted && is_as_wanted turn answer)
   pub spent : new.spent ≡ is_spent answer
   pub left : is_spent answer ≡ false → new.left ≡ old.left - length ledger.entries
-  pub whole : prints_lines command.output ≡ false → is_whole answer ≡ true
 
 -- One round more after others: where the budget is spent all is as before, and else it was begun, with the line before a later round.
 pub record GoesOn (command : Command) (turn : Turn) (old new : Begun) : Type 0 where
@@ -79,7 +77,6 @@ pub record HasBegun (command : Command) (tasks : List Task) (turns : List Turn) 
   pub text : prints_lines command.output ≡ true → (answers : List Answer) → begun.text.items ++ ended_lines (later_lines command later_turns answers) ≡ ended_lines (rounds_lines command.shows turns (begun.reached.answers ++ answers))
   pub as_wanted : prints_lines command.output ≡ true → (answers : List Answer) → (begun.as_wanted && are_as_wanted later_turns answers) ≡ are_as_wanted turns (begun.reached.answers ++ answers)
   pub spent : begun.spent ≡ some_spent begun.reached.answers
-  pub whole : prints_lines command.output ≡ false → list_all is_whole begun.reached.answers ≡ true
 
 -- All that are begun: they are answers to the rounds of a script, and what is printed of them is put together.
 pub record AreAll (command : Command) (tasks : List Task) (turns : List Turn) (begun : Begun) : Type 0 where
@@ -87,4 +84,3 @@ pub record AreAll (command : Command) (tasks : List Task) (turns : List Turn) (b
   pub text : prints_lines command.output ≡ true → begun.text.items ≡ ended_lines (rounds_lines command.shows turns begun.reached.answers)
   pub as_wanted : prints_lines command.output ≡ true → begun.as_wanted ≡ are_as_wanted turns begun.reached.answers
   pub spent : begun.spent ≡ some_spent begun.reached.answers
-  pub whole : prints_lines command.output ≡ false → list_all is_whole begun.reached.answers ≡ true

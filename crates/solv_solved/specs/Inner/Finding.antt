@@ -5,7 +5,7 @@ use Rattle.solv_pool.specs.declared.tasks.Task.{Task}
 use Rattle.solv_prov.specs.Index.{Index, IsIndexOf}
 use Rattle.solv_rules.specs.Books.{first_fault, read_rules}
 use Rattle.solv_rules.specs.declared.fault.BookFault.{BookFault}
-use Rattle.solv_answers.specs.Answers.{IsAnswered, IsTransactionUnlessChoicesClash, is_whole}
+use Rattle.solv_answers.specs.Answers.{IsAnswered, IsTransactionUnlessChoicesClash}
 use Rattle.solv_said.specs.Dues.{limit_line}
 use Rattle.solv_solved.specs.Building.{script_of}
 use Rattle.solv_solved.specs.Inner.Proving.{are_proved}
@@ -26,7 +26,6 @@ pub record IsFoundAnswer (budget : ℕ) (task : Task) (index : Index) (given : W
   pub of_task : IsIndexOf index (catalog_of task)
   pub good : IsAnswered task budget given.answered.answer given.answered.ledger
   pub direct : IsTransactionUnlessChoicesClash task given.answered.answer
-  pub whole : is_whole given.answered.answer ≡ true
   pub rules : read_rules given.rules ≡ hard_rules task
   pub proved : are_proved task (problems_in given.answered.answer) ≡ true
   pub fits : first_fault (catalog_of task) 0 (hard_rules task) ≡ None

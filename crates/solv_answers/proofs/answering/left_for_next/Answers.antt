@@ -1,4 +1,4 @@
-use Rattle.solv_answers.specs.Inner.Answers.{request}
+use Rattle.solv_answers.specs.Answers.{request}
 use Rattle.solv_answers.proofs.answering.left_for_next.Goals as goal
 
 pub returns-then-keeps : goal.returns-then-keeps

@@ -1,7 +1,7 @@
 use Rattle.std.proofs.Common.{Bool, List, ap, subst, sym}
 use Rattle.solv_pool.specs.Prelude.{catalog_of, marks_of}
 use Rattle.solv_pool.specs.declared.job_marks.Marks.{Marks}
-use Rattle.solv_leaving.specs.Leaving.{LeavesOut, leaving}
+use Rattle.solv_leaving.specs.Inner.Leaving.{LeavesOut, leaving}
 use Rattle.solv_answers.proofs.lean.lean_marks.Goals as goal
 
 pub returns-clause-left : goal.returns-clause-left

@@ -5,8 +5,6 @@ use Rattle.solv_script.specs.Inner.Turns.{first_turn}
 use Rattle.solv_script.specs.Rounds.{tasks, turn_of, turns, with_jobs_of}
 use Rattle.solv_script.specs.declared.scripts.Round.{Round}
 use Rattle.solv_run.specs.Rounds.{IsGoodAnswer}
-use Rattle.solv_answers.specs.declared.answers.Answered.{Answered}
-use Rattle.solv_run.specs.Inner.Outcomes.{has_listed}
 use Rattle.solv_run.specs.Inner.Rounds.{HasBegun, IsOneMore, prints_lines}
 use Rattle.solv_run.specs.declared.reports.Reached.{Reached}
 use Rattle.solv_run.proofs.AnswerLines.{listed_answer}
@@ -16,11 +14,7 @@ use Rattle.std.specs.declared.alloc.AllocError.{AllocError}
 use Rattle.solv_run.proofs.lean.answer_due.Goals as goal
 
 pub print-requires-clause-listed : goal.print-requires-clause-listed
-print-requires-clause-listed c =
-    let task = c.args.script.now.task in
-    let L : Answered → Type 0 = λ a. has_listed (length task.universe.packages) a.answer ≡ true in
-    let good = c.requires.good.is in
-    subst L (sym c.parts-answered.ensures.answered) (listed_answer task good.left c.args.given.answered.answer good.is)
+print-requires-clause-listed c = listed_answer c.args.script.now.task c.args.given.answered.answer c.requires.good.is.is
 
 pub answers_concluded-requires-clause-fits : goal.answers_concluded-requires-clause-fits
 answers_concluded-requires-clause-fits c =
@@ -32,11 +26,10 @@ answers_concluded-requires-clause-all c =
     let script = c.args.script.now in
     let command = c.args.command.now in
     let turn = first_turn script in
-    let answered = c.parts-answered.result.0 in
+    let answered = c.args.given.answered in
     let none = c.none_begun-begun.ensures in
-    let G : Answered → Type 0 = λ a. IsGoodAnswer script.task command.budget a.answer a.ledger in
     let good : IsGoodAnswer script.task c.none_begun-begun.result.left answered.answer answered.ledger =
-    subst (λ n. IsGoodAnswer script.task n answered.answer answered.ledger) (sym none.left) (subst G (sym c.parts-answered.ensures.answered) c.requires.good) in
+    subst (λ n. IsGoodAnswer script.task n answered.answer answered.ledger) (sym none.left) c.requires.good in
     let plain : prints_lines command.output ≡ true = ap prints_lines c.requires.plain in
     let more : IsOneMore command [] turn c.none_begun-begun.result c.take.new.self =
     taken_behind {E = AllocError} command turn answered (Ok tt) c.none_begun-begun.result c.print.new.self c.take.new.self plain good c.in_ok-print.ensures c.in_ok-take.ensures.taken in

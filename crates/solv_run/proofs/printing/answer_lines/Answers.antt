@@ -1,10 +1,10 @@
 use Rattle.std.proofs.Common.{◌≡◌, ℕ, List, ap, sym, subst, ◌∙◌}
 use Rattle.std.specs.Prelude.{IfOk}
-use Rattle.solv_pool.specs.Prelude.{catalog_of}
+use Rattle.solv_pool.specs.Prelude.{catalog_of, hard_rules}
 use Rattle.solv_rules.specs.Books.{read_rules}
 use Rattle.solv_lines.specs.LineSets.{line_set}
 use Rattle.solv_lines.specs.ResultLines.{solved_lines}
-use Rattle.solv_answers.specs.Answers.{is_transaction, left_of, made_rules}
+use Rattle.solv_answers.specs.Answers.{is_transaction}
 use Rattle.solv_run.specs.Inner.Texts.{problems_lines}
 use Rattle.solv_run.specs.Texts.{answer_lines}
 use Rattle.solv_run.proofs.printing.answer_lines.Goals as goal
@@ -26,8 +26,8 @@ returns-in-Problems c =
     let task = c.args.script.now.task in
     let kinds = c.args.script.now.kinds in
     let found = c.in-Problems in
-    let rules : read_rules c.args.rules.now ≡ made_rules task found.left_out = c.requires.rules (ap is_transaction found.is) ∙ ap (λ a. made_rules task (left_of a)) found.is in
+    let rules : read_rules c.args.rules.now ≡ hard_rules task = c.requires.rules (ap is_transaction found.is) in
     let same : problems_lines task (read_rules c.args.rules.now) kinds c.held-in-Problems.result.now ≡ answer_lines task kinds c.args.answer.now =
-    ap (λ r. problems_lines task r kinds c.held-in-Problems.result.now) rules ∙ ap (problems_lines task (made_rules task found.left_out) kinds) c.held-in-Problems.ensures ∙ ap (answer_lines task kinds) (sym found.is) in
+    ap (λ r. problems_lines task r kinds c.held-in-Problems.result.now) rules ∙ ap (problems_lines task (hard_rules task) kinds) c.held-in-Problems.ensures ∙ ap (answer_lines task kinds) (sym found.is) in
     let P : List (List ℕ) → Type 0 = λ told. IfOk c.lines_of_problems.result (λ made. made ≡ line_set told) in
     subst P same c.lines_of_problems.ensures

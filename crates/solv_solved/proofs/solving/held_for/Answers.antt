@@ -10,7 +10,6 @@ solved-requires-clause-found c = record {
   of_task = c.in-Ok.ensures.index;
   good = c.in-Ok.ensures.good;
   direct = c.in-Ok.ensures.direct;
-  whole = c.in-Ok.ensures.whole;
   rules = c.in-Ok.ensures.rules;
   proved = c.in-Ok.ensures.proved;
   fits = c.in-Ok.ensures.fits;

@@ -12,4 +12,4 @@ invariant_of-result c = record {
 }
 
 pub returns : goal.returns
-returns c = record { of_script = refl; fits = c.requires.found.fits; good = c.requires.found.good; direct = c.requires.found.direct; whole = c.requires.found.whole }
+returns c = record { of_script = refl; fits = c.requires.found.fits; good = c.requires.found.good; direct = c.requires.found.direct }

@@ -47,7 +47,7 @@ invariant_of-self-in-Err c =
 pub returns-in-Ok-clause-solved : goal.returns-in-Ok-clause-solved
 returns-in-Ok-clause-solved c =
     let flags : c.replace-flags_before.new.dest ≡ flags_of c.args.flags.now = c.replace-flags_before.ensures.after ∙ c.flags_of.ensures in
-    solved_anew c.args.self.now.script c.args.flags.now c.args.rows.now _ c.replace-before.new.dest flags (c.replace-before.ensures.after ∙ c.requires.jobs) c.args.budget _ refl c.in-Ok.ensures.fits c.in-Ok.ensures.good c.in-Ok.ensures.direct c.in-Ok.ensures.whole
+    solved_anew c.args.self.now.script c.args.flags.now c.args.rows.now _ c.replace-before.new.dest flags (c.replace-before.ensures.after ∙ c.requires.jobs) c.args.budget _ refl c.in-Ok.ensures.fits c.in-Ok.ensures.good c.in-Ok.ensures.direct
 
 pub returns-in-Err-clause-fault : goal.returns-in-Err-clause-fault
 returns-in-Err-clause-fault c =

@@ -1,0 +1,12 @@
+use Rattle.std.proofs.Common.{◌+◌, ◌∙◌, ap}
+use Rattle.solv_pool.specs.declared.hard_rules.Rules.{Rules}
+use Rattle.solv_over.specs.Inner.Sums.{sum_at, sums_from}
+use Rattle.solv_over.proofs.Tables.{are_places}
+use Rattle.solv_over.proofs.places.Places.of.Goals as goal
+
+pub returns : goal.returns
+returns c =
+    are_places c.args.task.now c.args.left.now c.args.book.now c.requires.out c.requires.book c.requires.rules _ (c.held.ensures ∙ ap (λ (r : Rules). r.list) c.rules.ensures) c.owners.ensures c.count-count.ensures
+    (c.in_ok-rules_before.ensures ∙ ap (sums_from 0) (c.deref.ensures.value ∙ c.in_ok-rules_each.ensures))
+    (c.in_ok-clauses_before.ensures ∙ ap (sums_from 0) (c.deref-2.ensures.value ∙ c.in_ok-clauses_each.ensures))
+    (c.sum_at.ensures ∙ ap (λ table. sum_at table (c.count-count.result + 1)) c.deref-3.ensures.value)
