@@ -54,7 +54,7 @@ typedef struct gachuswi_file {
 
 /* What is asked for besides the script. Not both of `proves` and `writes` are true. */
 typedef struct gachuswi_options {
-    uint32_t budget; /* how many rules may be learnt, at most 1,000,000 */
+    uint32_t budget; /* how many clauses may be learnt in all rounds, at most 1,000,000; one more, and it is spent */
     bool shows;      /* give the result lines also where the script says which it expects (testsolv -r) */
     bool proves;     /* give proofs of the problems in place of all lines (testsolv --proof) */
     bool writes;     /* give the script itself as one text, and solve nothing (testsolv --write) */

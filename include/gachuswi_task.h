@@ -7,9 +7,9 @@
  * What gachuswi.h says of threads, memory, stack and of what a caller owes holds here too, with a gachuswi_task in the place of a
  * gachuswi_answer. Memory that a call writes (`into`, `count`, the task) is no part of what it reads, nor of each other.
  *
- * Packages are numbered from 1 in the order in which the repositories list them; 0 is the system. Rules are numbered from 0, and
- * so are problems, and the solutions of each problem. Numbers of rules, problems and solutions are those of one answer: another answer has
- * others. Repositories are numbered from 0.
+ * Packages are numbered from 1 in the order in which the repositories list them; 0 is the system. Rules are numbered from 0 by
+ * their places among all hard rules of the task, as in the proof of a problem, and problems, and the solutions of each problem, from 0
+ * too. Numbers of rules, problems and solutions are those of one answer: another answer has others. Repositories are numbered from 0.
  */
 #ifndef GACHUSWI_TASK_H
 #define GACHUSWI_TASK_H
