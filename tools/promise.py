@@ -3,7 +3,7 @@
 
     tools/promise.py               how large each of the four promises is, and crate by crate what stands beside them
     tools/promise.py --check       fails where a module of a crate's specs/ holds anything else: what serves contracts
-                                   between layers, loops and tables stands in specs/Inner/, examples in specs/Examples/
+                                   between layers, loops and tables stands in specs/Inner/, examples in crates of their own
     tools/promise.py --print NAME  one promise as a text in reading order, lowest crate first: `library` (`prepare` and
                                    `answer`), `run` (testsolv), `proofcheck`, `c` (the library for C), or `laws`, what
                                    public laws say besides; without NAME all of them together
@@ -309,7 +309,7 @@ def misplaced(book, promise):
     for module in book.modules.values():
         if (module.crate, module.name) in READ_BESIDES:
             continue
-        apart = module.crate in EXAMPLES or module.name.split(".")[0] in ("Inner", "Examples")
+        apart = module.crate in EXAMPLES or module.name.split(".")[0] == "Inner"
         yield from (item for item in module.items if (item in promise) == apart)
 
 
