@@ -2,6 +2,7 @@
 ghost use Rattle.std.specs.Prelude.{IfOk};
 ghost use Rattle.solv_pool.specs.Prelude.{IsClosed};
 
+use crate::breaking::BreakingFiles;
 use crate::stage::{files_of, held};
 use solv_io::{AllFiles, MemFiles, lines};
 use solv_pool::{PackNo, Task};
@@ -302,6 +303,46 @@ fn lines_may_end_where_a_piece_of_a_file_does(rt: HostRuntime) -> Result<(), Fai
         let text = long_repository(alloc, vendor)?;
         let is_so = is_said_of_long(alloc, script, &text, "d/f:4: MissingOperand")?;
         assert!(rt; is_so, "{vendor}");
+    }
+    Ok(())
+}
+
+/// A repository that is read by two pieces, whose last line is bad.
+const TWO_PIECES: usize = 65_600;
+
+/// Whether this is said of a script that names a file with these bytes, where this read fails.
+fn is_said_of_broken(
+    alloc: Global,
+    bytes: &[u8],
+    breaks: u64,
+    want: &str,
+) -> Result<bool, AllocError> {
+    let mut files = BreakingFiles {
+        files: files_of(alloc, &[("d/f", bytes)], &[])?,
+        reads: 0,
+        breaks,
+    };
+    let script = b"repo a 0 testtags f\n";
+    let got = said(alloc, read_script(alloc, "d/case.t", script, &mut files))?;
+    let faults = want.starts_with("cannot read") as u64;
+    Ok(got.as_str() == want && files.files.faults == faults)
+}
+
+/// Reads that fail, and what is said then: where none does, the bad line is.
+const BROKEN: &[(u64, &str)] = &[
+    (0, "d/f:4: MissingOperand"),
+    (1, "cannot read d/f"),
+    (2, "cannot read d/f"),
+];
+
+#[test]
+fn a_read_may_fail_in_the_middle_of_a_file(rt: HostRuntime) -> Result<(), Fail> {
+    let bytes = long_repository(rt.alloc(), TWO_PIECES)?;
+    for (breaks, want) in BROKEN {
+        assert!(rt;
+            is_said_of_broken(rt.alloc(), &bytes, *breaks, want)?,
+            "{breaks}"
+        );
     }
     Ok(())
 }
