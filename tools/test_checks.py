@@ -20,10 +20,10 @@ NOWHERE = "_".join(("named", "by", "no", "file"))
 FAULTS = {
     "check_names.py": (
         ("docs/HOWTO.md", "`rt plant`", f"`{NOWHERE}`", f": {NOWHERE}"),
-        ("docs/PROVED.md", "(`IsIndexOf`)", f"(`{NOWHERE}` of `solv_prov`)", f"{NOWHERE} of solv_prov"),
+        ("docs/PROVED.md", "`evr_order_is_total`", f"`{NOWHERE}` of `solv_prov`", f"{NOWHERE} of solv_prov"),
         ("docs/GATE.md", "`tools/c_tests.py`", f"`tools/{NOWHERE}.py`", f"no file tools/{NOWHERE}.py"),
         ("docs/ARCHITECTURE.md", "| prov, graph |", "| prov |", "solv_trans stands on solv_graph too"),
-        ("docs/ARCHITECTURE.md", "| leaving, trans, remedy |", "| leaving, trans, remedy, writing |", "solv_answers does not stand on solv_writing"),
+        ("docs/ARCHITECTURE.md", "| trans, over |", "| trans, over, writing |", "solv_answers does not stand on solv_writing"),
     ),
     "check_edits.py": (
         ("crates/solv_core/must-fail/spent_at_once.edit", "old: if ledger.spent() {", f"old: if {NOWHERE} {{", "0 times in src/core_run.rt"),
@@ -40,6 +40,10 @@ FAULTS = {
         ("crates/solv_script_tests/args", "nothing.t\n", "nothing.t\nnothing.t\n", " scripts"),
         ("docs/PROVED.md", " texts in the gate", " texts", "docs/PROVED.md: 0 sentences on"),
         ("docs/HOWTO.md", "at most 90 of them", "at most 30 of them", "30 is not right of"),
+    ),
+    "check_words.py": (
+        ("docs/LIBRARY.md", None, "\n" + "word " * 41 + "\n", "docs/LIBRARY.md:"),
+        ("docs/GLOSSARY.md", None, "\n| x |\n|---|\n" + "| word |\n" * 60_000, " words in all, and not "),
     ),
     "check_rows.py": (
         ("crates/solv_script_tests/args", "shown/worked/language.t\n", "", "shown/worked/language.t is run by no argument"),
@@ -94,6 +98,9 @@ def main():
                     sys.exit(f"{check} does not tell of {new!r} in {name}: status {status}\n{told}")
             for name, text in before.items():
                 (top / name).write_text(text)
+        status, told = run(top, "promise.py --words solv_policy")
+        if status or "| `by_policy` | the candidates in their order |" not in told:
+            sys.exit(f"promise.py --words solv_policy: status {status}\n{told}")
     print("as it should be")
 
 
