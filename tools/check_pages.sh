@@ -13,4 +13,5 @@ try tools/check_edits.py
 try tools/check_names.py
 try tools/check_numbers.py
 try tools/check_rows.py
+try tools/check_words.py
 exit "$failed"
