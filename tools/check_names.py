@@ -1,5 +1,5 @@
 #!/usr/bin/env python3
-"""Tells of names in backticks of README.md and docs/*.md that stand nowhere else.
+"""Tells of names in backticks of the pages at the top and in docs/ that stand nowhere else.
 
     tools/check_names.py [TOP]
 
@@ -113,7 +113,7 @@ def main():
         known.update(NAME.findall(path.name))
     known |= {part for name in known for part in parts(name)}
     faults, missing = [], {}
-    for page in [top / "README.md"] + sorted((top / "docs").glob("*.md")):
+    for page in sorted(top.glob("*.md")) + sorted((top / "docs").glob("*.md")):
         fenced = False
         for number, line in enumerate(page.read_text().split("\n"), 1):
             if line.lstrip().startswith("```"):
