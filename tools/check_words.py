@@ -1,7 +1,8 @@
 #!/usr/bin/env python3
 """Tells of sentences in pages that are too long, and of pages that are too many words together.
 
-    tools/check_words.py [TOP]                   README.md and docs/*.md: at most 55,000 words in all, and no sentence above 40
+    tools/check_words.py [TOP]                   README.md and docs/*.md: at most 55,000 words in all, no sentence above 40, and
+                                                 no entry of docs/DECISIONS.md above 80
     tools/check_words.py --table [PAGE ..]       the words of each page, those in tables and in code, its sentences, how many
                                                  of them have more than 40 words, and the longest
 
@@ -16,8 +17,11 @@ import sys
 
 MOST_WORDS = 55_000
 MOST_IN_SENTENCE = 40
-# how many longer sentences may stand in a page for now: they say what is about to change
+# pages whose paragraphs and list items are short
+MOST_IN_ENTRY = {"docs/DECISIONS.md": 80}
+# how many longer sentences, and longer entries, may stand in a page for now: they say what is about to change
 LONGER = {"docs/MAINTAINERS.md": 3, "docs/DECISIONS.md": 2}
+LONGER_ENTRIES = {"docs/DECISIONS.md": 1}
 FENCE = re.compile(r"^\s*(```|~~~)")
 ITEM = re.compile(r"^\s*(?:[-*+]|\d+[.)])\s+")
 RULE = re.compile(r"^\s*\|[\s:|-]+\|?\s*$")
@@ -119,6 +123,11 @@ def faults(top):
         row, long = counted(path)
         every += row["words"]
         name = str(path.relative_to(top))
+        if name in MOST_IN_ENTRY:
+            entries = [(line, words(plain(text)), text) for kind, line, text in blocks(path.read_text().split("\n")) if kind == "prose"]
+            entries = [entry for entry in entries if entry[1] > MOST_IN_ENTRY[name]]
+            if len(entries) > LONGER_ENTRIES.get(name, 0):
+                yield from (f"{name}:{line}: an entry of {count} words: {' '.join(text.split()[:8])} .." for line, count, text in entries)
         if len(long) > LONGER.get(name, 0):
             yield from (f"{name}:{line}: {count} words: {' '.join(sentence.split()[:12])} .." for line, count, sentence in long)
     if every > MOST_WORDS:

@@ -43,6 +43,7 @@ FAULTS = {
     ),
     "check_words.py": (
         ("docs/LIBRARY.md", None, "\n" + "word " * 41 + "\n", "docs/LIBRARY.md:"),
+        ("docs/DECISIONS.md", "## Layout\n", "## Layout\n\n- " + "Word and word. " * 30 + "\n", "an entry of 90 words"),
         ("docs/GLOSSARY.md", None, "\n| x |\n|---|\n" + "| word |\n" * 60_000, " words in all, and not "),
     ),
     "check_rows.py": (
