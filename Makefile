@@ -13,21 +13,29 @@ NAMED = gachuswi-
 BUILD = build
 # flags of rt, as --cpu=x86-64
 RTFLAGS =
+# how many crates are proved beside each other; a proof may take 8 GB
+JOBS = 4
 KIT = $(patsubst %/START-HERE.md,%,$(shell rt doc))
 TESTSOLV = crates/testsolv/out/testsolv
 PROOFCHECK = crates/proofcheck/out/proofcheck
 ARCHIVE = crates/gachuswi/out/libgachuswi.a
 MADE = $(BUILD)/testsolv $(BUILD)/proofcheck $(BUILD)/libgachuswi.a $(BUILD)/libgachuswi.so.1
 HEADERS = include/gachuswi.h include/gachuswi_task.h
-DOCS = README.md VERSION docs/LIBRARY.md docs/FORMATS.md docs/PROMISE.md docs/PROVED.md docs/MEANING.md docs/GLOSSARY.md
+DOCS = README.md CHANGELOG.md VERSION docs/LIBRARY.md docs/FORMATS.md docs/PROMISE.md docs/PROVED.md docs/MEANING.md docs/GLOSSARY.md
 
 all: $(MADE)
 
-# Nothing is built that is not proved. A run without words ends with status 7, once the program is built.
-crates/testsolv/out/testsolv crates/proofcheck/out/proofcheck:
+# Nothing is built that is not proved: first every crate, several beside each other.
+$(BUILD)/proved:
+	rt all check --jobs $(JOBS)
+	install -d $(BUILD)
+	touch $@
+
+# A run without words ends with status 7, once the program is built.
+crates/testsolv/out/testsolv crates/proofcheck/out/proofcheck: | $(BUILD)/proved
 	cd $(patsubst %/out/,%,$(dir $@)) && rt run $(RTFLAGS) -- || test -x ../../$@
 
-crates/gachuswi/out/libgachuswi.a:
+crates/gachuswi/out/libgachuswi.a: | $(BUILD)/proved
 	cd crates/gachuswi && rt lib $(RTFLAGS)
 
 $(BUILD)/testsolv: $(TESTSOLV)

@@ -26,7 +26,8 @@ Of each archive these are tried:
   c_tests/task_memory.c);
 - the test scripts once more in a small stack;
 - calls from several threads at once (c_tests/threads.c), under valgrind's helgrind too;
-- the callers of docs/LIBRARY.md, which are two, and README.md, compiled as they stand there and run as the pages say;
+- the callers of docs/LIBRARY.md, which are two, and of README.md, which are one in C and one in Python, as they stand there and run as
+  the pages say;
 - where the files of libsolv are there for whoever builds with it: the same jobs asked of both, from one pool of libsolv's
   (c_tests/beside_libsolv.c);
 - the headers, as C11 and as C++17.
@@ -229,6 +230,16 @@ class Trial:
         words = found[2].split("\n")[-2].split()
         return self.says(self.linked(source, "sanitized"), words[1:], TOP / "examples", found[3].encode())
 
+    def caller_in_python(self):
+        """Says what is wrong with the caller in Python of README.md, which prints what the one in C does before it."""
+        text = (TOP / "README.md").read_text()
+        found = re.search(r"and prints\n\n```\n([^`]*)```\n\nThe same in Python[^`]*```python\n(.*?)```\n", text, re.S)
+        if not found:
+            return "README.md has no caller in Python"
+        source = self.room / "short_caller.py"
+        source.write_text(found[2])
+        return self.says(sys.executable, [source], None, found[1].encode(), ["env", f"LD_LIBRARY_PATH={self.room}"])
+
     def run(self):
         self.check("shared library", self.shared)
         for way, runner in self.ways():
@@ -250,6 +261,7 @@ class Trial:
         self.check("caller of docs/LIBRARY.md", lambda: self.caller("docs/LIBRARY.md", "caller.c"))
         self.check("caller by numbers of docs/LIBRARY.md", lambda: self.caller("docs/LIBRARY.md", "builder.c", "## A task built by calls"))
         self.check("caller of README.md", lambda: self.caller("README.md", "short_caller.c"))
+        self.check("caller in Python of README.md", self.caller_in_python)
 
 
 def script_words():

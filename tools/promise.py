@@ -7,6 +7,10 @@
     tools/promise.py --print NAME  one promise as a text in reading order, lowest crate first: `library` (`prepare` and
                                    `answer`), `run` (testsolv), `proofcheck`, `c` (the library for C), or `laws`, what
                                    public laws say besides; without NAME all of them together
+    tools/promise.py --words NAME  the same in words: a table for each module, with the names of its definitions and the
+                                   comments that stand before them. A definition without a comment stands in the row of
+                                   the one before it. NAME may also be a crate: then all of its definitions come, those
+                                   between layers too
 
 The promise of a program counts with the contracts of the traits through which it meets files and sinks. A public law is a
 public function of a module `laws` that does nothing (LAW_MODULES names one more module); one that calls other laws says how
@@ -288,6 +292,59 @@ def seeds_of_laws(book):
     return found
 
 
+def words_in(lines):
+    return " ".join(line.strip().lstrip("-").strip() for line in lines)
+
+
+def said_of(module):
+    """What a module's file says of itself: the comment before its imports."""
+    front = []
+    for line in module.text:
+        if line.startswith("--"):
+            front.append(line)
+        elif line.strip():
+            break
+    return words_in(front) if line.startswith(("use ", "pub use ", "pub mod ")) or front and not line.strip() else ""
+
+
+def rows_of(items):
+    """The rows of a module's table: names, and what the comments before them say. A comment that stands further left is of the block round it."""
+    rows = []
+    for item in items:
+        depth = len(item.lines[0]) - len(item.lines[0].lstrip())
+        block = [line for line in item.comment if len(line) - len(line.lstrip()) < depth]
+        own = item.comment[len(block):]
+        if block:
+            rows.append(([], f"*{words_in(block)}*"))
+        names = [name for name in item.names if name] or ["mutual"]
+        if own or not rows or not rows[-1][0]:
+            rows.append((names, words_in(own)))
+        else:
+            rows[-1][0].extend(names)
+    return rows
+
+
+def in_words(book, chosen):
+    """The tables of some definitions, crate by crate and module by module."""
+    crate = None
+    for (name, part), module in book.modules.items():
+        items = [item for item in module.items if item in chosen]
+        if not items:
+            continue
+        if name != crate:
+            print(f"# {name}", end="\n\n")
+            crate = name
+        print(f"## {part}", end="\n\n")
+        said = said_of(module)
+        if said:
+            print(said, end="\n\n")
+        print("| name | what it is |\n|---|---|")
+        for names, words in rows_of(items):
+            cells = (", ".join(f"`{it}`" for it in names), words.replace("|", "\\|"))
+            print("| {} | {} |".format(*cells))
+        print()
+
+
 def lines_of(items):
     return sum(len(item.lines) + len(item.comment) for item in items)
 
@@ -345,10 +402,15 @@ def main():
                 print(f"-- {item.module.crate}, {item.module.name}")
                 print("\n".join(item.headers + item.comment + item.lines), end="\n\n")
         return 0
+    if words[:1] == ["--words"] and len(words) <= 2 and set(words[1:]) <= {*CALLS, "laws", *book.crates}:
+        parts = {**promises, "laws": laws - calls}
+        in_crate = [item for item in book.definitions if words[1:] == [item.module.crate]]
+        in_words(book, set(in_crate) or (parts[words[1]] if words[1:] and words[1] in parts else promise))
+        return 0
     if words == ["--check"]:
         return check(book, promise)
     if words:
-        print("usage: promise.py [--check | --print [library | run | proofcheck | c | laws]]", file=sys.stderr)
+        print("usage: promise.py [--check | --print [library | run | proofcheck | c | laws] | --words [the same, or a crate]]", file=sys.stderr)
         return 2
     print(told("library, `prepare`, `answer`:", promises["library"]))
     print(told("`run`:", promises["run"]))

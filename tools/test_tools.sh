@@ -23,6 +23,8 @@ try() {
     echo "$1:"
     "$@" || failed=1
 }
+try tools/test_checks.py
+try tools/test_where.py
 try tools/test_testtags.py
 try tools/test_passed_over.py
 try tools/test_refused_memory.py
