@@ -1,6 +1,7 @@
 pub mod SameLines
 pub mod SameDependency
 pub mod Staying
+pub mod Noted
 pub mod HandLines
 pub mod ReaderLines
 pub mod EntriesFormed

@@ -22,6 +22,7 @@ use Rattle.solv_tags.specs.declared.tag_fault.TagCause.{TagCause}
 use Rattle.solv_tags.specs.declared.tag_fault.TagCause.TheVariants.{Dep, BadPackageLine, TagBeforePackage, UnclosedBlock, TooManyPackages, FullNames, Memory}
 use Rattle.solv_tags.specs.declared.tag_reader.TagReader.{TagReader}
 use Rattle.solv_deps.proofs.Recents.{read_before}
+use Rattle.solv_tags.proofs.Noted.{no_tails}
 use Rattle.solv_tags.proofs.Staying.{fits_of, of_grown, package_stays, packages_stay}
 use Rattle.solv_base.proofs.Growth.{Grows-itself}
 use Rattle.solv_list.proofs.Lists.{below_true, list_all_join, all_dropped}
@@ -118,6 +119,7 @@ module _ (r s : TagReader) (old new : Held) (universe later : Contents) (reading
       hand = rw (hand, repo) (ids_of new r.repo ids within, refl);
       repo = rw (put, repo) reading.repo;
       recent = rw recent (read_before old new r.recent grows reading.recent);
+      tails = rw hand (no_tails s.tails r.repo ids);
       before = rw (put, before) (let l = length-append universe.packages (option_to_list r.hand) in let b = reading.before in omega (arith, l, b));
     };
     repo = repo;
@@ -128,7 +130,7 @@ module _ (r s : TagReader) (old new : Held) (universe later : Contents) (reading
       → HasReadHand old new r s (λ x. entry_of_hand x x.hand t text) → IsRead r s new universe (entry (tagged_of r old universe) t text)
   entry_read t text other h = record {
     is = other ∙ h.is (tagged_of r old universe) refl refl ∙ rw (h.repo, h.before, h.block, done_stays r old new universe grows reading) refl;
-    reading = record { over = over; hand = rw h.repo h.hand; repo = rw h.repo reading.repo; before = rw h.before reading.before; recent = h.recent };
+    reading = record { over = over; hand = rw h.repo h.hand; repo = rw h.repo reading.repo; before = rw h.before reading.before; recent = h.recent; tails = h.tails };
     repo = h.repo;
     before = h.before;
   }
@@ -186,7 +188,7 @@ outside_entry s line h = rw h refl
 pub open_read : (r s : TagReader) (pool : Held) (universe : Contents) (line : List ℕ) → IsReading r pool universe → is_heading entry_sign line ≡ false → is_heading opening_sign line ≡ true
     → opens_block (option_map (written_package pool) r.hand) (tag (letters line)) ≡ None → s ≡ record r { block = Some (letters line) } → IsRead r s pool universe (outside_block (tagged_of r pool universe) line)
 open_read r s pool universe line reading entry opening opens is =
-    rw is (record { is = rw (entry, opening, opens) refl; reading = record { over = reading.over; hand = reading.hand; repo = reading.repo; before = reading.before; recent = reading.recent }; repo = refl; before = refl })
+    rw is (record { is = rw (entry, opening, opens) refl; reading = record { over = reading.over; hand = reading.hand; repo = reading.repo; before = reading.before; recent = reading.recent; tails = reading.tails }; repo = refl; before = refl })
 
 pub open_ended : (r : TagReader) (pool : Held) (universe : Contents) (line : List ℕ) (c : TagCause) → is_heading entry_sign line ≡ false → is_heading opening_sign line ≡ true
     → opens_block (option_map (written_package pool) r.hand) (tag (letters line)) ≡ Some c → IsCause c (outside_block (tagged_of r pool universe) line)

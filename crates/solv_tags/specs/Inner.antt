@@ -3,5 +3,6 @@ pub mod Lines
 pub mod RepositoryReading
 pub mod TagReading
 pub mod Pieces
+pub mod Tails
 pub mod Tags
 pub mod Testtags

@@ -4,16 +4,18 @@ ghost use Rattle.solv_base.specs.Pool.{Held, Grows, text_at};
 ghost use Rattle.solv_deps.specs.Entering.{text_entered, Entered};
 ghost use Rattle.solv_deps.specs.Inner.Recent.{AreRead};
 ghost use Rattle.solv_tags.specs.Headings.{trimmed};
+ghost use Rattle.solv_tags.specs.declared.tails.Tails.{Tails as Lists};
 ghost use Rattle.solv_tags.specs.Inner.RepositoryReading.{HasOneForm};
-ghost use Rattle.solv_tags.specs.Inner.TagReading.{IsOf, IsCause, HasRead, HasEnded, AreWithin, HaveTexts};
+ghost use Rattle.solv_tags.specs.Inner.TagReading.{IsOf, IsCause, HasRead, HasEnded, AreWithin, HaveTexts, AreTails};
 ghost use Rattle.solv_tags.specs.Testtags.{Tagged, cause_of, or_cause};
 ghost use Rattle.solv_tags.specs.Inner.Lines.{texts_entered, vendor_entry, path_entry, dependency_entry, entry_of};
 
-use crate::entries::{add_entry, add_name};
+use crate::entries::{add_entry, add_path};
 use crate::headings::{place_of, trimmed};
 use crate::package_words::PackageIds;
 use crate::tag::Tag;
 use crate::tag_fault::TagCause;
+use crate::tails::Tails;
 use solv_base::{NameId, Pool};
 use solv_deps::{DepFault, Recent, enter_text, read_again};
 use solv_pool::Package;
@@ -77,6 +79,7 @@ pub(crate) fn enter_package(
 /// Reads a vendor.
 fn take_vendor(pool: &mut Pool, hand: &mut Package, text: &[u8]) -> Result<(), TagCause>
     requires { IsOf pool.old hand.old }
+    ensures tails { (tails : Lists) → AreTails tails hand.old → AreTails tails hand.new }
     ensures ok { OnOk result (HasRead pool.old pool.new hand.old hand.new (λ s a. vendor_entry s a text.now)) }
     ensures refused { IfErr result (λ c. HasEnded pool.old hand.old (λ s a. vendor_entry s a text.now) c) }
     ensures form { IfErr result HasOneForm }
@@ -95,8 +98,15 @@ fn take_vendor(pool: &mut Pool, hand: &mut Package, text: &[u8]) -> Result<(), T
 }
 
 /// Reads a path.
-fn take_path(pool: &mut Pool, hand: &mut Package, text: &[u8]) -> Result<(), TagCause>
-    requires { IsOf pool.old hand.old }
+fn take_path(
+    pool: &mut Pool,
+    tails: &mut Tails,
+    hand: &mut Package,
+    text: &[u8],
+) -> Result<(), TagCause>
+    requires of { IsOf pool.old hand.old }
+    requires tails { AreTails tails.old hand.old }
+    ensures tails { OnOk result (AreTails tails.new hand.new) }
     ensures ok { OnOk result (HasRead pool.old pool.new hand.old hand.new (λ s a. path_entry s a text.now)) }
     ensures refused { IfErr result (λ c. HasEnded pool.old hand.old (λ s a. path_entry s a text.now) c) }
     ensures form { IfErr result HasOneForm }
@@ -110,7 +120,7 @@ fn take_path(pool: &mut Pool, hand: &mut Package, text: &[u8]) -> Result<(), Tag
         Err(cause) => return Err(cause),
     };
     pool.tells_apart();
-    match add_name(&mut hand.files, id) {
+    match add_path(pool.alloc(), tails, hand, id) {
         Ok(()) => Ok(()),
         Err(_) => Err(TagCause::Memory),
     }
@@ -120,13 +130,16 @@ fn take_path(pool: &mut Pool, hand: &mut Package, text: &[u8]) -> Result<(), Tag
 fn take_dependency(
     pool: &mut Pool,
     recent: &mut Recent,
+    tails: &mut Tails,
     hand: &mut Package,
     tag: Tag,
     text: &[u8],
 ) -> Result<(), TagCause>
     requires of { IsOf pool.old hand.old }
     requires recent { AreRead pool.old recent.old }
+    requires tails { AreTails tails.old hand.old }
     ensures recent { AreRead pool.new recent.new }
+    ensures tails { OnOk result (AreTails tails.new hand.new) }
     ensures ok { OnOk result (HasRead pool.old pool.new hand.old hand.new (λ s a. dependency_entry s a tag text.now)) }
     ensures refused { IfErr result (λ c. HasEnded pool.old hand.old (λ s a. dependency_entry s a tag text.now) c) }
     ensures form { IfErr result HasOneForm }
@@ -137,7 +150,7 @@ fn take_dependency(
         Err(fault) => return Err(cause_of(fault)),
     };
     pool.tells_apart();
-    match add_entry(pool.alloc(), hand, tag, dep) {
+    match add_entry(pool.alloc(), tails, hand, tag, dep) {
         Ok(()) => Ok(()),
         Err(_) => Err(TagCause::Memory),
     }
@@ -147,13 +160,16 @@ fn take_dependency(
 pub(crate) fn take_entry(
     pool: &mut Pool,
     recent: &mut Recent,
+    tails: &mut Tails,
     hand: &mut Package,
     tag: Tag,
     text: &[u8],
 ) -> Result<(), TagCause>
     requires of { IsOf pool.old hand.old }
     requires recent { AreRead pool.old recent.old }
+    requires tails { AreTails tails.old hand.old }
     ensures recent { AreRead pool.new recent.new }
+    ensures tails { OnOk result (AreTails tails.new hand.new) }
     ensures ok { OnOk result (HasRead pool.old pool.new hand.old hand.new (λ s a. entry_of s a tag text.now)) }
     ensures refused { IfErr result (λ c. HasEnded pool.old hand.old (λ s a. entry_of s a tag text.now) c) }
     ensures form { IfErr result HasOneForm }
@@ -161,7 +177,7 @@ pub(crate) fn take_entry(
 {
     match tag {
         Tag::Vnd => take_vendor(pool, hand, trimmed(text)),
-        Tag::Fls => take_path(pool, hand, trimmed(text)),
-        _ => take_dependency(pool, recent, hand, tag, text),
+        Tag::Fls => take_path(pool, tails, hand, trimmed(text)),
+        _ => take_dependency(pool, recent, tails, hand, tag, text),
     }
 }

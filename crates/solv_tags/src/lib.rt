@@ -19,6 +19,7 @@ mod pieces;
 mod tag;
 mod tag_fault;
 mod tag_reader;
+mod tails;
 mod testtags;
 
 pub use headings::trimmed;

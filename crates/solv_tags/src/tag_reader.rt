@@ -10,7 +10,7 @@ ghost use Rattle.solv_tags.specs.Inner.Tags.{closing_sign, tag};
 ghost use Rattle.solv_tags.specs.Headings.{is_heading, letters};
 ghost use Rattle.solv_io.specs.Words.{words_of};
 ghost use Rattle.solv_tags.specs.Inner.RepositoryReading.{IsTagRefusal, HasOneForm};
-ghost use Rattle.solv_tags.specs.Inner.TagReading.{IsCause, IsReading, IsRead, IsHand, HasReadHand, HasEndedHand, IsEnded, HasMore, package_of, with_packages, tagged_of};
+ghost use Rattle.solv_tags.specs.Inner.TagReading.{IsCause, IsReading, IsRead, IsHand, HasReadHand, HasEndedHand, IsEnded, HasMore, AreHandTails, package_of, with_packages, tagged_of};
 ghost use Rattle.solv_tags.specs.Inner.Lines.{begun, package_entry, entry, entry_of_hand, entry_if_tag, opens_block, outside_block, inside_block, line_read, end_read};
 
 use crate::hand::{enter_package, take_entry};
@@ -18,6 +18,7 @@ use crate::headings::{after_heading, is_heading, letters, tag_of, trimmed};
 use crate::package_words::{PackageIds, four_words, package_with, refill, write_evr};
 use crate::tag::Tag;
 use crate::tag_fault::{TagCause, TagFault};
+use crate::tails::Tails;
 use solv_base::Pool;
 use solv_deps::Recent;
 use solv_pool::{Package, RepoNo, Universe};
@@ -41,6 +42,8 @@ pub struct TagReader {
     pub(crate) evr: Vec<u8>,
     /// The dependencies that were read recently.
     pub(crate) recent: Recent,
+    /// What is known of the lists of the package in hand.
+    pub(crate) tails: Tails,
 }
 
 /// Why a block of what may be a tag may not open, if so.
@@ -148,6 +151,7 @@ impl TagReader {
             block: None,
             evr: Vec::new(alloc),
             recent: Recent::new(alloc, bytes),
+            tails: Tails::new(alloc),
         }
     }
 
@@ -223,6 +227,7 @@ impl TagReader {
     fn hand_entry(&mut self, pool: &mut Pool, tag: Tag, text: &[u8]) -> Result<(), TagCause>
         requires hand { IsHand pool.old self.old.repo self.old.hand }
         requires recent { AreRead pool.old self.old.recent }
+        requires tails { AreHandTails self.old.tails self.old.hand }
         ensures ok { OnOk result (HasReadHand pool.old pool.new self.old self.new (λ s. entry_of_hand s s.hand tag text.now)) }
         ensures refused { IfErr result (λ c. HasEndedHand pool.old self.old (λ s. entry_of_hand s s.hand tag text.now) c) }
         ensures form { IfErr result HasOneForm }
@@ -230,7 +235,7 @@ impl TagReader {
     {
         match &mut self.hand {
             None => Err(TagCause::TagBeforePackage),
-            Some(hand) => take_entry(pool, &mut self.recent, hand, tag, text),
+            Some(hand) => take_entry(pool, &mut self.recent, &mut self.tails, hand, tag, text),
         }
     }
 

@@ -17,6 +17,8 @@ use Rattle.solv_tags.specs.declared.tag_fault.TagCause.TheVariants.{Memory}
 use Rattle.solv_tags.specs.declared.tag_fault.TagFault.{TagFault}
 use Rattle.solv_tags.specs.Testtags.{Tagged, Repository}
 use Rattle.solv_tags.specs.Inner.Lines.{end_read}
+use Rattle.solv_tags.specs.Inner.Tails.{are_apart, IsTail}
+use Rattle.solv_tags.specs.declared.tails.Tails.{Tails}
 
 -- the list with the id, added if it is new
 abbrev pub with_id : ℕ → List ℕ → List ℕ
@@ -94,6 +96,28 @@ pub record IsOf (pool : Held) (a : Package) : Type 0 where
   pub enhances : list_all (λ d. nat_lt d (length pool.nodes)) a.enhances ≡ true
   pub files : list_all (λ n. nat_lt n (length pool.names)) a.files ≡ true
 
+-- the relations behind the first 32 that are required are these, where there are such, and none is required twice
+pub record IsNeedTail (known : List ℕ) (needs : List Need) : Type 0 where
+  pub behind : IsTail known (map (λ need. need.dep) needs)
+  pub apart : are_apart (map (λ need. need.dep) needs) ≡ true
+
+-- what is known of each list of a package
+pub record AreTails (tails : Tails) (a : Package) : Type 0 where
+  pub provides : IsTail tails.provides a.provides
+  pub requires_ : IsNeedTail tails.requires_ a.requires_
+  pub conflicts : IsTail tails.conflicts a.conflicts
+  pub obsoletes : IsTail tails.obsoletes a.obsoletes
+  pub recommends : IsTail tails.recommends a.recommends
+  pub suggests : IsTail tails.suggests a.suggests
+  pub supplements : IsTail tails.supplements a.supplements
+  pub enhances : IsTail tails.enhances a.enhances
+  pub files : IsTail tails.files a.files
+
+-- what is known of those of the package in hand, if there is one
+abbrev pub AreHandTails : Tails → Option Package → Type 0
+AreHandTails tails None = Unit {0}
+AreHandTails tails (Some a) = AreTails tails a
+
 -- what the lines so far give, with this package in hand
 abbrev pub with_hand : Tagged → Held → Package → Tagged
 with_hand s pool a = record s { held = pool; hand = Some (written_package pool a) }
@@ -136,6 +160,7 @@ pub record IsReading (r : TagReader) (pool : Held) (universe : Contents) : Type 
   pub repo : r.repo < length universe.repos
   pub before : r.before ≤ length universe.packages
   pub recent : AreRead pool r.recent
+  pub tails : AreHandTails r.tails r.hand
 
 -- a universe with these packages after the others, none of them disabled
 abbrev pub with_packages : Contents → List Package → Contents
@@ -163,6 +188,7 @@ pub record HasReadHand (old new : Held) (r t : TagReader) (reading : Tagged → 
   pub before : t.before ≡ r.before
   pub block : t.block ≡ r.block
   pub recent : AreRead new t.recent
+  pub tails : AreHandTails t.tails t.hand
 
 -- a reading of the package in hand, if any, ends for this cause
 abbrev pub HasEndedHand : Held → TagReader → (Tagged → Result Tagged TagCause) → TagCause → Type 0

@@ -1,5 +1,6 @@
 use Rattle.solv_deps.proofs.Recents.{read_before}
 use Rattle.solv_tags.proofs.HandLines.{other_read, other_ended}
+use Rattle.solv_tags.proofs.Noted.{always_ok}
 use Rattle.solv_tags.proofs.hand.take_entry.Goals as goal
 use Rattle.solv_list.proofs.Answers.{if_err, on_ok}
 
@@ -13,7 +14,11 @@ returns-in_default c =
       form = e.form;
       grows = e.grows;
       recent = e.recent;
+      tails = e.tails;
     }
+
+pub returns-in-Vnd-clause-tails : goal.returns-in-Vnd-clause-tails
+returns-in-Vnd-clause-tails c = always_ok c.take_vendor.result (c.take_vendor.ensures.tails c.args.tails.now c.requires.tails)
 
 pub returns-in-Vnd-clause-recent : goal.returns-in-Vnd-clause-recent
 returns-in-Vnd-clause-recent c = read_before c.args.pool.now c.take_vendor.new.pool c.args.recent.now c.take_vendor.ensures.grows c.requires.recent
