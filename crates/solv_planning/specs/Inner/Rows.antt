@@ -1,12 +1,15 @@
 -- What rules add to the rows of jobs and of packages.
-use Rattle.std.specs.Prelude.{ℕ, Bool, not, ◌&&◌, List, [], ◌∷◌, ◌++◌}
+use Rattle.std.specs.Prelude.{ℕ, ◌≡◌, Bool, not, ◌&&◌, List, [], ◌∷◌, ◌++◌}
 use Rattle.solv_pool.specs.Prelude.{when, Catalog, is_installed, marked, is_to_move, HardRule, req, rich_con}
 use Rattle.solv_questions.specs.Questions.{Request, is_update_of, is_feature_of, far_candidates}
 use Rattle.solv_questions.specs.Inner.Questions.{close_candidates}
 use Rattle.solv_plan.specs.Inner.PlanOf.{want_of, conflict_of, best_job_demand, job_demand, best_update_demand}
 use Rattle.solv_plan.specs.declared.plans.Keep.{Keep}
 use Rattle.solv_plan.specs.declared.plans.Want.{Want}
+use Rattle.solv_policy.specs.Policy.{by_policy}
+use Rattle.solv_policy.specs.declared.policy.Asked.TheVariants.{Other}
 use Rattle.solv_planning.specs.declared.demands.JobDemands.{JobDemands}
+use Rattle.solv_planning.specs.declared.demands.Ordered.{Ordered}
 use Rattle.solv_planning.specs.declared.keeps.PackRules.{PackRules}
 
 -- a job of which no rule is known
@@ -18,6 +21,10 @@ abbrev pub no_rules : ℕ → PackRules
 no_rules p = record { pack = p; best = []; updates = []; features = [] }
 
 module _ (r : Request) where
+  -- the packages of a job in the order of the policy
+  abbrev pub IsOrdered : Ordered → Type 0
+  IsOrdered ordered = ordered.candidates ≡ by_policy r.catalog r.marks Other ordered.packs.now
+
   -- the demand of a numbered rule, where it is one of job j
   abbrev pub add_to_job : ℕ → (ℕ × HardRule) → JobDemands → JobDemands
   add_to_job j x row = record { best = row.best ++ best_job_demand r j x.0 x.1; own = row.own ++ job_demand r j x.0 x.1 }
