@@ -32,7 +32,7 @@ returns-in-Ok-said-clause-ok g c =
       bytes = h.bytes;
       known = h.known;
       holds = packages_counted c.args.script.now self c.requires.reader c.args.line c.args.name.now h.bytes c.in-Ok.total fits _
-          (repository_read self c.requires.reader c.args.name.now (numbered_lines h.bytes) c.args.repo pool universe c.requires.last c.read_open_testtags.ensures.grows (rw c.in-Ok-said.is at c.in_ok-size.ensures.over) h.holds c.forget.new.self c.forget.ensures)
+          (repository_read self c.requires.reader c.args.name.now (numbered_lines h.bytes) c.args.repo pool universe c.requires.last c.read_open_testtags.ensures.grows (rw c.in-Ok-said.is at c.in_ok-size.ensures.over) h.holds)
           c.in-Ok.ensures.within;
     }
 
