@@ -16,7 +16,7 @@ use Rattle.solv_list.proofs.Numbers.{same_number, equal_swapped, equal_to_itself
 
 module _ (pool : Held) (p : IsPool pool) (name : ℕ) (within : name < length pool.names) where
   -- two texts are equal where their ids are
-  texts_as_ids : (n : ℕ) → n < length pool.names → bytes_eq (text_at pool name) (text_at pool n) ≡ (name == n)
+  pub texts_as_ids : (n : ℕ) → n < length pool.names → bytes_eq (text_at pool name) (text_at pool n) ≡ (name == n)
   texts_as_ids n below =
       same_truth (bytes_eq (text_at pool name) (text_at pool n)) (name == n)
       (λ h. let same : name ≡ n = texts_differ pool p name n within below (same_bytes (text_at pool name) (text_at pool n) h) in ap (λ k. name == k) (sym same) ∙ equal_to_itself name)
