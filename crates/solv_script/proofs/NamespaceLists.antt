@@ -1,18 +1,18 @@
 -- Namespaces by their ids are those by their texts.
-use Rattle.std.proofs.Common.{◌≡◌, ℕ, zero, suc, ◌==◌, ◌<◌, ◌≤◌, Bool, true, false, List, [], ◌∷◌, ◌++◌, map, take, drop, length, get_or, refl, sym, ap, ◌∙◌, arith, nat_lt}
-use Rattle.std.specs.Prelude.{nat_le, slice_set, if◌then◌else◌}
-use Rattle.std.specs.List.{list_all}
+use Rattle.std.proofs.Common.{◌≡◌, ℕ, zero, suc, ◌==◌, ◌<◌, Bool, true, false, List, [], ◌∷◌, ◌++◌, map, length, get_or, cond, refl, sym, ap, ◌∙◌, arith, nat_lt}
+use Rattle.std.specs.Prelude.{◌+◌, not, nat_le, slice_set, if◌then◌else◌}
+use Rattle.std.specs.List.{list_all, list_any, position_or_len}
 use Rattle.std.specs.Str.{bytes_eq}
-use Rattle.std.proofs.lemmas.Bool.{and_from, ltb-true, lt-ltb}
+use Rattle.std.proofs.lemmas.Bool.{and_from, ltb-true, lt-ltb, or_parts}
 use Rattle.solv_base.specs.Pool.{Held, IsPool, text_at}
 use Rattle.solv_base.proofs.Identity.{texts_differ}
 use Rattle.solv_pool.specs.Prelude.{line_fits}
-use Rattle.solv_script.specs.Inner.Namespaces.{with_packages}
+use Rattle.solv_script.specs.Inner.Namespaces.{names_of, with_packages}
 use Rattle.solv_script.specs.Rows.{with_namespace}
 use Rattle.solv_script.proofs.TaskGrowth.{written_line}
 use Rattle.solv_list.proofs.Booleans.{first_of_both, second_of_both, same_truth}
 use Rattle.solv_list.proofs.Lists.{list_all_join, same_bytes, bytes_themselves}
-use Rattle.solv_list.proofs.Numbers.{same_number, equal_swapped, equal_to_itself}
+use Rattle.solv_list.proofs.Numbers.{same_number, equal_to_itself}
 
 module _ (pool : Held) (p : IsPool pool) (name : ℕ) (within : name < length pool.names) where
   -- two texts are equal where their ids are
@@ -54,34 +54,34 @@ packages_fit names count name packs (n ∷ ns) within there h =
     on true f o m r = and_from (line_fits names count (n.0, n.1 ++ packs)) (list_all (line_fits names count) ns) m o
     on false f o m r = and_from (line_fits names count n) (list_all (line_fits names count) (with_packages name packs ns)) f r
 
--- a loop over the namespaces: those that were passed over have other names
-pub passed : (name : ℕ) (packs : List ℕ) (front rest whole : List (ℕ × List ℕ)) (n : ℕ × List ℕ) → (name == n.0) ≡ false → front ++ with_packages name packs (n ∷ rest) ≡ whole → (front ++ n ∷ []) ++ with_packages name packs rest ≡ whole
-passed name packs front rest whole n other h = step (name == n.0) other h
-  where
-    assoc : {X : Type 0} (xs : List X) (x : X) (ys : List X) → (xs ++ x ∷ []) ++ ys ≡ xs ++ x ∷ ys
-    assoc [] x ys = refl
-    assoc (y ∷ xs) x ys = ap (λ l. y ∷ l) (assoc xs x ys)
+-- the first place of a name, or the end
+abbrev pub first_named : ℕ → List (ℕ × List ℕ) → ℕ
+first_named name ns = position_or_len (λ other. name == other) (names_of ns)
 
-    step : (b : Bool) → b ≡ false → front ++ (if b then (n.0, n.1 ++ packs) ∷ rest else n ∷ with_packages name packs rest) ≡ whole → (front ++ n ∷ []) ++ with_packages name packs rest ≡ whole
-    step true e h = absurd (cc)
-    step false e h = assoc front n (with_packages name packs rest) ∙ h
+-- more packages at that place
+put_step : (name : ℕ) (packs : List ℕ) (x : ℕ × List ℕ) (ns : List (ℕ × List ℕ)) (n m : ℕ × List ℕ) → m ≡ (n.0, n.1 ++ packs)
+    → ((q : ℕ) → q ≡ first_named name ns → q < length ns → n ≡ get_or ns q n → slice_set ns q m ≡ with_packages name packs ns)
+    → (b : Bool) (place : ℕ) → place ≡ cond (not b) (1 + first_named name ns) 0 → place < suc (length ns) → n ≡ get_or (x ∷ ns) place n
+    → slice_set (x ∷ ns) place m ≡ (if b then (x.0, x.1 ++ packs) ∷ ns else x ∷ with_packages name packs ns)
+put_step name packs x ns n m e rest true zero at low is = ap (λ k. k ∷ ns) (e ∙ ap (λ (k : ℕ × List ℕ). (k.0, k.1 ++ packs)) is)
+put_step name packs x ns n m e rest true (suc q) at low is = absurd (omega (arith, at))
+put_step name packs x ns n m e rest false zero at low is = absurd (omega (arith, at))
+put_step name packs x ns n m e rest false (suc q) at low is = ap (λ l. x ∷ l) (rest q (omega (arith, at)) (omega (arith, low)) is)
 
--- what stands at a place, whatever stands in its stead where there is none
-pub same_there : {X : Type 0} (xs : List X) (place : ℕ) (a b : X) → place < length xs → get_or xs place a ≡ get_or xs place b
-same_there [] place a b l = absurd (omega (arith, l))
-same_there (x ∷ xs) zero a b l = refl
-same_there (x ∷ xs) (suc place) a b l = same_there xs place a b (omega (arith, l))
+pub put_at : (name : ℕ) (packs : List ℕ) (ns : List (ℕ × List ℕ)) (place : ℕ) (n m : ℕ × List ℕ) → m ≡ (n.0, n.1 ++ packs) → place ≡ first_named name ns → place < length ns → n ≡ get_or ns place n
+    → slice_set ns place m ≡ with_packages name packs ns
+put_at name packs [] place n m e at low is = absurd (omega (arith, low))
+put_at name packs (x ∷ ns) place n m e at low is = put_step name packs x ns n m e (λ q a l i. put_at name packs ns q n m e a l i) (name == x.0) place at low is
 
--- and the one at this place has this name
-pub found_at : (name : ℕ) (packs : List ℕ) (ns : List (ℕ × List ℕ)) (place : ℕ) (n m : ℕ × List ℕ) → place < length ns → n ≡ get_or ns place n → (n.0 == name) ≡ true → m ≡ (n.0, n.1 ++ packs)
-    → slice_set ns place m ≡ take place ns ++ with_packages name packs (drop place ns)
-found_at name packs [] place n m l at is e = absurd (omega (arith, l))
-found_at name packs (x ∷ ns) zero n m l at is e = let turned : (name == n.0) ≡ true = equal_swapped name n.0 ∙ is in rw (sym at, turned) (ap (λ l. l ∷ ns) e)
-found_at name packs (x ∷ ns) (suc place) n m l at is e = ap (λ l. x ∷ l) (found_at name packs ns place n m (omega (arith, l)) at is e)
+-- their names are the same
+pub same_names : (ns : List (ℕ × List ℕ)) (place : ℕ) (n m : ℕ × List ℕ) → n ≡ get_or ns place n → m.0 ≡ n.0 → names_of (slice_set ns place m) ≡ names_of ns
+same_names [] place n m is e = refl
+same_names (x ∷ ns) zero n m is e = ap (λ k. k ∷ names_of ns) (e ∙ ap (λ (k : ℕ × List ℕ). k.0) is)
+same_names (x ∷ ns) (suc place) n m is e = ap (λ l. x.0 ∷ l) (same_names ns place n m is e)
 
--- and there is none
-pub none_at : (name : ℕ) (packs : List ℕ) (ns : List (ℕ × List ℕ)) (place : ℕ) → length ns ≤ place → take place ns ++ with_packages name packs (drop place ns) ≡ ns ++ (name, packs) ∷ []
-none_at name packs [] zero h = refl
-none_at name packs [] (suc place) h = refl
-none_at name packs (x ∷ ns) zero h = absurd (omega arith)
-none_at name packs (x ∷ ns) (suc place) h = ap (λ l. x ∷ l) (none_at name packs ns place (omega (arith, h)))
+-- a new one
+pub put_behind : (name : ℕ) (packs : List ℕ) (ns : List (ℕ × List ℕ)) → list_any (λ other. name == other) (names_of ns) ≡ false → with_packages name packs ns ≡ ns ++ (name, packs) ∷ []
+put_behind name packs [] h = refl
+put_behind name packs (x ∷ ns) h =
+    let parts = or_parts (name == x.0) (list_any (λ other. name == other) (names_of ns)) h in
+    rw parts.0 (ap (λ l. x ∷ l) (put_behind name packs ns parts.1))
