@@ -20,8 +20,8 @@ MOST_IN_SENTENCE = 40
 # pages whose paragraphs and list items are short
 MOST_IN_ENTRY = {"docs/DECISIONS.md": 80}
 # how many longer sentences, and longer entries, may stand in a page for now: they say what is about to change
-LONGER = {"docs/MAINTAINERS.md": 3, "docs/DECISIONS.md": 2}
-LONGER_ENTRIES = {"docs/DECISIONS.md": 1}
+LONGER = {"docs/MAINTAINERS.md": 3}
+LONGER_ENTRIES = {}
 FENCE = re.compile(r"^\s*(```|~~~)")
 ITEM = re.compile(r"^\s*(?:[-*+]|\d+[.)])\s+")
 RULE = re.compile(r"^\s*\|[\s:|-]+\|?\s*$")
