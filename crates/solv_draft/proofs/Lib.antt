@@ -1,3 +1,4 @@
 mod FormsAsWritten
 pub mod Drawing
 mod OncePools
+mod NamespacePlaces

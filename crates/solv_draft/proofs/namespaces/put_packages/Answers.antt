@@ -1,6 +1,6 @@
 use Rattle.std.proofs.Common.{◌≡◌, ◌==◌, ◌<◌, ◌++◌, length, rules, arith, sym, ap, ◌∙◌}
 use Rattle.solv_script.specs.Inner.Namespaces.{with_packages}
-use Rattle.solv_script.proofs.NamespaceLists.{found_at, same_there}
+use Rattle.solv_draft.proofs.NamespacePlaces.{found_at, same_there}
 use Rattle.solv_draft.proofs.namespaces.put_packages.Goals as goal
 
 pub returns-then-eq-clause-ok : goal.returns-then-eq-clause-ok
