@@ -22,7 +22,7 @@ use Rattle.solv_decide.specs.Inner.Deciding.{Asker}
 use Rattle.solv_decide.specs.Sets.{IsSetOf}
 use Rattle.solv_remedy.specs.Remedies.{is_fixed_at}
 use Rattle.solv_remedy.specs.Inner.Runs.{IsOf}
-use Rattle.solv_remedy.specs.Inner.Trying.{fixed_and, IsNeeded, IsSetUp}
+use Rattle.solv_remedy.specs.Inner.Trying.{fixed_and, IsNeeded, IsSetUp, MeetsOn}
 use Rattle.solv_remedy.specs.Inner.Showing.{AreGoodSets, HasGoodSet}
 use Rattle.solv_remedy.specs.declared.setting.Setting.{Setting}
 use Rattle.solv_remedy.specs.declared.showing.Sets.{Sets}
@@ -45,6 +45,11 @@ shown_needed r asker core book fixed up set system first others rules off on met
         | inr a ↦ enabled_met r set others met k x at (on k (within r asker core book fixed up k x at) ∙ and_from (is_among rules k) (not (k == off)) a both.1)
       ];
 }
+
+-- a set meets these rules, where it meets all that a table has
+pub met_over : (r : Request) (asker : Asker) (core : CoreOf) (book : Written) (fixed : List Bool) → IsSetUp r asker core book fixed → (enabled : List Bool) (rules : List ℕ) (set : ℕ → Bool) → ((k : ℕ) → k < length fixed → is_enabled enabled k ≡ is_among rules k)
+    → meets_all r enabled set ≡ true → MeetsOn r (is_among rules) set
+met_over r asker core book fixed up enabled rules set on met k x at h = enabled_met r set enabled met k x at (on k (within r asker core book fixed up k x at) ∙ h)
 
 -- what a core has learnt has no say
 pub good_still : (s : Setting) (old new : LearningCore) (sets : Sets) → new.made ≡ old.made → AreGoodSets s old sets → AreGoodSets s new sets

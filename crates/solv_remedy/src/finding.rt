@@ -18,13 +18,12 @@ ghost use Rattle.solv_remedy.specs.Inner.Trying.{is_off_in, IsLogOf, IsSetUp};
 ghost use Rattle.solv_remedy.specs.Inner.Open.{IsOpen};
 ghost use Rattle.solv_remedy.specs.Inner.Runs.{is_spent, HasRuns, IsOf, MayRun, HasRun};
 ghost use Rattle.solv_remedy.specs.Inner.Conflicts.{droppable_count, listed_of, AreApart, IsRuleList, AreAll, AreSettled};
-ghost use Rattle.solv_remedy.specs.Inner.WaysOut.{is_of_some, most_out, IsConflictAmong, IsWayOut, IsProblemOf};
+ghost use Rattle.solv_remedy.specs.Inner.WaysOut.{most_out, IsConflictAmong, IsWayOut, IsProblemOf};
 
 use crate::collecting::{Collected, all_conflicts};
 use crate::conflicts::{clauses_of, unlisted_rules};
 use crate::laws::good_logs_refute_their_rules;
 use crate::listing::rules_of_log;
-use crate::parting::Guess;
 use crate::problems::{Problem, Remedies, Solution};
 use crate::setting::Setting;
 use crate::singles::singles;
@@ -56,10 +55,9 @@ fn ways_out(
     ledger: &mut Ledger,
     conflict: &Conflict,
     unlisted: &Unlisted<'_>,
-    guess: &mut Guess,
 ) -> Result<Option<Vec<Solution>>, AllocError>
     requires may_run { MayRun setting.now core.old ledger.old }
-    requires open_ { IsOpen setting.now core.old.made conflict.now unlisted.now }
+    requires open_ { IsOpen setting.now core.old.made conflict.now }
     ensures has_run { HasRun setting.now (length conflict.now.rules * most_out (length unlisted.now.rules.now)) core.old core.new ledger.old ledger.new }
     ensures spent { IfOk result (λ o. is_none o ≡ is_spent ledger.new) }
     ensures ways_out { (r : Request) (listed : List ℕ) → IsOf r setting.now core.old.made → IsConflictAmong r core.old.made conflict.now.rules conflict.now.log listed unlisted.now.rules.now → IfOk result (λ o. IfSome o (λ s. AllZip (IsWayOut r core.old.made conflict.now.rules listed) conflict.now.rules s.items)) }
@@ -70,7 +68,7 @@ fn ways_out(
             conflict,
             off: *rule,
         };
-        match way_out(setting, core, ledger, &way, unlisted, guess)? {
+        match way_out(setting, core, ledger, &way, unlisted)? {
             Some(solution) => solutions.push(solution)?,
             None => return Ok(None),
         }
@@ -88,7 +86,7 @@ fn lone_way_out(
     ensures { (r : Request) (asker : Asker) (core : CoreOf) (book : Written) (fixed : List Bool) (listed unlisted : List ℕ) → IsSetUp r asker core book fixed → IsConflictAmong r core conflict.now.rules conflict.now.log listed unlisted → conflict.now.rules ≡ off ∷ [] → IsFoundOn r (λ k. not (is_among listed k)) trail.now → IfOk result (λ s. AllZip (IsWayOut r core conflict.now.rules listed) conflict.now.rules s.items) }
 {
     let log = copy_of(alloc, &conflict.log)?;
-    let refuted = all_refuted(Vec::new(alloc), Vec::new(alloc), off, log)?;
+    let refuted = all_refuted(Vec::new(alloc), off, log)?;
     let solution = solution_with(alloc, trail, refuted)?;
     let mut solutions = Vec::new(alloc);
     solutions.push(solution)?;
@@ -102,10 +100,9 @@ fn each_way_out(
     ledger: &mut Ledger,
     conflict: &Conflict,
     unlisted: &Unlisted<'_>,
-    guess: &mut Guess,
 ) -> Result<Option<Vec<Solution>>, AllocError>
     requires may_run { MayRun setting.now core.old ledger.old }
-    requires open_ { IsOpen setting.now core.old.made conflict.now unlisted.now }
+    requires open_ { IsOpen setting.now core.old.made conflict.now }
     ensures has_run { HasRun setting.now (length conflict.now.rules * most_out (length unlisted.now.rules.now)) core.old core.new ledger.old ledger.new }
     ensures spent { IfOk result (λ o. is_none o ≡ is_spent ledger.new) }
     ensures ways_out { (r : Request) (listed : List ℕ) → IsOf r setting.now core.old.made → IsConflictAmong r core.old.made conflict.now.rules conflict.now.log listed unlisted.now.rules.now → IsFoundOn r (λ k. not (is_among listed k)) unlisted.now.trail.now → IfOk result (λ o. IfSome o (λ s. AllZip (IsWayOut r core.old.made conflict.now.rules listed) conflict.now.rules s.items)) }
@@ -115,7 +112,7 @@ fn each_way_out(
         let alone = lone_way_out(setting.alloc, conflict, own[0], unlisted.trail)?;
         return Ok(Some(alone));
     }
-    ways_out(setting, core, ledger, conflict, unlisted, guess)
+    ways_out(setting, core, ledger, conflict, unlisted)
 }
 
 /// The problem of a conflict, with its solutions. Nothing, where the ledger is spent.
@@ -125,15 +122,14 @@ fn problem_with(
     ledger: &mut Ledger,
     conflict: &Conflict,
     unlisted: &Unlisted<'_>,
-    guess: &mut Guess,
 ) -> Result<Option<Problem>, AllocError>
     requires may_run { MayRun setting.now core.old ledger.old }
-    requires open_ { IsOpen setting.now core.old.made conflict.now unlisted.now }
+    requires open_ { IsOpen setting.now core.old.made conflict.now }
     ensures has_run { HasRun setting.now (length conflict.now.rules * most_out (length unlisted.now.rules.now)) core.old core.new ledger.old ledger.new }
     ensures spent { IfOk result (λ o. is_none o ≡ is_spent ledger.new) }
     ensures problem { (r : Request) (listed : List ℕ) → IsOf r setting.now core.old.made → IsConflictAmong r core.old.made conflict.now.rules conflict.now.log listed unlisted.now.rules.now → IsFoundOn r (λ k. not (is_among listed k)) unlisted.now.trail.now → IfOk result (λ o. IfSome o (IsProblemOf r core.old.made listed conflict.now)) }
 {
-    match each_way_out(setting, core, ledger, conflict, unlisted, guess)? {
+    match each_way_out(setting, core, ledger, conflict, unlisted)? {
         Some(solutions) => Ok(Some(Problem {
             rules: Items::wrap(rules_of_log(setting.alloc, setting.book, &conflict.log)?),
             log: copy_of(setting.alloc, &conflict.log)?,
@@ -143,7 +139,7 @@ fn problem_with(
     }
 }
 
-/// The problems of conflicts, with their solutions. What a way out had to drop is a guess at what the next one has to. Nothing, where the ledger is spent.
+/// The problems of conflicts, with their solutions. Nothing, where the ledger is spent.
 fn problems_with(
     setting: &Setting<'_>,
     core: &mut Core<'_>,
@@ -155,15 +151,13 @@ fn problems_with(
     requires settled { (r : Request) × (IsOf r setting.now core.old.made × AreSettled r core.old.made conflicts.now) }
     requires droppable { list_all (is_off_in setting.now.fixed.now) (listed_of conflicts.now) ≡ true }
     requires unlisted { (k : ℕ) → is_among unlisted.now.rules.now k ≡ (is_off_in setting.now.fixed.now k && not (is_among (listed_of conflicts.now) k)) }
-    requires clauses { list_all (is_of_some core.old.made.owners unlisted.now.rules.now) unlisted.now.clauses.now ≡ true }
     ensures has_run { HasRun setting.now (length (listed_of conflicts.now) * most_out (length unlisted.now.rules.now)) core.old core.new ledger.old ledger.new }
     ensures spent { IfOk result (λ o. is_none o ≡ is_spent ledger.new) }
     ensures problems { (r : Request) → IsOf r setting.now core.old.made → AreSettled r core.old.made conflicts.now → IsFoundOn r (λ k. not (is_among (listed_of conflicts.now) k)) unlisted.now.trail.now → IfOk result (λ o. IfSome o (λ found. AllZip (IsProblemOf r core.old.made (listed_of conflicts.now)) conflicts.now found.items)) }
 {
     let mut problems = Vec::new(setting.alloc);
-    let mut guess = Guess::none_of(setting.alloc, setting.fixed.len())?;
     for conflict in conflicts {
-        match problem_with(setting, core, ledger, conflict, unlisted, &mut guess)? {
+        match problem_with(setting, core, ledger, conflict, unlisted)? {
             Some(problem) => problems.push(problem)?,
             None => return Ok(None),
         }

@@ -10,7 +10,7 @@ ghost use Rattle.solv_core.specs.Inner.Meeting.{set_by};
 ghost use Rattle.solv_questions.specs.Questions.{Request};
 ghost use Rattle.solv_remedy.specs.Inner.Runs.{IsOf};
 ghost use Rattle.solv_remedy.specs.Inner.Showing.{AreGoodSets, HasGoodSet};
-ghost use Rattle.solv_remedy.specs.Inner.Trying.{IsNeeded};
+ghost use Rattle.solv_remedy.specs.Inner.Trying.{IsNeeded, MeetsOn};
 
 use crate::setting::Setting;
 use crate::smallest::switch_on;
@@ -129,6 +129,54 @@ fn others_of(
         others[off] = false;
     }
     Ok(others)
+}
+
+/// Those of some rules whose clauses a set makes true.
+fn met_among(
+    alloc: Global,
+    book: &Book,
+    table: &[bool],
+    rules: &[usize],
+) -> Result<Vec<usize>, AllocError>
+    ensures { (p : ℕ → Bool) → list_all p rules.now ≡ true → IfOk result (λ met. list_all p met.items ≡ true) }
+{
+    let mut met = Vec::new(alloc);
+    for rule in rules {
+        if meets(book, table, *rule) {
+            met.push(*rule)?;
+        }
+    }
+    Ok(met)
+}
+
+/// Of so many rules these are enabled.
+pub fn only(alloc: Global, count: usize, rules: &[usize]) -> Result<Vec<bool>, AllocError>
+    ensures size { IfOk result (λ enabled. length enabled.items ≡ count) }
+    ensures on { IfOk result (λ enabled. (k : ℕ) → k < count → is_enabled enabled.items k ≡ is_among rules.now k) }
+{
+    let mut enabled = vec![in alloc; false; count]?;
+    switch_on(enabled.as_mut_slice(), rules);
+    Ok(enabled)
+}
+
+/// Those of some rules that the set of a trail meets.
+pub fn met_by(
+    setting: &Setting<'_>,
+    core: &Core<'_>,
+    rules: &[usize],
+    trail: &Trail,
+) -> Result<Vec<usize>, AllocError>
+    requires { (r : Request) × IsOf r setting.now core.now.made }
+    ensures among { (p : ℕ → Bool) → list_all p rules.now ≡ true → IfOk result (λ met. list_all p met.items ≡ true) }
+    ensures met { (r : Request) → IsOf r setting.now core.now.made → is_over setting.now.phases.now.packages (facts_of trail.now.events) ≡ true → IfOk result (λ met. MeetsOn r (is_among met.items) (set_of_known (is_fact (facts_of trail.now.events)))) }
+{
+    let table = inside(setting.alloc, trail, setting.phases.packages())?;
+    let met = met_among(setting.alloc, setting.book, &table, rules)?;
+    let enabled = only(setting.alloc, setting.fixed.len(), &met)?;
+    if !is_met_by(core, &enabled, &table) {
+        return Ok(Vec::new(setting.alloc));
+    }
+    Ok(met)
 }
 
 impl Sets {

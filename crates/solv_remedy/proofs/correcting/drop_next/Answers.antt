@@ -1,28 +1,39 @@
-use Rattle.std.proofs.Common.{◌≡◌, ◌∙◌, true, sym, ap, subst}
-use Rattle.solv_pool.specs.Prelude.{is_among}
-use Rattle.solv_remedy.specs.Inner.Steps.{is_spent_step, IsStep}
-use Rattle.solv_remedy.specs.declared.correcting.Correcting.{Correcting}
-use Rattle.solv_remedy.proofs.Dropped.{one_run}
-use Rattle.solv_remedy.proofs.Ran.{ran_within, may_still}
+use Rattle.std.proofs.Common.{◌≡◌, ◌∙◌, ◌≤◌, ◌<◌, ◌+◌, ◌-◌, true, arith}
+use Rattle.solv_remedy.specs.Inner.Correcting.{open_count}
+use Rattle.solv_remedy.proofs.Growing.{kept_then, parted_same, parted_then}
+use Rattle.solv_remedy.proofs.Ran.{ran_then}
 use Rattle.solv_remedy.proofs.correcting.drop_next.Goals as goal
-use Rattle.solv_remedy.proofs.correcting.drop_next.Goals.{In-Dropped}
 
--- the rule is left
-was_left : (c : In-Dropped) → is_among c.args.left.now c.in-Dropped.one.rule ≡ true
-was_left c =
-    let needed = c.requires.needed in
-    let way = c.args.way.now in
-    let S : Correcting → Type 0 = λ d. IsStep needed.0 way.conflict.now.rules way.off c.args.core.now.made c.args.left.now d in
-    (subst S c.in-Dropped.is (c.in_ok-trail.ensures.step needed.0 needed.1.0)).0
+pub look-requires-clause-parted : goal.look-requires-clause-parted
+look-requires-clause-parted c =
+    let s = c.args.setting.now in
+    let core = c.args.core.now.made in
+    let new = c.drop_one_of.new.parted in
+    parted_same s core c.drop_one_of.new.core.made new c.drop_one_of.ensures.has_run.core (parted_then s core c.args.parted.now new c.requires.parted (c.in_ok-drop_one_of.ensures.parted c.if-not-branch.false))
 
-pub guess_after-requires-clause-may_run : goal.guess_after-requires-clause-may_run
-guess_after-requires-clause-may_run c = may_still c.requires.may_run c.drop_one.ensures.has_run (sym (ap is_spent_step c.in-Dropped.is) ∙ c.in_ok-trail.ensures.spent)
+pub returns-in_err-on-clause-has_run : goal.returns-in_err-on-clause-has_run
+returns-in_err-on-clause-has_run c =
+    let fewer = c.in_ok-drop_one_of.ensures.fewer c.if-not-branch.false in
+    ran_then (omega (arith, fewer)) (c.in_ok-drop_one_of.ensures.runs c.if-not-branch.false) c.look.ensures.has_run
 
-pub returns-in_err-trail-clause-has_run : goal.returns-in_err-trail-clause-has_run
-returns-in_err-trail-clause-has_run c = ran_within (one_run c.args.left.now) c.drop_one.ensures.has_run
+pub returns-clause-has_run : goal.returns-clause-has_run
+returns-clause-has_run c =
+    let fewer = c.in_ok-drop_one_of.ensures.fewer c.if-not-branch.false in
+    ran_then (omega (arith, fewer)) (c.in_ok-drop_one_of.ensures.runs c.if-not-branch.false) c.look.ensures.has_run
 
-pub returns-in-Found-clause-has_run : goal.returns-in-Found-clause-has_run
-returns-in-Found-clause-has_run c = ran_within (one_run c.args.left.now) c.drop_one.ensures.has_run
+pub returns-clause-parted : goal.returns-clause-parted
+returns-clause-parted c = λ yes.
+    kept_then c.args.setting.now c.args.core.now.made c.drop_one_of.new.core.made c.args.parted.now c.drop_one_of.new.parted c.look.new.parted c.drop_one_of.ensures.has_run.core
+    (c.in_ok-drop_one_of.ensures.parted c.if-not-branch.false) (c.in_ok-on.ensures.parted yes)
 
-pub returns-in-Spent-clause-has_run : goal.returns-in-Spent-clause-has_run
-returns-in-Spent-clause-has_run c = ran_within (one_run c.args.left.now) c.drop_one.ensures.has_run
+pub returns-clause-fewer : goal.returns-clause-fewer
+returns-clause-fewer c = λ yes.
+    let fewer = c.in_ok-drop_one_of.ensures.fewer c.if-not-branch.false in
+    let few = c.in_ok-on.ensures.few yes in
+    omega (arith, fewer, few)
+
+pub returns-clause-runs : goal.returns-clause-runs
+returns-clause-runs c = λ yes.
+    let fewer = c.in_ok-drop_one_of.ensures.fewer c.if-not-branch.false in
+    let few = c.in_ok-on.ensures.few yes in
+    ran_then (omega (arith, fewer, few)) (c.in_ok-drop_one_of.ensures.runs c.if-not-branch.false) c.look.ensures.has_run
