@@ -1,12 +1,12 @@
 -- A transaction from what the calls below say.
-use Rattle.std.proofs.Common.{◌≡◌, ◌+◌, ℕ, zero, suc, Bool, true, false, not, ◌||◌, List, [], ◌∷◌, Option, Some, None, refl, sym, ap, ◌∙◌, subst, cond}
+use Rattle.std.proofs.Common.{◌≡◌, ◌+◌, ℕ, zero, suc, Bool, true, false, not, ◌||◌, List, [], ◌∷◌, refl, sym, ap, ◌∙◌, subst, cond}
 use mathlib.Core.Path.{fun_ext}
 use Rattle.std.specs.Ordering.{int_eq}
 use Rattle.std.specs.Prelude.{ℤ, ◌==◌, pos, negsuc, filter, flat_map, length, replicate, slice_get}
 use Rattle.std.specs.List.{list_all, range_with_len}
 use Rattle.std.specs.Option.{is_some}
 use Rattle.std.proofs.lemmas.Bool.{false≢true}
-use Rattle.solv_pool.specs.Prelude.{catalog_of, rule_clauses, hard_rules, marks_of, marked, is_fact, is_over, names_package, HardRule, meets_rule, is_among}
+use Rattle.solv_pool.specs.Prelude.{catalog_of, rule_clauses, hard_rules, marks_of, marked, is_fact, names_package, HardRule, meets_rule, is_among}
 use Rattle.solv_derive.proofs.Facts.{all_member, all_from}
 use Rattle.solv_pool.specs.Laws.{ClausesNamePackages, ClausesSayTheRule}
 use Rattle.solv_pool.specs.declared.tasks.Task.{Task}

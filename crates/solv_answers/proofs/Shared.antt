@@ -1,9 +1,9 @@
 -- What the rounds of a script share.
-use Rattle.std.proofs.Common.{◌≡◌, ◌≤◌, ◌+◌, ℕ, Bool, true, false, ◌&&◌, List, [], ◌∷◌, ◌++◌, length, map, take, drop, Option, None, refl, sym, ap, subst, ◌∙◌, append_assoc, arith}
-use Rattle.std.specs.Prelude.{Result, Ok, Err, IfOk, IfSome, ◌==◌, replicate}
+use Rattle.std.proofs.Common.{◌≡◌, ℕ, Bool, true, false, ◌&&◌, List, [], ◌++◌, length, map, take, drop, Option, None, refl, sym, ap, subst, ◌∙◌, append_assoc, arith}
+use Rattle.std.specs.Prelude.{Result, Ok, Err, IfOk, IfSome}
 use Rattle.std.proofs.Math.Bool.{beq}
 use Rattle.solv_list.proofs.Booleans.{first_of_both, second_of_both}
-use Rattle.std.proofs.lemmas.List.{length-take, length-take-le, take-map}
+use Rattle.std.proofs.lemmas.List.{append-nil, length-take, take-map}
 use Rattle.solv_pool.specs.Prelude.{Catalog, catalog_of, hard_rules, package_rules, infarch_rules, update_rules, feature_rules, job_rules, best_job_rules, best_update_rules, hard_rules_by, HardRule, rule_with, marks_of}
 use Rattle.solv_pool.specs.declared.hard_rules.Rule.{Rule}
 use Rattle.solv_pool.specs.declared.hard_rules.Rules.{Rules}
@@ -12,23 +12,16 @@ use Rattle.solv_pool.specs.declared.jobs.Job.{Job}
 use Rattle.solv_pool.specs.declared.tasks.Flags.{Flags}
 use Rattle.solv_pool.specs.declared.tasks.Task.{Task}
 use Rattle.std.specs.List.{list_all}
-use Rattle.solv_prov.specs.Index.{Index, IsIndexOf}
 use Rattle.solv_jobs.specs.Marking.{HasMarks}
-use Rattle.solv_core.specs.Inner.Holding.{IsHeldBy}
-use Rattle.solv_core.specs.Inner.Running.{is_spent_verdict}
-use Rattle.solv_core.specs.Ledgers.{IsGoodLedger}
-use Rattle.solv_questions.specs.Questions.{asks, request_of}
-use Rattle.solv_decide.specs.Inner.Deciding.{IsAskedFor, IsDecided}
-use Rattle.solv_decide.specs.declared.deciding.Decided.{Decided}
-use Rattle.solv_decide.specs.declared.deciding.Left.{Left}
-use Rattle.solv_rules.specs.Books.{IsBook, first_fault, is_bookable, read_rules}
-use Rattle.solv_rules.specs.Inner.Drafting.{IsBegun, IsFront}
+use Rattle.solv_plan.specs.declared.plans.Rest.{Rest}
+use Rattle.solv_rules.specs.Books.{first_fault, is_bookable, read_rules}
+use Rattle.solv_rules.specs.Inner.Drafting.{IsBegun, IsDraft, IsFront}
 use Rattle.solv_rules.specs.declared.drafts.Draft.{Draft}
+use Rattle.solv_rules.specs.declared.fault.BookFault.{BookFault}
 use Rattle.solv_rules.proofs.Fronts.{both_parts}
 use Rattle.solv_answers.specs.Answers.{IsPrepared}
-use Rattle.solv_answers.specs.Inner.Decisions.{HasDecided, core_made}
-use Rattle.solv_answers.specs.Inner.Fronts.{HasFront, MayGoOn, Reads, front_rules}
-use Rattle.solv_decide.specs.Inner.Lefts.{IsLeftFor}
+use Rattle.solv_answers.specs.Inner.Fronts.{HasFront, IsBookedBy, Reads, front_rules}
+use Rattle.solv_decide.specs.Inner.Rests.{IsRestFor}
 use Rattle.solv_answers.specs.declared.preparing.Prepared.{Prepared}
 use Rattle.solv_answers.specs.declared.preparing.Front.{Front}
 
@@ -52,31 +45,11 @@ has_front made first all front reads rules sets list kept = record {
         ap (λ (l : List Rule). record { list = l; sets = take front.sets all.sets }) (ap (λ n. take n all.list) rules ∙ list)
         ∙ ap (λ (s : List (List ℕ)). record { list = first.list; sets = s }) (ap (λ n. take n all.sets) sets ∙ kept)
 
--- a front by other counts of clauses
-pub same_front : (made : List HardRule) (rules : Rules) (front other : Front) → other.rules ≡ front.rules → other.sets ≡ front.sets → HasFront made rules front → HasFront made rules other
-same_front made rules front other same sets has =
-    let R : ℕ → ℕ → Type 0 = λ n m. Reads (record { list = take n rules.list; sets = take m rules.sets }) made in
-    record {
-      enough = subst (λ (n : ℕ). n ≤ length rules.list) (sym same) has.enough;
-      enough_sets = subst (λ (n : ℕ). n ≤ length rules.sets) (sym sets) has.enough_sets;
-      reads = subst (λ (n : ℕ). R n other.sets) (sym same) (subst (λ (m : ℕ). R front.rules m) (sym sets) has.reads);
-    }
-
--- and of a book with these rules
-pub front_of_book : (made : List HardRule) (rules own : Rules) (front : Front) → own ≡ rules → HasFront made rules front → HasFront made own front
-front_of_book made rules own front same has = subst (λ (r : Rules). HasFront made r front) (sym same) has
-
 -- rules that were cut there
 pub reads_first : (made : List HardRule) (rules first : Rules) (front : Front) → HasFront made rules front → first.list ≡ take front.rules rules.list → first.sets ≡ take front.sets rules.sets → Reads first made
 reads_first made rules first front has list sets =
     subst (λ (l : List Rule). Reads (record { list = l; sets = first.sets }) made) (sym list)
     (subst (λ (s : List (List ℕ)). Reads (record { list = take front.rules rules.list; sets = s }) made) (sym sets) has.reads)
-
--- and with others after them
-pub front_again : (made : List HardRule) (rules first all : Rules) (front : Front) → HasFront made rules front → first.list ≡ take front.rules rules.list → first.sets ≡ take front.sets rules.sets
-    → take (length first.list) all.list ≡ first.list → take (length first.sets) all.sets ≡ first.sets → HasFront made all front
-front_again made rules first all front has list sets stays kept =
-    has_front made first all front (reads_first made rules first front has list sets) (sym (ap length list ∙ length-take-le front.rules rules.list has.enough)) (sym (ap length sets ∙ length-take-le front.sets rules.sets has.enough_sets)) stays kept
 
 -- they are the first of all that are read
 pub front_read : (made : List HardRule) (rules : Rules) (front : Front) → HasFront made rules front → take front.rules (read_rules rules) ≡ made
@@ -107,65 +80,48 @@ front_alike catalog f g m n checks verify multiversion left_out =
     ∙ ap (λ v. package_rules catalog (record m { verify = n.verify; multiversion = v }) ++ infarch_rules catalog g) multiversion
     ∙ ap (λ v. package_rules catalog (record m { verify = n.verify; multiversion = n.multiversion; left_out = v }) ++ infarch_rules catalog g) left_out
 
--- clauses of the first rules
--- a book may begin with the clauses of another's first rules
-pub begun_by : (catalog : Catalog) (made rest : List HardRule) (old : List HardRule) (n : ℕ) (all : List HardRule) (draft : Draft) → take n old ≡ made → all ≡ made ++ rest → IsFront catalog (take n old) draft → IsBegun catalog all draft
-begun_by catalog made rest old n all draft same are is = record { front = made; rest = rest; are = are; is = subst (λ (l : List HardRule). IsFront catalog l draft) same is }
+-- with no clause there yet a book may begin
+pub begins_empty : (catalog : Catalog) (made : List HardRule) (draft : Draft) → IsDraft draft → draft.memory.rules ≡ [] → draft.owners.items ≡ [] → draft.spans.items ≡ [] → IsBegun catalog made draft
+begins_empty catalog made draft counted rules owners spans =
+    record { front = []; rest = made; are = refl; is = record { has = record { clauses = rules; owners = owners; spans = spans; fits = refl }; counted = counted } }
 
--- what was prepared for a task, from its parts
-pub is_prepared : (task : Task) (held : Index) (prepared : Prepared) (rules : Rules) → IsIndexOf held (catalog_of task) → prepared.prov.now ≡ held → prepared.flags ≡ task.flags → prepared.marks ≡ marks_of task → HasMarks (length task.universe.packages) prepared.marks
-    → IsBook (catalog_of task) prepared.book → prepared.book.rules ≡ rules → read_rules rules ≡ hard_rules task → list_all (is_bookable (catalog_of task)) (read_rules rules) ≡ true → first_fault (catalog_of task) 0 (read_rules rules) ≡ None
-    → IsPrepared task prepared
-is_prepared task held prepared rules index lent flags marks each book same read bookable fits =
+-- and with the clauses of all these rules
+pub begins_with : (catalog : Catalog) (made old : List HardRule) (n : ℕ) (draft : Draft) → take n old ≡ made → IsFront catalog (take n old) draft → IsBegun catalog made draft
+begins_with catalog made old n draft same is = record { front = made; rest = []; are = sym (append-nil made); is = subst (λ (l : List HardRule). IsFront catalog l draft) same is }
+
+-- and so where more rules come after them
+pub begins_before : (catalog : Catalog) (made more all : List HardRule) (draft : Draft) → all ≡ made ++ more → IsBegun catalog made draft → IsBegun catalog all draft
+begins_before catalog made more all draft are begun =
+    record { front = begun.front; rest = begun.rest ++ more; are = are ∙ ap (λ l. l ++ more) begun.are ∙ append_assoc begun.front begun.rest more; is = begun.is }
+
+-- what is prepared by the marks of a task has all its hard rules
+pub is_prepared : (task : Task) (marks : Marks) (prepared : Prepared) → marks ≡ marks_of task → HasMarks (length task.universe.packages) marks → IsBookedBy task marks prepared → IsPrepared task prepared
+is_prepared task marks prepared same each booked =
     let catalog = catalog_of task in
-    let B : List HardRule → Type 0 = λ rules. list_all (is_bookable catalog) rules ≡ true in
-    let F : List HardRule → Type 0 = λ rules. first_fault catalog 0 rules ≡ None in
+    let are : hard_rules_by catalog task.flags task.jobs marks ≡ hard_rules task = ap (hard_rules_by catalog task.flags task.jobs) same in
     record {
-      index = subst (λ (i : Index). IsIndexOf i catalog) (sym lent) index;
-      flags = flags;
-      marks = marks;
-      each = each;
-      book = book;
-      rules = ap read_rules same ∙ read;
-      bookable = subst B read bookable;
-      fits = subst F read fits;
+      index = booked.index;
+      flags = booked.flags;
+      marks = booked.marks_are ∙ same;
+      each = subst (λ (m : Marks). HasMarks (length task.universe.packages) m) (sym booked.marks_are) each;
+      book = booked.book;
+      rules = booked.rules ∙ are;
+      bookable = subst (λ (l : List HardRule). list_all (is_bookable catalog) l ≡ true) are booked.bookable;
+      fits = subst (λ (l : List HardRule). first_fault catalog 0 l ≡ None) are booked.fits;
     }
 
--- and it serves the next round
-pub may_go_on : (task : Task) (prepared : Prepared) (rules : Rules) → IsPrepared task prepared → prepared.book.rules ≡ rules → HasFront (front_rules (catalog_of task) task.flags prepared.marks) rules prepared.front
-    → IfSome prepared.left (IsLeftFor (catalog_of task) task.flags prepared.marks)
-    → MayGoOn (catalog_of task) prepared
-may_go_on task prepared rules is same front left =
-    let catalog = catalog_of task in
-    let H : Rules → Flags → Type 0 = λ r f. HasFront (front_rules catalog f prepared.marks) r prepared.front in
-    let L : Flags → Type 0 = λ f. IfSome prepared.left (IsLeftFor catalog f prepared.marks) in
-    record {
-      index = is.index;
-      book = is.book;
-      fits = ap (first_fault catalog 0) is.rules ∙ is.fits;
-      front = subst (λ (f : Flags). H prepared.book.rules f) (sym is.flags) (subst (λ (r : Rules). H r task.flags) (sym same) front);
-      left = subst L (sym is.flags) left;
-    }
-
--- the nine clauses of a decision
-pub all_decided : {E : Type 0} (task : Task) (prepared : Prepared) (budget : ℕ) (r : Result Decided E) → IfOk r (λ d. d.ledger.budget ≡ budget) → IfOk r (λ d. length d.ledger.entries ≤ d.ledger.budget + 1)
-    → IfOk r (λ d. IsAskedFor (request_of task prepared.marks) d.phases d.core.made) → IfOk r (λ d. IsHeldBy d.core d.ledger) → IfOk r (λ d. d.core.made ≡ core_made task prepared)
-    → IfOk r (λ d. d.ledger.runs ≡ (record { enabled = replicate (length prepared.book.rules.list) true; kept = [] }) ∷ [])
-    → IfOk r (λ d. IsGoodLedger prepared.book.clauses prepared.book.owners (length task.universe.packages) (asks (request_of task prepared.marks)) d.ledger)
-    → IfOk r (λ d. is_spent_verdict d.verdict ≡ (length d.ledger.entries == budget + 1))
-    → IfOk r (λ d. IsDecided (request_of task prepared.marks) (replicate (length prepared.book.rules.list) true) (core_made task prepared) d.verdict)
-    → IfOk r (HasDecided task prepared budget)
-all_decided task prepared budget (Ok d) a b c e f g h i j = record { budget_is = a; few = b; asked = c; held = e; core = f; run = g; good = h; spent = i; decided = j }
-all_decided task prepared budget (Err x) a b c e f g h i j = tt
+pub prepared_if : (task : Task) (marks : Marks) (o : Result Prepared BookFault) → marks ≡ marks_of task → HasMarks (length task.universe.packages) marks → IfOk o (IsBookedBy task marks) → IfOk o (IsPrepared task)
+prepared_if task marks (Ok prepared) same each booked = is_prepared task marks prepared same each booked
+prepared_if task marks (Err fault) same each booked = tt
 
 -- what an answer left serves where flags and marks are equal, and else nothing is kept
-pub left_serves : (catalog : Catalog) (alike : Bool) (f g : Flags) (m n : Marks) (old new : Option Left) → (alike ≡ true → (f ≡ g) × (m ≡ n)) → (alike ≡ true → new ≡ old) → (alike ≡ false → new ≡ None)
-    → IfSome old (IsLeftFor catalog f m) → IfSome new (IsLeftFor catalog g n)
+pub left_serves : (catalog : Catalog) (alike : Bool) (f g : Flags) (m n : Marks) (old new : Option Rest) → (alike ≡ true → (f ≡ g) × (m ≡ n)) → (alike ≡ true → new ≡ old) → (alike ≡ false → new ≡ None)
+    → IfSome old (IsRestFor catalog f m) → IfSome new (IsRestFor catalog g n)
 left_serves catalog true f g m n old new same kept none is =
     let both = same refl in
-    let P : Flags → Marks → Type 0 = λ a b. IfSome old (IsLeftFor catalog a b) in
-    subst (λ (o : Option Left). IfSome o (IsLeftFor catalog g n)) (sym (kept refl)) (subst (λ (b : Marks). P g b) both.1 (subst (λ (a : Flags). P a m) both.0 is))
-left_serves catalog false f g m n old new same kept none is = subst (λ (o : Option Left). IfSome o (IsLeftFor catalog g n)) (sym (none refl)) tt
+    let P : Flags → Marks → Type 0 = λ a b. IfSome old (IsRestFor catalog a b) in
+    subst (λ (o : Option Rest). IfSome o (IsRestFor catalog g n)) (sym (kept refl)) (subst (λ (b : Marks). P g b) both.1 (subst (λ (a : Flags). P a m) both.0 is))
+left_serves catalog false f g m n old new same kept none is = subst (λ (o : Option Rest). IfSome o (IsRestFor catalog g n)) (sym (none refl)) tt
 
 -- flags that are equal one by one
 same_by : (a b : Bool) → beq a b ≡ true → a ≡ b

@@ -8,14 +8,12 @@ ghost use Rattle.solv_rules.specs.Books.{first_fault, read_rules};
 ghost use Rattle.solv_pool.specs.TaskForms.{asks_in_form};
 ghost use Rattle.solv_answers.specs.Answers.{IsAnswered, IsTransactionUnlessChoicesClash, is_transaction};
 ghost use Rattle.solv_answers.specs.Inner.Made.{IsAnsweredMade, answer_at};
-ghost use Rattle.solv_answers.specs.Inner.Lean.{HasDecidedLean, HasLeft, IsLean};
+ghost use Rattle.solv_answers.specs.Inner.Lean.{HasLeft, IsMade};
 
-use crate::answering::{Refutation, problems_of, solved};
+use crate::answering::{Given, answer_made};
 use crate::answers::{Answer, Answered};
 use crate::making::hard_rules;
-use crate::preparing::marks;
-use solv_core::Verdict;
-use solv_decide::{Decided, decide};
+use crate::preparing::{Prepared, marks, prepare_anew};
 use solv_leaving::{all_fit, all_rules_fit, left_out};
 use solv_list::Items;
 use solv_over::{Places, is_inside, moved_ledger, moved_problems};
@@ -23,31 +21,8 @@ use solv_pool::laws::{clauses_name_packages, clauses_say_the_rule};
 use solv_pool::{Marks, Rules, Task};
 use solv_prov::Providers;
 use solv_questions::questions_keep_the_law;
-use solv_rules::{Book, BookFault, hard_rules_are_bookable};
+use solv_rules::{BookFault, hard_rules_are_bookable};
 use std::alloc::{AllocError, Global};
-
-/// The marks of a task, and the book of its hard rules without the requirements of the packages that they leave out.
-pub struct Lean {
-    pub marks: Marks,
-    pub book: Book,
-}
-
-impl Drop for Lean {
-    fn drop(self) {
-        let Lean { marks: _, book: _ } = self;
-    }
-}
-
-impl Lean {
-    /// The marks alone, with nothing left out.
-    fn into_marks(self, alloc: Global) -> Marks
-        ensures { result ≡ record self.marks { left_out = [] } }
-    {
-        let Lean { mut marks, book: _ } = self;
-        marks.left_out = Items::wrap(Vec::new(alloc));
-        marks
-    }
-}
 
 /// The marks of a task with the packages that nothing can ask for.
 fn lean_marks(alloc: Global, task: &Task, prov: &Providers) -> Result<Marks, AllocError>
@@ -62,69 +37,32 @@ fn lean_marks(alloc: Global, task: &Task, prov: &Providers) -> Result<Marks, All
     Ok(lean)
 }
 
-/// A book over these marks, where the clauses of all hard rules would pass no limit.
-fn lean_on(
+/// What a task of these marks is prepared with, where the clauses of all hard rules would pass no limit.
+fn prepare_lean<'a>(
     alloc: Global,
     task: &Task,
-    prov: &Providers,
+    prov: &'a Providers,
     marks: Marks,
-) -> Result<Option<Lean>, AllocError>
+) -> Result<Option<Prepared<'a>>, AllocError>
     requires closed { IsClosed task.now }
     requires formed { list_all (asks_in_form (catalog_of task.now)) task.now.universe.packages ≡ true }
     requires index { IsIndexOf prov.now (catalog_of task.now) }
     requires left { HasLeft task.now marks }
     requires each { HasMarks (length task.now.universe.packages) marks }
-    ensures { IfOk result (λ lean. IfSome lean (IsLean task.now)) }
+    ensures { IfOk result (λ prepared. IfSome prepared (IsMade task.now)) }
 {
     all_rules_fit();
     hard_rules_are_bookable();
-    let rules = hard_rules(alloc, task, prov, &marks)?;
-    let book = match Book::make(alloc, task, prov, rules) {
-        Ok(book) => book,
+    let prepared = match prepare_anew(alloc, task, prov, marks) {
+        Ok(prepared) => prepared,
         Err(BookFault::Memory) => return Err(AllocError),
         Err(_) => return Ok(None),
     };
-    if !all_fit(task, prov, marks.left_out.held(), book.words()) {
+    let out = prepared.marks.left_out.held();
+    if !all_fit(task, prov, out, prepared.book.words()) {
         return Ok(None);
     }
-    Ok(Some(Lean { marks, book }))
-}
-
-/// An answer by the rules that are made.
-fn answered_by(
-    alloc: Global,
-    task: &Task,
-    prov: &Providers,
-    lean: &Lean,
-    decided: Decided<'_>,
-) -> Result<Answered, AllocError>
-    requires closed { IsClosed task.now }
-    requires formed { list_all (asks_in_form (catalog_of task.now)) task.now.universe.packages ≡ true }
-    requires index { IsIndexOf prov.now (catalog_of task.now) }
-    requires lean { IsLean task.now lean.now }
-    requires decided { HasDecidedLean task.now lean.now decided }
-    requires budget { decided.ledger.budget ≤ 1000000 }
-    ensures { IfOk result (λ a. IsAnsweredMade task.now lean.now.marks.left_out decided.entry.ledger.budget a.answer a.ledger) }
-{
-    let left = lean.marks.left_out.held();
-    let Decided {
-        verdict,
-        ledger,
-        phases,
-        mut core,
-    } = decided;
-    match verdict {
-        Verdict::Sat(trail) => solved(alloc, task, prov, left, trail, ledger),
-        Verdict::Unsat(log) => {
-            let refutation = Refutation { log, ledger };
-            let (book, core) = (&lean.book, &mut core);
-            problems_of(alloc, task, left, book, &phases, core, refutation)
-        }
-        Verdict::Spent => Ok(Answered {
-            answer: Answer::Spent,
-            ledger,
-        }),
-    }
+    Ok(Some(prepared))
 }
 
 /// An answer with the numbers of its rules among all hard rules.
@@ -145,24 +83,24 @@ fn moved(
     alloc: Global,
     task: &Task,
     prov: &Providers,
-    lean: &Lean,
+    prepared: &Prepared<'_>,
     budget: u32,
     answered: Answered,
 ) -> Result<Option<Answered>, AllocError>
     requires closed { IsClosed task.now }
     requires index { IsIndexOf prov.now (catalog_of task.now) }
-    requires lean { IsLean task.now lean.now }
-    requires made { IsAnsweredMade task.now lean.now.marks.left_out budget answered.answer answered.ledger }
+    requires prepared { IsMade task.now prepared.now }
+    requires made { IsAnsweredMade task.now prepared.now.marks.left_out budget answered.answer answered.ledger }
     ensures { IfOk result (λ o. IfSome o (λ a. IsAnswered task.now budget a.answer a.ledger)) }
 {
     clauses_name_packages();
     clauses_say_the_rule();
-    let left = lean.marks.left_out.held();
+    let left = prepared.marks.left_out.held();
     let Answered { answer, ledger } = answered;
     if !is_inside(&ledger, left, task.universe.count()) {
         return Ok(None);
     }
-    let places = Places::of(alloc, task, prov, left, &lean.book)?;
+    let places = Places::of(alloc, task, prov, left, &prepared.book)?;
     let ledger = moved_ledger(alloc, &places, ledger)?;
     let answer = moved_answer(alloc, &places, answer)?;
     Ok(Some(Answered { answer, ledger }))
@@ -173,13 +111,13 @@ fn rules_named(
     alloc: Global,
     task: &Task,
     prov: &Providers,
-    lean: Lean,
+    prepared: Prepared<'_>,
     answer: &Answer,
 ) -> Result<Rules, AllocError>
     requires closed { IsClosed task.now }
     requires formed { list_all (asks_in_form (catalog_of task.now)) task.now.universe.packages ≡ true }
     requires index { IsIndexOf prov.now (catalog_of task.now) }
-    requires lean { IsLean task.now lean }
+    requires prepared { IsMade task.now prepared }
     ensures { IfOk result (λ rules. is_transaction answer.now ≡ false → read_rules rules ≡ all_rules task.now) }
 {
     match answer {
@@ -188,7 +126,7 @@ fn rules_named(
             sets: Items::wrap(Vec::new(alloc)),
         }),
         _ => {
-            let marks = lean.into_marks(alloc);
+            let marks = prepared.into_marks(alloc);
             hard_rules(alloc, task, prov, &marks)
         }
     }
@@ -221,16 +159,16 @@ pub fn answer_lean(
     questions_keep_the_law();
     clauses_name_packages();
     clauses_say_the_rule();
-    let left = lean_marks(alloc, task, prov)?;
-    let lean = match lean_on(alloc, task, prov, left)? {
-        Some(lean) => lean,
+    let marks = lean_marks(alloc, task, prov)?;
+    let prepared = match prepare_lean(alloc, task, prov, marks)? {
+        Some(prepared) => prepared,
         None => return Ok(None),
     };
-    let decided = decide(alloc, task, prov, &lean.marks, &lean.book, budget)?;
-    let made = answered_by(alloc, task, prov, &lean, decided)?;
-    match moved(alloc, task, prov, &lean, budget, made)? {
+    let Given { answered, left } = answer_made(alloc, task, &prepared, None, false, budget)?;
+    drop(left);
+    match moved(alloc, task, prov, &prepared, budget, answered)? {
         Some(answered) => {
-            let rules = rules_named(alloc, task, prov, lean, &answered.answer)?;
+            let rules = rules_named(alloc, task, prov, prepared, &answered.answer)?;
             Ok(Some(LeanAnswer { answered, rules }))
         }
         None => Ok(None),

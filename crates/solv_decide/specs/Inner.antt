@@ -3,4 +3,4 @@ pub mod Deciding
 pub mod GuideLaw
 pub mod Serving
 pub mod Sets
-pub mod Lefts
+pub mod Rests

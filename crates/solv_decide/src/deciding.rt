@@ -1,5 +1,5 @@
 //! The answer for a task: one run with every rule enabled.
-ghost use Rattle.std.specs.Prelude.{◌≡◌, ◌≤◌, ◌+◌, ◌==◌, ◌∷◌, [], None, true, length, replicate, IfOk};
+ghost use Rattle.std.specs.Prelude.{◌≡◌, ◌≤◌, ◌+◌, ◌==◌, ◌∷◌, [], None, true, length, replicate, IfOk, IfSome};
 ghost use Rattle.std.specs.List.{list_all, range_with_len};
 ghost use Rattle.solv_pool.specs.Prelude.{catalog_of, IsClosed};
 ghost use Rattle.solv_prov.specs.Index.{IsIndexOf};
@@ -12,9 +12,9 @@ ghost use Rattle.solv_core.specs.Ledgers.{IsGoodLedger};
 ghost use Rattle.solv_core.specs.Inner.Running.{is_spent_verdict};
 ghost use Rattle.solv_core.specs.declared.ledger.Ledger.{Ledger as LedgerOf};
 ghost use Rattle.solv_pool.specs.TaskForms.{asks_in_form};
-ghost use Rattle.solv_questions.specs.Questions.{Request, asks, request_of, rules_of};
-ghost use Rattle.solv_plan.specs.Inner.RestOfPlan.{rest_by, rest_in};
+ghost use Rattle.solv_questions.specs.Questions.{asks, request_of, rules_of};
 ghost use Rattle.solv_decide.specs.Inner.Deciding.{IsAskedFor, IsDecided};
+ghost use Rattle.solv_decide.specs.Inner.Rests.{IsRestFor};
 
 use crate::phases::Phases;
 use crate::solving::solve;
@@ -34,24 +34,6 @@ pub struct Decided<'a> {
     pub ledger: Ledger,
     pub phases: Phases,
     pub core: Core<'a>,
-}
-
-/// What a decision leaves for a later one: what stands in its plan after the demands and the installed packages.
-#[derive(Drop)]
-pub struct Left {
-    pub rest: Rest,
-}
-
-impl Left {
-    /// What is left of a decision by its questions.
-    pub fn of(phases: Phases) -> Left
-        ensures rest { result.rest ≡ rest_in phases.plan }
-        ensures asked { (r : Request) (core : CoreOf) → IsAskedFor r phases core → result.rest ≡ rest_by r.catalog r.flags r.marks }
-    {
-        Left {
-            rest: phases.into_rest(),
-        }
-    }
 }
 
 /// As many rules, each enabled.
@@ -75,14 +57,37 @@ fn core_of<'a>(alloc: Global, task: &Task, book: &'a Book) -> Result<Core<'a>, A
     Core::new(alloc, book.memory(), book.owners(), task.universe.count())
 }
 
-/// Decides a task with the part of its plan that no job changes.
-fn decide_with<'a>(
+/// The part of a plan that no job changes: what an earlier decision left of it, or made anew.
+fn rest_or_made(
+    alloc: Global,
+    task: &Task,
+    prov: &Providers,
+    marks: &Marks,
+    book: &Book,
+    rest: Option<Rest>,
+) -> Result<Rest, AllocError>
+    requires index { IsIndexOf prov.now (catalog_of task.now) }
+    requires closed { IsClosed task.now }
+    requires marks { HasMarks (length task.now.universe.packages) marks.now }
+    requires rules { read_rules book.now.rules ≡ rules_of (request_of task.now marks.now) }
+    requires rest { IfSome rest (IsRestFor (catalog_of task.now) task.now.flags marks.now) }
+    ensures { IfOk result (IsRestFor (catalog_of task.now) task.now.flags marks.now) }
+{
+    match rest {
+        Some(rest) => Ok(rest),
+        None => make_rest(alloc, task, prov, marks, book.rules()),
+    }
+}
+
+/// Decides a task whose hard rules, by these marks, a book has: a set that meets them, a refutation, or that a budget of learnt rules is spent. The part of its plan that
+/// no job changes may be what an earlier decision left, one for the same packages, flags and marks.
+pub fn decide<'a>(
     alloc: Global,
     task: &Task,
     prov: &Providers,
     marks: &Marks,
     book: &'a Book,
-    rest: Rest,
+    rest: Option<Rest>,
     budget: u32,
 ) -> Result<Decided<'a>, AllocError>
     requires index { IsIndexOf prov.now (catalog_of task.now) }
@@ -94,7 +99,7 @@ fn decide_with<'a>(
     requires bookable { list_all (is_bookable (catalog_of task.now)) (read_rules book.now.rules) ≡ true }
     requires fits { first_fault (catalog_of task.now) 0 (read_rules book.now.rules) ≡ None }
     requires budget { budget ≤ 1000000 }
-    requires rest { rest ≡ rest_by (catalog_of task.now) task.now.flags marks.now }
+    requires rest { IfSome rest (IsRestFor (catalog_of task.now) task.now.flags marks.now) }
     ensures budget { IfOk result (λ d. d.ledger.budget ≡ budget) }
     ensures few { IfOk result (λ d. length d.ledger.entries ≤ d.ledger.budget + 1) }
     ensures asked { IfOk result (λ d. IsAskedFor (request_of task.now marks.now) d.phases d.core.made) }
@@ -108,6 +113,7 @@ fn decide_with<'a>(
 {
     clauses_name_packages();
     task.pool.holds_each_once();
+    let rest = rest_or_made(alloc, task, prov, marks, book, rest)?;
     let mut core = core_of(alloc, task, book)?;
     let phases = Phases::on(alloc, task, prov, marks, book, rest)?;
     let enabled = all_enabled(alloc, book.rules().list.len())?;
@@ -119,72 +125,4 @@ fn decide_with<'a>(
         phases,
         core,
     })
-}
-
-/// Decides a task whose hard rules, by these marks, a book has: a set that meets them, a refutation, or that a budget of learnt rules is spent.
-pub fn decide<'a>(
-    alloc: Global,
-    task: &Task,
-    prov: &Providers,
-    marks: &Marks,
-    book: &'a Book,
-    budget: u32,
-) -> Result<Decided<'a>, AllocError>
-    requires index { IsIndexOf prov.now (catalog_of task.now) }
-    requires closed { IsClosed task.now }
-    requires marks { HasMarks (length task.now.universe.packages) marks.now }
-    requires formed { list_all (asks_in_form (catalog_of task.now)) task.now.universe.packages ≡ true }
-    requires book { IsBook (catalog_of task.now) book.now }
-    requires rules { read_rules book.now.rules ≡ rules_of (request_of task.now marks.now) }
-    requires bookable { list_all (is_bookable (catalog_of task.now)) (read_rules book.now.rules) ≡ true }
-    requires fits { first_fault (catalog_of task.now) 0 (read_rules book.now.rules) ≡ None }
-    requires budget { budget ≤ 1000000 }
-    ensures budget { IfOk result (λ d. d.ledger.budget ≡ budget) }
-    ensures few { IfOk result (λ d. length d.ledger.entries ≤ d.ledger.budget + 1) }
-    ensures asked { IfOk result (λ d. IsAskedFor (request_of task.now marks.now) d.phases d.core.made) }
-    ensures held { IfOk result (λ d. IsHeldBy d.core d.ledger) }
-    ensures core { IfOk result (λ d. d.core.made ≡ record { clauses = book.now.clauses; owners = book.now.owners; packages = length task.now.universe.packages }) }
-    ensures run { IfOk result (λ d. d.ledger.runs ≡ (record { enabled = replicate (length book.now.rules.list) true; kept = [] }) ∷ []) }
-    ensures in_use { IfOk result (λ d. numbers_in_use d.core.in_use ≡ range_with_len 0 (length d.ledger.entries)) }
-    ensures good { IfOk result (λ d. IsGoodLedger book.now.clauses book.now.owners (length task.now.universe.packages) (asks (request_of task.now marks.now)) d.ledger) }
-    ensures spent { IfOk result (λ d. is_spent_verdict d.verdict ≡ (length d.ledger.entries == budget + 1)) }
-    ensures decided { IfOk result (λ d. IsDecided (request_of task.now marks.now) (replicate (length book.now.rules.list) true) (record { clauses = book.now.clauses; owners = book.now.owners; packages = length task.now.universe.packages }) d.verdict) }
-{
-    let rest = make_rest(alloc, task, prov, marks, book.rules())?;
-    decide_with(alloc, task, prov, marks, book, rest, budget)
-}
-
-/// As `decide`, with what an earlier decision left: one for the same packages, flags and marks.
-pub fn decide_on<'a>(
-    alloc: Global,
-    task: &Task,
-    prov: &Providers,
-    marks: &Marks,
-    book: &'a Book,
-    left: Left,
-    budget: u32,
-) -> Result<Decided<'a>, AllocError>
-    requires index { IsIndexOf prov.now (catalog_of task.now) }
-    requires closed { IsClosed task.now }
-    requires marks { HasMarks (length task.now.universe.packages) marks.now }
-    requires formed { list_all (asks_in_form (catalog_of task.now)) task.now.universe.packages ≡ true }
-    requires book { IsBook (catalog_of task.now) book.now }
-    requires rules { read_rules book.now.rules ≡ rules_of (request_of task.now marks.now) }
-    requires bookable { list_all (is_bookable (catalog_of task.now)) (read_rules book.now.rules) ≡ true }
-    requires fits { first_fault (catalog_of task.now) 0 (read_rules book.now.rules) ≡ None }
-    requires budget { budget ≤ 1000000 }
-    requires rest { left.rest ≡ rest_by (catalog_of task.now) task.now.flags marks.now }
-    ensures budget { IfOk result (λ d. d.ledger.budget ≡ budget) }
-    ensures few { IfOk result (λ d. length d.ledger.entries ≤ d.ledger.budget + 1) }
-    ensures asked { IfOk result (λ d. IsAskedFor (request_of task.now marks.now) d.phases d.core.made) }
-    ensures held { IfOk result (λ d. IsHeldBy d.core d.ledger) }
-    ensures core { IfOk result (λ d. d.core.made ≡ record { clauses = book.now.clauses; owners = book.now.owners; packages = length task.now.universe.packages }) }
-    ensures run { IfOk result (λ d. d.ledger.runs ≡ (record { enabled = replicate (length book.now.rules.list) true; kept = [] }) ∷ []) }
-    ensures in_use { IfOk result (λ d. numbers_in_use d.core.in_use ≡ range_with_len 0 (length d.ledger.entries)) }
-    ensures good { IfOk result (λ d. IsGoodLedger book.now.clauses book.now.owners (length task.now.universe.packages) (asks (request_of task.now marks.now)) d.ledger) }
-    ensures spent { IfOk result (λ d. is_spent_verdict d.verdict ≡ (length d.ledger.entries == budget + 1)) }
-    ensures decided { IfOk result (λ d. IsDecided (request_of task.now marks.now) (replicate (length book.now.rules.list) true) (record { clauses = book.now.clauses; owners = book.now.owners; packages = length task.now.universe.packages }) d.verdict) }
-{
-    let Left { rest } = left;
-    decide_with(alloc, task, prov, marks, book, rest, budget)
 }

@@ -7,13 +7,11 @@ ghost use Rattle.solv_prov.specs.Index.{IsIndexOf};
 ghost use Rattle.solv_rules.specs.Books.{first_fault, read_rules};
 ghost use Rattle.solv_answers.specs.Answers.{is_transaction};
 ghost use Rattle.solv_script.specs.Rounds.{tasks};
-ghost use Rattle.solv_words.specs.declared.command_line.Output.TheVariants as output;
 ghost use Rattle.solv_run.specs.Inner.ByOutput.{IsDueForScript, asks_answers};
 ghost use Rattle.solv_run.specs.Rounds.{IsGoodAnswer};
 
 use crate::dues::Conclusion;
-use crate::outputs::prints_lines;
-use crate::running::{answers_concluded, none_begun};
+use crate::running::{concluded, none_begun};
 use solv_answers::{LeanAnswer, answer_lean};
 use solv_prov::Providers;
 use solv_script::Script;
@@ -28,7 +26,7 @@ fn answer_due(
     prov: &Providers,
     given: LeanAnswer,
 ) -> Result<Conclusion, AllocError>
-    requires plain { command.now.output ≡ output.Lines }
+    requires asks { asks_answers command.now.output ≡ true }
     requires closed { IsClosed script.now.task }
     requires alone { script.now.later ≡ [] }
     requires index { IsIndexOf prov.now (catalog_of script.now.task) }
@@ -39,13 +37,12 @@ fn answer_due(
 {
     let mut begun = none_begun(alloc, command.budget);
     let LeanAnswer { answered, rules } = given;
-    begun.print(alloc, command.shows, script, prov, &rules, &answered.answer)?;
+    begun.add(alloc, command, script, prov, &rules, answered)?;
     drop(rules);
-    begun.take(answered)?;
-    answers_concluded(alloc, command, script, begun)
+    concluded(alloc, command, script, begun)
 }
 
-/// What is due for a script of one round whose lines are asked for, where the rules of what can be asked for give the answer.
+/// What is due for a script of one round, where the rules of what can be asked for give the answer.
 pub(crate) fn lean_due(
     alloc: Global,
     command: &Command,
@@ -59,7 +56,7 @@ pub(crate) fn lean_due(
     requires budget { command.now.budget ≤ 1000000 }
     ensures { IfOk result (λ due. IfSome due (λ conclusion. IsDueForScript command.now script.now conclusion.due conclusion.reached)) }
 {
-    if !prints_lines(command.output) || !script.later.is_empty() {
+    if !script.later.is_empty() {
         return Ok(None);
     }
     match answer_lean(alloc, &script.task, prov, command.budget)? {

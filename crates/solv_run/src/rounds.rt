@@ -14,6 +14,7 @@ ghost use Rattle.solv_script.specs.Inner.Turns.{first_turn};
 ghost use Rattle.solv_run.specs.Inner.Outcomes.{has_listed};
 ghost use Rattle.solv_run.specs.Inner.Rounds.{AreAll, GoesOn, HasBegun, HasNext, HasPrinted, HasTaken, IsOneMore};
 ghost use Rattle.solv_run.specs.Inner.Texts.{is_as_wanted};
+ghost use Rattle.solv_run.specs.Rounds.{IsGoodAnswer};
 ghost use Rattle.solv_run.specs.Texts.{round_lines};
 
 use crate::outputs::prints_lines;
@@ -51,7 +52,7 @@ fn left_by(left: u32, answered: &Answered) -> u32
 
 impl Begun {
     /// Adds what is printed of the first round of a script.
-    pub(crate) fn print(
+    fn print(
         &mut self,
         alloc: Global,
         shows: bool,
@@ -73,13 +74,37 @@ impl Begun {
     }
 
     /// Adds an answer.
-    pub(crate) fn take(&mut self, answered: Answered) -> Result<(), AllocError>
+    fn take(&mut self, answered: Answered) -> Result<(), AllocError>
         ensures taken { OnOk result (HasTaken answered self.old self.new) }
         ensures left { self.new.left ≤ self.old.left }
     {
         self.spent = answered.answer.is_spent();
         self.left = left_by(self.left, &answered);
         self.reached.push(answered)
+    }
+
+    /// Adds the answer to the first round of a script, and what is printed of it, where lines are asked for.
+    pub(crate) fn add(
+        &mut self,
+        alloc: Global,
+        command: &Command,
+        script: &Script,
+        prov: &Providers,
+        rules: &Rules,
+        answered: Answered,
+    ) -> Result<(), AllocError>
+        requires closed { IsClosed script.now.task }
+        requires index { IsIndexOf prov.now (catalog_of script.now.task) }
+        requires good { IsGoodAnswer script.now.task self.old.left answered.answer answered.ledger }
+        requires rules { is_transaction answered.answer ≡ false → read_rules rules.now ≡ hard_rules script.now.task }
+        ensures one_more { OnOk result (IsOneMore command.now [] (first_turn script.now) self.old self.new) }
+        ensures left { OnOk result (self.new.left ≤ self.old.left) }
+    {
+        if !prints_lines(command.output) {
+            return self.take(answered);
+        }
+        self.print(alloc, command.shows, script, prov, rules, &answered.answer)?;
+        self.take(answered)
     }
 }
 
@@ -102,12 +127,8 @@ pub(crate) fn answer_round(
 {
     let keeps = !script.later.is_empty();
     let answered = answer_in_turn(alloc, &script.task, prepared, keeps, begun.left)?;
-    if !prints_lines(command.output) {
-        return begun.take(answered);
-    }
     let (prov, rules) = (prepared.prov, prepared.book.rules());
-    begun.print(alloc, command.shows, script, prov, rules, &answered.answer)?;
-    begun.take(answered)
+    begun.add(alloc, command, script, prov, rules, answered)
 }
 
 /// Answers the first round of a script with what it was prepared with, and hands that on.

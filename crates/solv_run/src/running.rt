@@ -83,7 +83,7 @@ fn answers_due(
 }
 
 /// What the rounds of a script come to, where lines are asked for.
-pub(crate) fn answers_concluded(
+fn answers_concluded(
     alloc: Global,
     command: &Command,
     script: &Script,
@@ -137,7 +137,7 @@ fn passed_due(
 }
 
 /// What the rounds of a script come to, of which all are answered.
-fn concluded(
+pub(crate) fn concluded(
     alloc: Global,
     command: &Command,
     script: &Script,

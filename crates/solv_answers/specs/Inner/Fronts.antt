@@ -1,12 +1,16 @@
 -- What the rounds of a script share. Inner contracts alone speak of it.
-use Rattle.std.specs.Prelude.{ℕ, ◌≡◌, ◌≤◌, List, ◌++◌, None, IfSome, length, map, take}
-use Rattle.solv_pool.specs.Prelude.{Catalog, package_rules, infarch_rules, HardRule, rule_with}
+use Rattle.std.specs.Prelude.{ℕ, ◌≡◌, ◌≤◌, List, ◌++◌, None, true, IfSome, length, map, take}
+use Rattle.std.specs.List.{list_all}
+use Rattle.solv_pool.specs.Prelude.{Catalog, catalog_of, package_rules, infarch_rules, hard_rules_by, HardRule, rule_with}
 use Rattle.solv_pool.specs.declared.hard_rules.Rules.{Rules}
 use Rattle.solv_pool.specs.declared.job_marks.Marks.{Marks}
 use Rattle.solv_pool.specs.declared.tasks.Flags.{Flags}
+use Rattle.solv_pool.specs.declared.tasks.Task.{Task}
 use Rattle.solv_prov.specs.Index.{IsIndexOf}
-use Rattle.solv_rules.specs.Books.{IsBook, first_fault, read_rules}
-use Rattle.solv_decide.specs.Inner.Lefts.{IsLeftFor}
+use Rattle.solv_rules.specs.Books.{IsBook, first_fault, is_bookable, read_rules}
+use Rattle.solv_rules.specs.Inner.Drafting.{IsBegun}
+use Rattle.solv_decide.specs.Inner.Rests.{IsRestFor}
+use Rattle.solv_answers.specs.declared.preparing.Begun.{Begun}
 use Rattle.solv_answers.specs.declared.preparing.Front.{Front}
 use Rattle.solv_answers.specs.declared.preparing.Prepared.{Prepared}
 
@@ -30,4 +34,21 @@ pub record MayGoOn (catalog : Catalog) (prepared : Prepared) : Type 0 where
   pub book : IsBook catalog prepared.book
   pub fits : first_fault catalog 0 (read_rules prepared.book.rules) ≡ None
   pub front : HasFront (front_rules catalog prepared.flags prepared.marks) prepared.book.rules prepared.front
-  pub left : IfSome prepared.left (IsLeftFor catalog prepared.flags prepared.marks)
+  pub left : IfSome prepared.left (IsRestFor catalog prepared.flags prepared.marks)
+
+-- a book of the rules by these marks may begin with it
+pub record IsBegunFor (task : Task) (marks : Marks) (begun : Begun) : Type 0 where
+  pub front : Reads begun.rules (front_rules (catalog_of task) task.flags marks)
+  pub rules : begun.front.rules ≡ length begun.rules.list
+  pub sets : begun.front.sets ≡ length begun.rules.sets
+  pub draft : IsBegun (catalog_of task) (front_rules (catalog_of task) task.flags marks) begun.draft
+
+-- it has the book of the rules by these marks, whose clauses pass no limit
+pub record IsBookedBy (task : Task) (marks : Marks) (prepared : Prepared) : Type 0 where
+  pub index : IsIndexOf prepared.prov.now (catalog_of task)
+  pub flags : prepared.flags ≡ task.flags
+  pub marks_are : prepared.marks ≡ marks
+  pub book : IsBook (catalog_of task) prepared.book
+  pub rules : read_rules prepared.book.rules ≡ hard_rules_by (catalog_of task) task.flags task.jobs marks
+  pub bookable : list_all (is_bookable (catalog_of task)) (hard_rules_by (catalog_of task) task.flags task.jobs marks) ≡ true
+  pub fits : first_fault (catalog_of task) 0 (hard_rules_by (catalog_of task) task.flags task.jobs marks) ≡ None

@@ -1,6 +1,6 @@
 -- What is answered where the rules of some packages are left out, by the numbers of the rules that are made. Inner contracts alone speak of it.
 use Rattle.std.specs.Prelude.{◌≡◌, ◌==◌, ⊤, ◌+◌, ◌≤◌, ◌<◌, ℕ, Bool, true, List, [], flat_map, length, map, replicate, slice_get, Some}
-use Rattle.solv_pool.specs.Prelude.{catalog_of, hard_rules, marks_of, rule_clauses, HardRule}
+use Rattle.solv_pool.specs.Prelude.{catalog_of, marks_of, rule_clauses, HardRule}
 use Rattle.solv_pool.specs.declared.tasks.Task.{Task}
 use Rattle.solv_rules.specs.Books.{owners_from}
 use Rattle.solv_trail.specs.Asked.{is_enabled}

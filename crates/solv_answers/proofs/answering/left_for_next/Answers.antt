@@ -1,5 +1,6 @@
-use Rattle.solv_answers.specs.Answers.{request}
+use Rattle.std.proofs.Common.{◌∙◌, ap}
+use Rattle.solv_plan.specs.Inner.RestOfPlan.{rest_in}
 use Rattle.solv_answers.proofs.answering.left_for_next.Goals as goal
 
 pub returns-then-keeps : goal.returns-then-keeps
-returns-then-keeps c = λ task core asked. record { rest = c.of.ensures.asked (request task) core asked }
+returns-then-keeps c = λ r core asked. c.into_rest.ensures ∙ ap rest_in asked.plan

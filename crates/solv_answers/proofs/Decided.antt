@@ -20,16 +20,15 @@ use Rattle.solv_decide.specs.Deciding.{IsRefuted, IsSolution}
 use Rattle.solv_decide.specs.Inner.Deciding.{IsAskedFor, IsDecided}
 use Rattle.solv_decide.specs.declared.deciding.Decided.{Decided}
 use Rattle.solv_answers.specs.Inner.Made.{all_made, made_core, made_request}
-use Rattle.solv_questions.specs.Questions.{asks}
-use Rattle.solv_answers.specs.Inner.Lean.{HasDecidedLean, IsLean}
-use Rattle.solv_answers.specs.declared.lean.Lean.{Lean}
+use Rattle.solv_answers.specs.Inner.Lean.{HasDecided, IsMade}
+use Rattle.solv_answers.specs.declared.preparing.Prepared.{Prepared}
 
-module _ (task : Task) (lean : Lean) (is : IsLean task lean) where
+module _ (task : Task) (prepared : Prepared) (is : IsMade task prepared) where
   abbrev left : List Bool
-  left = lean.marks.left_out
+  left = prepared.marks.left_out
 
   abbrev book_core : CoreOf
-  book_core = record { clauses = lean.book.clauses; owners = lean.book.owners; packages = length task.universe.packages }
+  book_core = record { clauses = prepared.book.clauses; owners = prepared.book.owners; packages = length task.universe.packages }
 
   core_is : book_core ≡ made_core task left
   core_is = λ i. record {
@@ -38,21 +37,21 @@ module _ (task : Task) (lean : Lean) (is : IsLean task lean) where
     packages = length task.universe.packages;
   }
 
-  enabled_are : replicate (length lean.book.rules.list) true ≡ all_made task left
-  enabled_are = ap (λ n. replicate n true) (sym (length-map lean.book.rules.list (rule_with lean.book.rules.sets)) ∙ ap length is.rules)
+  enabled_are : replicate (length prepared.book.rules.list) true ≡ all_made task left
+  enabled_are = ap (λ n. replicate n true) (sym (length-map prepared.book.rules.list (rule_with prepared.book.rules.sets)) ∙ ap length is.rules)
 
-  pub decided_lean : (budget : ℕ) (decided : Decided) → decided.ledger.budget ≡ budget → length decided.ledger.entries ≤ decided.ledger.budget + 1
-      → IsAskedFor (request_of task lean.marks) decided.phases decided.core.made → IsHeldBy decided.core decided.ledger → decided.core.made ≡ book_core
-      → decided.ledger.runs ≡ (record { enabled = replicate (length lean.book.rules.list) true; kept = [] }) ∷ []
-      → IsGoodLedger lean.book.clauses lean.book.owners (length task.universe.packages) (asks (request_of task lean.marks)) decided.ledger
+  pub has_decided : (budget : ℕ) (decided : Decided) → decided.ledger.budget ≡ budget → length decided.ledger.entries ≤ decided.ledger.budget + 1
+      → IsAskedFor (request_of task prepared.marks) decided.phases decided.core.made → IsHeldBy decided.core decided.ledger → decided.core.made ≡ book_core
+      → decided.ledger.runs ≡ (record { enabled = replicate (length prepared.book.rules.list) true; kept = [] }) ∷ []
+      → IsGoodLedger prepared.book.clauses prepared.book.owners (length task.universe.packages) (asks (request_of task prepared.marks)) decided.ledger
       → is_spent_verdict decided.verdict ≡ (length decided.ledger.entries == budget + 1)
-      → IsDecided (request_of task lean.marks) (replicate (length lean.book.rules.list) true) book_core decided.verdict
-      → HasDecidedLean task lean decided
-  decided_lean budget decided budget_is few asked held core runs good spent so =
-      let G : Marks → Type 0 = λ m. IsGoodLedger lean.book.clauses lean.book.owners (length task.universe.packages) (asks (request_of task m)) decided.ledger in
+      → IsDecided (request_of task prepared.marks) (replicate (length prepared.book.rules.list) true) book_core decided.verdict
+      → HasDecided task prepared decided
+  has_decided budget decided budget_is few asked held core runs good spent so =
+      let G : Marks → Type 0 = λ m. IsGoodLedger prepared.book.clauses prepared.book.owners (length task.universe.packages) (asks (request_of task m)) decided.ledger in
       let C : CoreOf → Type 0 = λ c. IsGoodLedger c.clauses c.owners c.packages (asks (made_request task left)) decided.ledger in
       let A : Marks → Type 0 = λ m. IsAskedFor (request_of task m) decided.phases decided.core.made in
-      let M : Marks → Type 0 = λ m. IsDecided (request_of task m) (replicate (length lean.book.rules.list) true) book_core decided.verdict in
+      let M : Marks → Type 0 = λ m. IsDecided (request_of task m) (replicate (length prepared.book.rules.list) true) book_core decided.verdict in
       let E : List Bool → Type 0 = λ l. IsDecided (made_request task left) l book_core decided.verdict in
       let K : CoreOf → Type 0 = λ c. IsDecided (made_request task left) (all_made task left) c decided.verdict in
       record {
@@ -69,7 +68,7 @@ module _ (task : Task) (lean : Lean) (is : IsLean task lean) where
       }
 
   -- the core and the book are of the rules that are made
-  pub made_for : (decided : Decided) → HasDecidedLean task lean decided → IsMadeFor (made_request task left) decided.phases decided.core.made lean.book
+  pub made_for : (decided : Decided) → HasDecided task prepared decided → IsMadeFor (made_request task left) decided.phases decided.core.made prepared.book
   made_for decided has = record {
     asked = has.asked;
     owners = sym (ap (λ c. c.owners) (has.core ∙ sym core_is));
@@ -78,13 +77,13 @@ module _ (task : Task) (lean : Lean) (is : IsLean task lean) where
   }
 
   -- a refutation is one of them
-  pub refuted : (decided : Decided) (log : Log) → HasDecidedLean task lean decided → decided.verdict ≡ Unsat log → IsRefuted (made_request task left) (all_made task left) (made_core task left) log
+  pub refuted : (decided : Decided) (log : Log) → HasDecided task prepared decided → decided.verdict ≡ Unsat log → IsRefuted (made_request task left) (all_made task left) (made_core task left) log
   refuted decided log has e =
       let V : Verdict → Type 0 = λ v. IsDecided (made_request task left) (all_made task left) (made_core task left) v in
       subst V e has.decided_so
 
   -- and so is a set
-  pub found : (decided : Decided) (trail : Trail) → HasDecidedLean task lean decided → decided.verdict ≡ Sat trail → IsSolution (made_request task left) (all_made task left) trail
+  pub found : (decided : Decided) (trail : Trail) → HasDecided task prepared decided → decided.verdict ≡ Sat trail → IsSolution (made_request task left) (all_made task left) trail
   found decided trail has e =
       let V : Verdict → Type 0 = λ v. IsDecided (made_request task left) (all_made task left) (made_core task left) v in
       subst V e has.decided_so

@@ -10,7 +10,7 @@ use Rattle.solv_questions.specs.Questions.{Request, request_of, asks}
 use Rattle.solv_decide.specs.Inner.Deciding.{IsAskedFor, IsDecided}
 use Rattle.solv_decide.proofs.Whole.{asked_for, owners_fit, length_read}
 use Rattle.solv_rules.proofs.InRange.{clauses_over}
-use Rattle.solv_decide.proofs.deciding.decide_with.Goals as goal
+use Rattle.solv_decide.proofs.deciding.decide.Goals as goal
 
 is_asked : (c : goal.After-ledger-1) → IsAskedFor (request_of c.args.task.now c.args.marks.now) c.in_ok-phases.phases c.in_ok-core.core.made
 is_asked c =
