@@ -2,22 +2,25 @@
 """Tells whether the upgrade from one release to the next goes through, and what it changes.
 
     tools/upgrade.py OLD NEW .. [--beside OTHER ..] [--set WORD,WORD,..] .. [--groups COMPS] [--job JOB] .. [--script FILE]
-                     [--locale LOCALE ..] [--modalias FILE] [--filesystem NAME ..]
+                     [--as-now] [--locale LOCALE ..] [--modalias FILE] [--filesystem NAME ..]
 
 OLD, each OTHER, which belongs to the old release too, and each NEW are repositories in testtags format, as rpmmd_to_testtags.py
-makes them. Each --set is an installation: what testsolv installs from the old release for its words, which are names of
+makes them. Where there are several of one release, a later one is newer and has a higher priority, so the updates stand behind
+the release. Each --set is an installation: what testsolv installs from the old release for its words, which are names of
 packages, or else what some package provides, or groups as @core of COMPS, a file as repodata has it (their mandatory and
 default packages, or the groups of an environment). Without a set all packages of the old release are what is installed, as
 rpmdb_to_testtags.py tells it of a machine; those of another architecture, as source packages, are left out, which is told on
 the error stream. So is told where a repository may lack files, since the converter did not know of another one (--with).
 
-Each JOB is a further job of the upgrade, as "multiversion name kernel", "lock name vim" or "allowuninstall all packages".
+Each JOB is a further job of the upgrade, as "lock name vim" or "allowuninstall all packages". For "multiversion name kernel"
+the newest kernel of the NEWs is asked for too, where one is installed, since no upgrade brings it: the old ones stay beside it.
 With --locale, --modalias and --filesystem what a machine has besides packages may call for some. What it would call for
-whatever is done, since nothing of it changes, is kept out where there is an answer without it.
+whatever is done, since nothing of it changes, is kept out where there is an answer without it. With --as-now so is all that the
+packages which stay call for (=Sup:), as libsolv does.
 
 For each set testsolv is asked for a distribution upgrade to the packages of NEW, and it is told what goes, what another package
-obsoletes, what goes back to a lower version, what changes its architecture or vendor, and what stays though no NEW has it; or
-the problems with the ways out of each. With --script the script is written as one text, for `testsolv --proof` and picture.py;
+obsoletes, what goes back to a lower version, what changes its architecture or vendor, what comes beside another version, and what
+stays though no NEW has it, or since it is installed twice; or the problems with the ways out of each. With --script the script is written as one text, for `testsolv --proof` and picture.py;
 from the second set on its number stands in the name too, as upgrade-2.t.
 """
 import collections
@@ -86,9 +89,9 @@ def in_the_way(answer):
 
 
 def answer_without_more(given, folder, repositories, head, jobs, installed=()):
-    """The answer and its jobs, which lock what the machine calls for whatever is done, but for what is needed all the same."""
+    """The answer and its jobs, which lock what would be called for whatever is done, but for what is needed all the same."""
     answer, locked, needed = answer_of(given, folder, head + given.namespaces, jobs), set(), {package.name for package, _ in installed}
-    while given.namespaces and not rounds.problems(answer):
+    while (given.namespaces or given.as_now and installed) and not rounds.problems(answer):
         words = {word for line in answer for word in line.split()[1:]}
         stays = [one for one in installed if rounds.package_text(one[0], SYSTEM) not in words]
         comes = [one for name, path in repositories.items() for one in testtags.packages(path) if rounds.package_text(one[0], name) in words]
@@ -115,25 +118,34 @@ def tell_problems(what, answer):
 class Upgrade:
     """An upgrade that goes through: its changes by their kind, and what stays."""
 
-    def __init__(self, answer, installed, new):
-        self.installed, self.new = installed, new
-        self.packages, self.told = collections.defaultdict(set), collections.defaultdict(list)
+    def __init__(self, answer, installed, new, multiversion=()):
+        self.installed, self.new, self.multiversion = installed, new, multiversion
+        self.packages, self.told, self.in_place_of = collections.defaultdict(set), collections.defaultdict(list), collections.defaultdict(list)
         for line in answer:
             kind, *packages = line.split()
             self.packages[kind].add(packages[0])
             self.change(kind, *packages)
-        same = {package[:3] for package in new.values()}
+        for text, olds in self.in_place_of.items():
+            if len(olds) > 1:
+                self.told["comes in place of several of its name"].append(f"{text} of {', '.join(olds)}")
+        same, names = {package[:3] for package in new.values()}, {package.name for package in new.values()}
+        times = collections.Counter(package.name for package in installed.values())
         self.stays = installed.keys() - set().union(*self.packages.values())
         for text in sorted(self.stays):
+            name = installed[text].name
+            is_twice = times[name] > 1 and name in names and name not in multiversion
             if installed[text][:3] not in same:
-                self.told["stays, and no new repository has it"].append(text)
+                self.told["stays, and is installed more than once" if is_twice else "stays, and no new repository has it"].append(text)
 
     def change(self, kind, package, other=None):
         if kind == "erase":
             self.told["goes"].append(package)
         elif kind == "obsolete":
             self.told["goes, since another package obsoletes it"].append(f"{package} by {other}")
+        elif kind == "install" and self.new[package].name in self.multiversion:
+            self.told["comes beside another version"].append(package)
         elif kind in CHANGES:
+            self.in_place_of[other].append(package)
             old, new = self.installed[package], self.new[other]
             if kind == "downgrade":
                 self.told["goes back to a lower version"].append(f"{package} to {other}")
@@ -158,10 +170,20 @@ def write_script(given, folder, number, head, jobs):
             place.write_text(rounds.run(given.program, "--write", name)[0], **testtags.UTF)
 
 
+def of_several_versions(given, installed, new):
+    """The selections of the jobs for names of which several versions may be there, where one is installed and a NEW has another."""
+    names = {package.name for package, _ in installed} & {package.name for package in new.values()}
+    jobs = [job.split(None, 2) for job in given.jobs]
+    return [words[2] for words in jobs if words[:2] == ["multiversion", "name"] and words[2].split()[0] in names]
+
+
 def upgrade(given, folder, number, installed, news):
     """Asks for the upgrade of what is installed, tells of it, and whether it goes through."""
-    head = rounds.head([folder / f"{SYSTEM}.repo", *news.values()], [SYSTEM, *news], given.arch, SYSTEM)
-    jobs = "".join(f"job {job}\n" for job in ["distupgrade all packages", *given.jobs])
+    head = rounds.head([folder / f"{SYSTEM}.repo", *news.values()], [SYSTEM, *news], given.arch, SYSTEM, [0, *range(len(news))])
+    new = {rounds.package_text(package, name): package for name, path in news.items() for package, _ in testtags.packages(path)}
+    several = of_several_versions(given, installed, new)
+    newest = [f"install name {selection} [forcebest]" for selection in several]
+    jobs = "".join(f"job {job}\n" for job in ["distupgrade all packages", *given.jobs, *newest])
     write_script(given, folder, number, head, jobs)
     answer, asked = answer_without_more(given, folder, news, head, jobs, installed)
     if asked != jobs:
@@ -169,8 +191,7 @@ def upgrade(given, folder, number, installed, news):
     if rounds.problems(answer):
         tell_problems("it does not go through", answer)
         return False
-    new = {rounds.package_text(package, name): package for name, path in news.items() for package, _ in testtags.packages(path)}
-    Upgrade(answer, {rounds.package_text(package, SYSTEM): package for package, _ in installed}, new).tell()
+    Upgrade(answer, {rounds.package_text(package, SYSTEM): package for package, _ in installed}, new, {one.split()[0] for one in several}).tell()
     return True
 
 
@@ -178,7 +199,7 @@ def install(given, folder, words, groups, names):
     """The packages that are installed in a set with their lines, or None where it cannot be; they are written as a repository."""
     olds, chosen = dict(zip(rounds.repo_names([given.old, *given.beside]), [given.old, *given.beside])), None
     if words is not None:
-        head = rounds.head(olds.values(), olds, given.arch)
+        head = rounds.head(olds.values(), olds, given.arch, priorities=range(len(olds)))
         answer, _ = answer_without_more(given, folder, olds, head, "".join(jobs_for(words, groups, names)))
         if rounds.problems(answer):
             tell_problems("it cannot be installed from the old release", answer)
@@ -236,6 +257,7 @@ if __name__ == "__main__":
     arguments.add_argument("--set", dest="sets", metavar="WORD,..", action="append")
     arguments.add_argument("--groups", metavar="COMPS", type=pathlib.Path)
     arguments.add_argument("--job", dest="jobs", metavar="JOB", action="append", default=[])
+    arguments.add_argument("--as-now", action="store_true", help="what the packages that stay call for, and is not there, stays out")
     arguments.add_argument("--arch", choices=rounds.ARCHITECTURES, default="x86_64")
     arguments.add_argument("--script", metavar="FILE", type=pathlib.Path)
     arguments.add_argument("--program", type=pathlib.Path, default=rounds.TESTSOLV, help="testsolv, where it is not where it was built")
