@@ -38,6 +38,7 @@ try tools/test_compare_readings.py
 try tools/test_rpmmd_to_testtags.py "$testsolv"
 try tools/test_rpmdb_to_testtags.py "$testsolv"
 try tools/test_installable.py "$testsolv" "$proofcheck"
+try tools/test_installable_pages.py "$testsolv" "$proofcheck"
 try tools/test_upgrade.py "$testsolv"
 try tools/test_differences.py "$testsolv"
 try tools/test_picture.py "$testsolv"
