@@ -237,10 +237,11 @@ class Graph:
         return into
 
     def roots(self):
-        """Where the problem is told from: the package itself, or the jobs, and what is to be kept."""
+        """Where the problem is told from: the package itself, or the jobs, and what is to be kept; first what nothing leads to."""
+        ends = {end for _, end, *_ in self.edges}
         order = [self.itself] if self.itself in self.nodes else []
         for kinds in (("job",), ("kept",), picture.STYLES):
-            order += [node for node, (kind, _) in self.nodes.items() if kind in kinds and kind != "way"]
+            order += sorted((node for node, (kind, _) in self.nodes.items() if kind in kinds and kind != "way"), key=lambda node: node in ends)
         return list(dict.fromkeys(order))
 
 

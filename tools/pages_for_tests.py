@@ -8,7 +8,7 @@ import browser
 from rpms_for_tests import same
 
 VOID = {"meta", "link", "input", "br"}
-TAGS = VOID | set("""html head title body a main footer nav ol ul li p h1 h2 h3 h4 h5 span strong b i form label div noscript section
+TAGS = VOID | set("""html head title body a main footer nav ol ul li p h1 h2 h3 h4 h5 span strong b i form label div noscript section code
     table caption thead tbody tr th td dl dt dd pre details summary script svg g polygon path text""".split()) | {"polyline", "ellipse"}
 # the width and height of a desk's window and of a phone's
 WINDOWS = {"desk": (1280, 900), "phone": (360, 740)}

@@ -227,8 +227,8 @@ def main():
         same("status and errors of two sets", (status, errors), (1, ""))
         same("docs/MAINTAINERS.md has what is told of two sets", WEB in told and told in PAGE, True)
         status, told, errors = run(program, OLD, NEW, "--set", "stunnel")
-        same("a set that cannot be installed", (status, told.splitlines()[:2], errors),
-             (1, ["  it cannot be installed from the old release: 1 problem", "  problem 1:"], ""))
+        same("a set that cannot be installed", (status, told.splitlines()[:3], errors),
+             (1, ["set 1, stunnel", "  it cannot be installed from the old release: 1 problem", "  problem 1:"], ""))
         status, told, errors = run(program, OLD, NEW, "--set", "charts", "--job", "allowuninstall name charts")
         same("a further job", (status, told.splitlines()[1:], errors), (0, [
             "  it goes through: 1 upgraded, 0 new, 1 gone, 0 as they are", "  goes: 1", "    charts-4.1-7.fc39.x86_64@system"], ""))
