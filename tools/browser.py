@@ -1,6 +1,10 @@
+#!/usr/bin/env python3
 """Drives headless Chromium for the tests of pages, by its own protocol over two pipes; it needs nothing but the browser.
 
-Messages are texts of JSON that a byte 0 ends: Chromium reads them from its descriptor 3 and writes to 4.
+    tools/browser.py PAGE FILE.png [WIDTH]
+
+takes a picture of a page, 1000 pixels wide where WIDTH is not given: those of docs/maintainers are made so. Messages are texts of
+JSON that a byte 0 ends: Chromium reads them from its descriptor 3 and writes to 4.
 """
 import base64
 import json
@@ -8,6 +12,8 @@ import os
 import pathlib
 import shutil
 import subprocess
+import sys
+import tempfile
 
 NAMES = ("chromium", "chromium-browser", "google-chrome", "chromium-headless-shell")
 
@@ -24,7 +30,7 @@ class Browser:
         commands, self.write = os.pipe()
         self.read, answers = os.pipe()
         words = [place or program(), "--headless", "--no-sandbox", "--disable-gpu", "--no-first-run", "--remote-debugging-pipe",
-                 "--disable-background-networking", f"--user-data-dir={folder}", "about:blank"]
+                 "--disable-background-networking", "--hide-scrollbars", f"--user-data-dir={folder}", "about:blank"]
         self.process = subprocess.Popen(["sh", "-c", f'exec "$@" 3<&{commands} 4>&{answers}', "sh", *words], pass_fds=(commands, answers),
                                         stdin=subprocess.DEVNULL, stdout=subprocess.DEVNULL, stderr=subprocess.DEVNULL)
         os.close(commands)
@@ -122,3 +128,17 @@ class Browser:
 
     def dark(self, is_dark):
         self.call("Emulation.setEmulatedMedia", features=[{"name": "prefers-color-scheme", "value": "dark" if is_dark else "light"}])
+
+
+def main():
+    if len(sys.argv) not in (3, 4) or not program():
+        sys.exit(__doc__ if program() else "there is no Chromium (Debian: chromium)")
+    page, picture, width = *sys.argv[1:3], int(sys.argv[3]) if len(sys.argv) == 4 else 1000
+    with tempfile.TemporaryDirectory() as profile, Browser(profile) as one:
+        one.size(width, width)
+        one.open(page)
+        one.picture(picture, whole=False)
+
+
+if __name__ == "__main__":
+    main()

@@ -3,6 +3,7 @@ import collections
 import pathlib
 
 import rounds
+from scripts import Script
 from testtags import UTF
 
 # so many choices are asked for in one script
@@ -11,20 +12,13 @@ TOGETHER = 50
 
 def provides_of(program, script, wanted, names):
     """What those packages of a script provide whose texts are wanted, or that provide one of the names."""
-    found, repo, package, lines = {}, None, None, []
-    for line in rounds.run(program, "--write", script)[0].split("\n"):
-        if line.startswith(("#>=Prv: ", "#>=Fls: ")):
-            lines.append(line[8:])
-        if line.startswith("#>=Pkg: ") or not line.startswith("#>"):
-            if lines and (package in wanted or any(one.split()[0] in names for one in lines)):
-                found.setdefault(package, lines)
-            lines = []
-        if line.startswith("repo "):
-            repo = line.split()[1]
-        elif line.startswith("#>=Pkg: "):
-            name, version, release, arch = line.split()[1:]
-            evr = version if release == "-" else f"{version}-{release}"
-            package, lines = f"{name}-{evr}.{arch}@{repo}", [f"{name} = {evr}"]
+    found = {}
+    for package in Script(rounds.run(program, "--write", script)[0]).packages:
+        _, name, version, release, _ = package.heading.split()
+        provided = [f"{name} = {version}" + (f"-{release}" if release != "-" else "")]
+        provided += [line[6:] for line in package.lines if line.startswith(("=Prv: ", "=Fls: "))]
+        if package.text in wanted or any(one.split()[0] in names for one in provided):
+            found.setdefault(package.text, provided)
     return found
 
 
