@@ -1,5 +1,5 @@
 #!/usr/bin/env python3
-"""Tries the scripts of docs/differences/: their answers here and by libsolv's testsolv, and the tables of docs/DIFFERENCES.md.
+"""Tries the scripts of examples/differences/: their answers here and by libsolv's testsolv, and the tables of docs/DIFFERENCES.md.
 
     tools/test_differences.py [TESTSOLV]
 
@@ -14,7 +14,7 @@ import sys
 from rounds import TESTSOLV, rounds_of
 from rpms_for_tests import same
 
-DOCS = pathlib.Path(__file__).resolve().parent.parent / "docs"
+TOP = pathlib.Path(__file__).resolve().parent.parent
 LIBSOLVS = pathlib.Path("/usr/bin/testsolv")
 NONE, PROBLEM = ["nothing"], ["a problem"]
 
@@ -42,16 +42,17 @@ def row(jobs, here, theirs):
 def by_libsolv(path):
     """libsolv's answers to the rounds of a script."""
     text = subprocess.run([LIBSOLVS, "-r", path], capture_output=True, text=True).stdout
-    return [told(lines) for lines in rounds_of(re.sub(r"^test \d+:\n", "", re.sub(r"(?!\A)^test \d+:$", "nextjob", text, flags=re.MULTILINE), flags=re.MULTILINE))]
+    # (it numbers the rounds where there are several)
+    return [told(lines) for lines in rounds_of(re.sub(r"^test \d+:$", "nextjob", text.removeprefix("test 1:\n"), flags=re.MULTILINE))]
 
 
 def main():
     program = pathlib.Path(sys.argv[1]) if len(sys.argv) > 1 else TESTSOLV
-    page, scripts = (DOCS / "DIFFERENCES.md").read_text(), sorted((DOCS / "differences").glob("*.t"))
+    page, scripts = (TOP / "docs" / "DIFFERENCES.md").read_text(), sorted((TOP / "examples" / "differences").glob("*.t"))
     for path in scripts:
         rounds = list(expected(path))
         same(f"{path.name} on the page", [row(*one) for one in rounds if row(*one) not in page], [])
-        same(f"{path.name}, a link", f"(differences/{path.name})" in page, True)
+        same(f"{path.name}, a link", f"(../examples/differences/{path.name})" in page, True)
         if LIBSOLVS.is_file():
             same(f"{path.name} by libsolv", by_libsolv(path), [theirs for _, _, theirs in rounds])
         if program.is_file():

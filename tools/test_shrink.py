@@ -45,7 +45,7 @@ system x86_64 rpm system
 job install pkg nano-7.2-1.fc39.x86_64@fedora
 """))
 
-# flags, a kind of lines, a namespace, a job that chooses, and a disabled package, all of which the line depends on
+# a kind of lines, a disabled package, a job that chooses, and a namespace, on each of which a line depends; and what does not matter
 ODD = """\
 repo system 0 testtags <inline>
 #>=Pkg: old 1 1 noarch
@@ -53,31 +53,38 @@ repo r 0 testtags <inline>
 #>=Pkg: a 1 1 noarch
 #>=Vnd: Some Body
 #>=Pkg: b 1 1 noarch
-#>=Req: namespace:language(de)
 #>=Pkg: c 1 1 noarch
+#>=Sup: namespace:language(de)
 system x86_64 rpm system
 disable pkg a-1-1.noarch@r
-disable pkg c-1-1.noarch@r
 namespace namespace:language(de) @SYSTEM old-1-1.noarch@system
 solverflags allowdowngrade
-job install oneof a-1-1.noarch@r b-1-1.noarch@r c-1-1.noarch@r
+job install oneof a-1-1.noarch@r b-1-1.noarch@r
 job lock name old
 result order,transaction <inline>
 #>install nothing
 nextjob
-job noop
+job install oneof a-1-1.noarch@r
+job install name nosuch
+nextjob
+job erase name old
 """
-ODD_LEFT = ("""\
+ODD_LEFT = (("order 0000001 install b-1-1.noarch@r", """\
 repo r 0 testtags <inline>
 #>=Pkg: b 1 1 noarch
 job install oneof b-1-1.noarch@r
-result order,transaction <inline>
-""", """\
+result transaction,order <inline>
+"""), ("package a-1-1.noarch@r is not installable", """\
 repo r 0 testtags <inline>
 #>=Pkg: a 1 1 noarch
 disable pkg a-1-1.noarch@r
 job install oneof a-1-1.noarch@r
-""")
+"""), ("install c-1-1.noarch@r", """\
+repo r 0 testtags <inline>
+#>=Pkg: c 1 1 noarch
+#>=Sup: namespace:language(de)
+namespace namespace:language(de) @SYSTEM
+"""))
 
 
 def run(program, *words):
@@ -102,11 +109,9 @@ def main():
     with tempfile.TemporaryDirectory() as name:
         script, output = pathlib.Path(name, "odd.t"), pathlib.Path(name, "small.t")
         script.write_text(ODD)
-        same("a kind of lines that only some rounds have", run(program, script, "order install b-1-1.noarch@r")[:2], (0, ODD_LEFT[0]))
-        script.write_text(ODD.replace("job lock", "job install name c\njob lock").replace("order,transaction", "problems"))
-        same("a disabled package", run(program, script, "package a-1-1.noarch@r is not installable")[0], 2)
-        script.write_text(ODD.replace("#>=Pkg: b", "#>=Pkg: d").replace(" b-1-1.noarch@r", "").replace("order,transaction", "problems"))
-        same("disabled packages", run(program, script, "problem 1 info package a-1-1.noarch@r is not installable")[:2], (0, ODD_LEFT[1]))
+        for line, left in ODD_LEFT:
+            same(f"what a line depends on, {line}", run(program, script, line)[:2], (0, left))
+        same("in the round that is named", run(program, script, "install c-1-1.noarch@r", "--round", "3")[:2], (0, ODD_LEFT[2][1]))
         many = "repo r 0 testtags <inline>\n" + noise(random.Random(1), 400) + (EXAMPLES / "problem.t").read_text()
         script.write_text(many.replace("job erase", "job install name noise7\njob erase"))
         status, told, errors = run(program, script, REQUIRES, "--output", output)
@@ -116,7 +121,7 @@ def main():
         same("what is small stays as it is", again[1], output.read_text())
         same("a line that is not there", run(program, script, "install nothing")[::2], (2, f"{script}: no round prints install nothing\n"))
         same("a round that is not there", run(program, script, REQUIRES, "--round", "2")[::2], (2, f"{script}: it has no round 2\n"))
-        script.write_text("job frobnicate\n")
+        script.write_text("job frobnicate name lib\n")
         same("a script that is not read", run(program, script, "x")[::2], (2, f"testsolv: {script}:1: UnknownJob\n"))
         lost = pathlib.Path(name, "no", "such")
         same("a place that is not there", run("nosuch", script, "x", "--output", lost)[::2],
