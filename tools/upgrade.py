@@ -202,11 +202,10 @@ def of_several_versions(given, installed, new):
     return [words[2] for words in jobs if words[:2] == ["multiversion", "name"] and words[2].split()[0] in names]
 
 
-def upgrade(given, folder, number, outcome, news):
-    """Asks for the upgrade of what is installed, and notes whether it goes through."""
+def upgrade(given, folder, number, outcome, news, new):
+    """Asks for the upgrade of what is installed to the new packages, and notes whether it goes through."""
     installed = outcome.installed
     head = rounds.head([folder / f"{SYSTEM}.repo", *news.values()], [SYSTEM, *news], given.arch, SYSTEM, [0, *range(len(news))])
-    new = {rounds.package_text(package, name): package for name, path in news.items() for package, _ in testtags.packages(path)}
     several = of_several_versions(given, installed, new)
     newest = [f"install name {selection} [forcebest]" for selection in several]
     jobs = "".join(f"job {job}\n" for job in ["distupgrade all packages", *given.jobs, *newest])
@@ -262,6 +261,7 @@ def main(given):
     names = {package.name for path in [given.old, *given.beside] for package, _ in testtags.packages(path)}
     news = dict(zip(rounds.repo_names([pathlib.Path(SYSTEM), *given.new])[1:], given.new))
     testtags.tell_made_without(paths)
+    new = {rounds.package_text(package, name): package for name, path in news.items() for package, _ in testtags.packages(path)}
     outcomes = []
     with tempfile.TemporaryDirectory() as name:
         folder = pathlib.Path(name)
@@ -271,7 +271,7 @@ def main(given):
             outcomes.append(outcome)
             install(given, folder, outcome, words.split(",") if words else None, groups, names)
             if not outcome.problems:
-                upgrade(given, folder, number, outcome, news)
+                upgrade(given, folder, number, outcome, news, new)
             outcome.tell(number)
     if given.html:
         upgrade_pages.write(given, outcomes, news, earlier)
