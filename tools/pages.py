@@ -127,7 +127,10 @@ def add_options(arguments):
 def read_state(given, tool):
     """What an earlier run of the tool found, or None; it fails where pages cannot be written, before anything is asked."""
     if given.html:
-        testtags.expect_writable(given.html / "index.html" if given.html.is_dir() else given.html)
+        if given.html.exists() and not given.html.is_dir():
+            raise testtags.Fault(f"{given.html}: it is no folder")
+        if not os.access(given.html.resolve().parent, os.W_OK):
+            raise testtags.Fault(f"{given.html}: it cannot be written, since its folder is not there, or may not be written")
         if given.html.is_dir() and any(given.html.iterdir()) and not (given.html / STATE).is_file():
             raise testtags.Fault(f"{given.html}: it is there, and has no {STATE} of an earlier run: name another folder")
         if not shutil.which("dot"):
@@ -138,6 +141,9 @@ def read_state(given, tool):
         return None
     if not given.html:
         raise testtags.Fault("--since wants --html FOLDER, where what changed is told")
+    if not given.since.exists() and given.since.resolve() == given.html.resolve():
+        print(f"{given.since}: there are no pages of an earlier run yet, so nothing is compared", file=sys.stderr)
+        return None
     file = given.since / STATE
     try:
         state = json.loads(gzip.decompress(file.read_bytes()))

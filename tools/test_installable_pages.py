@@ -116,7 +116,8 @@ def try_since(programs, folder):
     yesterday = "".join(OLDER if part.startswith("=Pkg: sendmail ") else part for part in parts) + GONE
     place, then = folder / "since", "2026-11-30"
     path.write_text(yesterday)
-    same("yesterday all is well", run(programs, path, "--html", place, "--date", then)[0], 0)
+    same("yesterday all is well", run(programs, path, "--html", place, "--since", place, "--date", then)[::2],
+         (0, f"{place}: there are no pages of an earlier run yet, so nothing is compared\n"))
     path.write_text(today)
     run(programs, path, "--html", place, "--since", place, "--date", "2026-12-01")
     page = (place / "index.html").read_text()
@@ -151,6 +152,7 @@ def try_faults(programs, folder):
     (other / "mine.txt").write_text("of somebody else")
     for words, fault in ((["--html", other], f"{other}: it is there, and has no state.json.gz of an earlier run: name another folder"),
                          (["--html", folder / "no" / "such"], f"{folder}/no/such: it cannot be written, since its folder is not there, or may not be written"),
+                         (["--html", COMPOSE], f"{COMPOSE}: it is no folder"),
                          (["--since", other], "--since wants --html FOLDER, where what changed is told"),
                          (["--html", folder / "new", "--since", other], f"{other}: it has no state.json.gz of an earlier run"),
                          (["--html", folder / "new", "--proof", folder / "new" / "proof"],
