@@ -303,8 +303,7 @@ class Pages:
 
     def lines(self, lines):
         """The lines of a problem as testsolv tells them; many are folded."""
-        told = listed(map(esc, lines), kind="lines")
-        return told if len(lines) <= OPEN else f"<details><summary>{len(lines)} lines</summary>{told}</details>\n"
+        return folded("lines", [*map(esc, lines)], "lines")
 
     def sources(self):
         """The table of the repositories."""
@@ -396,18 +395,24 @@ class Pages:
         # (Graphviz reads the entities of HTML itself, and a quote is a quote there)
         quoted = lambda *lines: '"' + "\\n".join(esc(line).replace("\\", "\\\\") for line in lines) + '"'
         ids, cut = {node: f"n{n}" for n, node in enumerate(graph.nodes)}, lambda words: words if len(words) < 60 else f"{words[:57]}…"
+        few = lambda items: items[:SAME] + ([f"and {len(items) - SAME} more"] if len(items) > SAME else [])
         shown = lambda text: cut(self.repositories.short.get(text, text) if text.endswith(f"@{self.home}") else text)
         lines = []
         for node, (kind, notes) in graph.nodes.items():
-            texts = graph.texts[node]
-            told = [shown(one) for one in texts[:SAME]] + ([f"and {len(texts) - SAME} more"] if len(texts) > SAME else [])
+            told = few([shown(one) for one in graph.texts[node]]) + few([*map(cut, notes)])
             shape = {"wanted": "plaintext", "way": "note"}.get(kind, "box")
-            lines.append(f'{ids[node]} [label={quoted(*told, *map(cut, notes))}, class="{"this" if node == graph.itself else kind}", shape={shape}]\n')
+            lines.append(f'{ids[node]} [label={quoted(*told)}, class="{"this" if node == graph.itself else kind}", shape={shape}]\n')
         for start, end, words, style in graph.edges:
             kind = "bad" if picture.CLASH in style else "faint" if "style=" in style else "plain"
             ends = ", dir=none" if "dir=none" in style or "arrowhead=none" in style else ""
             lines.append(f"{ids[start]} -> {ids[end]} [label={quoted(f' {cut(words)} ')}, class={kind}{ends}]\n")
         return DOT.format("".join(lines))
+
+
+def folded(what, items, kind="", most=OPEN):
+    """A list of items, which is folded where they are many."""
+    told = listed(items, kind=kind)
+    return told if len(items) <= most else f"<details><summary>{len(items):,} {what}</summary>{told}</details>\n"
 
 
 def listed(items, count=None, kind=""):

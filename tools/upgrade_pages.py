@@ -5,7 +5,7 @@ import pages
 import picture
 import rounds
 import testtags
-from pages import counted, esc, listed
+from pages import counted, esc, folded, listed
 from since import Since, kept_lines
 
 SYSTEM = "system"
@@ -81,20 +81,18 @@ class UpgradePages(pages.Pages):
         for what, lines in sorted(upgrade.told.items()):
             head = f'<h2>{esc(what[0].upper() + what[1:])} <span class="count">{len(lines):,}</span></h2>\n'
             body.append(head + self.some([self.plain(line) for line in lines]))
-        return "".join(body) + f"<h2>All changes</h2>\n{self.folded('changes', upgrade.lines)}"
+        changes = folded("changes", [*map(esc, upgrade.lines)], "lines", most=0) if upgrade.lines else "<p>None.</p>\n"
+        return "".join(body) + f"<h2>All changes</h2>\n{changes}"
 
     def some(self, items):
         """A list, of which what is much is folded."""
         rest = f"<details><summary>and {len(items) - MOST:,} more</summary>{listed(items[MOST:], kind='packages')}</details>\n" if len(items) > MOST else ""
         return listed(items[:MOST], kind="packages") + rest
 
-    def folded(self, what, lines):
-        return f"<details><summary>{len(lines):,} {what}</summary>{listed(map(esc, lines), kind='lines')}</details>\n" if lines else "<p>None.</p>\n"
-
     def problem(self, outcome, place, problem):
         graph = pages.Graph(picture.Picture(problem, outcome.names, outcome.met, pages.MEETING))
         drawing = self.drawing(graph, f"Problem {place}; the tree below says the same in words")
-        ways = [f"way out {number}" + (f": {self.plain(lines[0])}" if len(lines) == 1 else listed(map(self.plain, lines)))
+        ways = [f"way out {number}: " + (self.plain(lines[0]) if len(lines) == 1 else folded("changes", [*map(self.plain, lines)]))
                 for number, lines in problem.solutions.items()]
         return (f'<h2 id="problem-{place}">Problem {place}</h2>\n{drawing}{self.tree(graph, "../")}<h3>Ways out</h3>\n{listed(ways)}'
                 f'<p class="note">Each of them has a set that meets all else: proved.</p>\n<h3>The lines of the problem</h3>\n{self.lines(problem.info)}')
