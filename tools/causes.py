@@ -63,4 +63,7 @@ def mending(lines):
 
 
 def some(packages):
-    return [packages[0]] if len(packages) == 1 else [*packages[:2], f"and {len(packages) - 2} more"] if len(packages) > 2 else [packages[0], "and", packages[1]]
+    """The first two packages, and how many more there are."""
+    if len(packages) == 1:
+        return packages
+    return [packages[0], "and", packages[1]] if len(packages) == 2 else [f"{packages[0]},", packages[1], f"and {len(packages) - 2} more"]

@@ -304,12 +304,12 @@ class InstallablePages(pages.Pages):
         left = f" Left out, as of another architecture: {', '.join(left_out)}." if left_out else ""
         proofs = (f'<p>Each failing package has a <a href="proof.txt">proof</a>, of the script <a href="{self.script}">{self.script}</a>. '
                   f"proofcheck has said yes to all {len(self.proofs):,}. It needs no solver and no network.</p>\n" if self.proofs else "")
-        return ('<h2 id="meaning">What was asked, and what is proved</h2>\n<p>For each package: is there a set of packages that has it and meets all '
-                f"rules, with nothing installed before?{only}{beside}{left}</p>\n{self.sources()}{proofs}"
+        return ('<h2 id="meaning">What was asked, and what is proved</h2>\n<p>For each package: is there a set of packages that has it '
+                f"and meets all rules, with nothing installed before?{only}{beside}{left}</p>\n{self.sources()}{proofs}"
                 "<p>That a package fails is proved. That the others can be installed is proved of the sets that testsolv found. "
                 "Causes, ways out, and what changed are put together by the tool, and not proved.</p>\n"
-                f'<p><a href="list.txt">list.txt</a> has all packages that were asked for, <a href="{pages.STATE}">{pages.STATE}</a> what the next run '
-                'compares with.</p>\n<script src="search.js" defer></script>\n')
+                f'<p><a href="list.txt">list.txt</a> has all packages that were asked for, <a href="{pages.STATE}">{pages.STATE}</a> '
+                'what the next run compares with.</p>\n<script src="search.js" defer></script>\n')
 
     # --- what other programs read ---
 

@@ -27,8 +27,8 @@ from dependencies import PLAIN, Reader, Unfit, is_namespace, leaves
 
 HERE = pathlib.Path(__file__).resolve().parent / "page"
 STATE, FORMAT = "state.json.gz", 1
-# so many nodes has a tree of text and a picture at most, so many lines stand open, and for so long a picture is tried
-TREE, DRAWN, OPEN, SECONDS = 120, 40, 12, 20
+# so many nodes has a tree of text at most, so many nodes and edges a picture, and so many lines stand open
+TREE, DRAWN, EDGES, OPEN = 120, 40, 80, 12
 # so many packages are named that have all in common in a problem, and so many packages that meet one requirement are looked at
 SAME, MEETING = 4, 200
 # so many providers of a name are kept for the next run
@@ -119,7 +119,7 @@ def date_of(given, paths):
 def add_options(arguments):
     """Adds the options of pages."""
     arguments.add_argument("--html", metavar="FOLDER", type=pathlib.Path, help="writes pages into this folder, of which index.html is the first")
-    arguments.add_argument("--since", metavar="FOLDER", type=pathlib.Path, help="the pages of an earlier run, also the same folder: what changed is told")
+    arguments.add_argument("--since", metavar="FOLDER", type=pathlib.Path, help="the pages of an earlier run, also the same folder")
     arguments.add_argument("--title", metavar="TEXT", help="the title of the pages")
     arguments.add_argument("--date", metavar="TEXT", help="the date that they tell, in place of that of the newest repository")
 
@@ -378,12 +378,10 @@ class Pages:
 
     def drawing(self, graph, label):
         """A picture by Graphviz, or nothing where it is too large or there is no Graphviz."""
-        if not shutil.which("dot") or not 2 <= len(graph.nodes) <= DRAWN:
+        # (a limit of time would draw it on one day and not on another)
+        if not shutil.which("dot") or not 2 <= len(graph.nodes) <= DRAWN or len(graph.edges) > EDGES:
             return ""
-        try:
-            done = subprocess.run(["dot", "-Tsvg"], input=self.dot(graph), capture_output=True, timeout=SECONDS, **testtags.UTF)
-        except subprocess.TimeoutExpired:
-            return ""
+        done = subprocess.run(["dot", "-Tsvg"], input=self.dot(graph), capture_output=True, **testtags.UTF)
         if done.returncode != 0:
             raise testtags.Fault(f"dot: {done.stderr.strip()}")
         svg = UNWANTED.sub("", done.stdout[done.stdout.index("<svg"):])

@@ -81,7 +81,7 @@ def found(one, text):
     """What the search tells for a text: the first line, and each package with the address of its page, if it has one."""
     one.value('(() => { const field = document.getElementById("search"); field.value = ""; field.focus(); })()')
     one.type(text)
-    for _ in range(50):
+    for _ in range(600):
         if told := one.value('document.querySelector("#found p")?.innerText'):
             break
         time.sleep(0.1)

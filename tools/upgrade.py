@@ -21,8 +21,9 @@ packages which stay call for (=Sup:), as libsolv does.
 
 For each set testsolv is asked for a distribution upgrade to the packages of NEW, and it is told what goes, what another package
 obsoletes, what goes back to a lower version, what changes its architecture or vendor, what comes beside another version, and what
-stays though no NEW has it, or since it is installed twice; or the problems with the ways out of each. With --script the script is written as one text, for `testsolv --proof` and picture.py;
-from the second set on its number stands in the name too, as upgrade-2.t.
+stays though no NEW has it, or since it is installed twice; or the problems with the ways out of each. With --script the script
+is written as one text, for `testsolv --proof` and picture.py; from the second set on its number stands in the name too, as
+upgrade-2.t.
 
 With --html the same is written as pages too, a page for each set. An earlier run's FOLDER is replaced. With --since the pages tell
 which sets no longer go through and which do again since the run that wrote that FOLDER, and which change of the repositories did it.
@@ -134,7 +135,7 @@ class Outcome:
         for place, problem in self.problems.items():
             print(f"  problem {place}:" + "".join(f"\n    {line}" for line in problem.info))
             for way, lines in problem.solutions.items():
-                print(f"    way out {way}: {', '.join(lines)}" if len(lines) < 3 else f"    way out {way}:" + "".join(f"\n      {line}" for line in lines))
+                print(f"    way out {way}:" + (f" {', '.join(lines)}" if len(lines) < 3 else "".join(f"\n      {line}" for line in lines)))
 
 
 class Upgrade:
@@ -178,7 +179,8 @@ class Upgrade:
 
     def counts(self):
         """How many packages are upgraded, new, gone and as they are."""
-        return [len(self.packages["upgrade"]), len(self.packages["install"]), len(self.packages["erase"] | self.packages["obsolete"]), len(self.stays)]
+        gone = self.packages["erase"] | self.packages["obsolete"]
+        return [len(self.packages["upgrade"]), len(self.packages["install"]), len(gone), len(self.stays)]
 
     def tell(self):
         upgraded, new, gone, stay = self.counts()

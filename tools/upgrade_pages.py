@@ -56,8 +56,8 @@ class UpgradePages(pages.Pages):
         outcome = self.outcomes[number]
         installed = f"{counted(len(outcome.installed), 'package')} installed. " if outcome.installed else ""
         told = self.told(outcome)
-        body = [f'<h1><span class="kicker">Set {number}</span> {esc(outcome.words)}</h1>\n<p class="lead">{installed}{esc(told[0].upper() + told[1:])}.</p>\n',
-                self.changed(number)]
+        body = [f'<h1><span class="kicker">Set {number}</span> {esc(outcome.words)}</h1>\n',
+                f'<p class="lead">{installed}{esc(told[0].upper() + told[1:])}.</p>\n', self.changed(number)]
         if outcome.upgrade:
             body.append(self.upgrade(outcome.upgrade))
         body += [self.problem(outcome, place, problem) for place, problem in outcome.problems.items()]
@@ -86,8 +86,8 @@ class UpgradePages(pages.Pages):
 
     def some(self, items):
         """A list, of which what is much is folded."""
-        rest = f"<details><summary>and {len(items) - MOST:,} more</summary>{listed(items[MOST:], kind='packages')}</details>\n" if len(items) > MOST else ""
-        return listed(items[:MOST], kind="packages") + rest
+        more = items[MOST:]
+        return listed(items[:MOST], kind="packages") + (folded("more", more, "packages", most=0) if more else "")
 
     def problem(self, outcome, place, problem):
         graph = pages.Graph(picture.Picture(problem, outcome.names, outcome.met, pages.MEETING))
@@ -95,7 +95,8 @@ class UpgradePages(pages.Pages):
         ways = [f"way out {number}: " + (self.plain(lines[0]) if len(lines) == 1 else folded("changes", [*map(self.plain, lines)]))
                 for number, lines in problem.solutions.items()]
         return (f'<h2 id="problem-{place}">Problem {place}</h2>\n{drawing}{self.tree(graph, "../")}<h3>Ways out</h3>\n{listed(ways)}'
-                f'<p class="note">Each of them has a set that meets all else: proved.</p>\n<h3>The lines of the problem</h3>\n{self.lines(problem.info)}')
+                '<p class="note">Each of them has a set that meets all else: proved.</p>\n'
+                f"<h3>The lines of the problem</h3>\n{self.lines(problem.info)}")
 
     # --- the first page ---
 
@@ -148,7 +149,8 @@ class UpgradePages(pages.Pages):
             rows.append(f'<tr><td>{self.set_name(number)}</td><td>{mark}{listed(notable, kind="packages") if notable else ""}</td>{cells}</tr>\n')
         heads = "".join(f'<th scope="col"{kind}>{word}</th>' for word, kind in (
             ("Set", ""), ("What becomes of it", ""), *((word, ' class="number"') for word in ("Upgraded", "New", "Gone", "As they are"))))
-        return f'<table class="sets"><caption>Those that do not go through first</caption>\n<thead><tr>{heads}</tr></thead>\n<tbody>\n{"".join(rows)}</tbody></table>\n'
+        return ('<table class="sets"><caption>Those that do not go through first</caption>\n'
+                f"<thead><tr>{heads}</tr></thead>\n<tbody>\n{''.join(rows)}</tbody></table>\n")
 
     def meaning(self):
         jobs = "".join(f" <code>{esc(job)}</code>" for job in self.given.jobs)
@@ -157,8 +159,8 @@ class UpgradePages(pages.Pages):
                 f"Of each a distribution upgrade to the packages of the new release was asked for.{besides}</p>\n{self.sources()}"
                 "<p>That a set does not go through is proved, and so are its ways out. That another goes through is proved of the set that testsolv "
                 "found, and its changes are those of this set. Counts, and what changed since an earlier run, are put together by the tool, and not "
-                f'proved.</p>\n<p><a href="list.txt">list.txt</a> has all packages that change or stand in a problem, <a href="{pages.STATE}">{pages.STATE}</a> '
-                'what the next run compares with.</p>\n<script src="search.js" defer></script>\n')
+                'proved.</p>\n<p><a href="list.txt">list.txt</a> has all packages that change or stand in a problem, '
+                f'<a href="{pages.STATE}">{pages.STATE}</a> what the next run compares with.</p>\n<script src="search.js" defer></script>\n')
 
     # --- what other programs read ---
 
