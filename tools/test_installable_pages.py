@@ -5,6 +5,7 @@
 
 Without the words it takes the programs where `rt run` builds them. What is seen in a browser is tried where there is Chromium.
 """
+import argparse
 import gzip
 import os
 import pathlib
@@ -16,6 +17,9 @@ import tempfile
 import urllib.parse
 
 import browser
+import installable
+import installable_pages
+import rounds
 from pages_for_tests import bytes_of, faults_of, found, look_at, walk
 from rounds import PROOFCHECK, TESTSOLV
 from rpms_for_tests import same
@@ -38,9 +42,9 @@ BROKE = {"compat-openssl11-1:1.1.1q-3.fc39.x86_64 went": ["stunnel-5.71-1.fc39.x
          "sendmail-8.17.1-9.fc39.x86_64 became sendmail-8.17.2-2.fc39.x86_64": ["mail-tests-0.9-1.fc39.noarch"]}
 
 
-def run(programs, *words):
+def run(programs, *words, **more):
     command = [sys.executable, TOOLS / "installable.py", "--program", programs[0], "--checker", programs[1], *words]
-    done = subprocess.run(command, capture_output=True, text=True, errors="surrogateescape")
+    done = subprocess.run(command, capture_output=True, text=True, errors="surrogateescape", **more)
     return done.returncode, done.stdout, done.stderr
 
 
@@ -76,6 +80,9 @@ def try_folder(programs, folder):
     for jobs in ("1", "3"):
         run(programs, *words, "--proof", folder / "compose.proof", "--jobs", jobs)
         same(f"the same bytes by {jobs} processes, in the place of the earlier ones", bytes_of(folder / "pages") == first, True)
+    errors = run(programs, *words, env={"PATH": str(folder)})[2]
+    same("without Graphviz", (errors, faults_of(folder / "pages"), b"<svg" in (folder / "pages" / "group" / "1.html").read_bytes()),
+         ("there will be no pictures, since there is no program dot: install the package graphviz\n", [], False))
     status, told, _ = run(programs, COMPOSE, "--only", "bash", "nginx", "--html", folder / "pages")
     same("all is well", (status, told.splitlines()[0], faults_of(folder / "pages")), (0, "0 of 2 packages cannot be installed", []))
     same("old pages are gone", (folder / "pages" / "group").exists(), False)
@@ -143,6 +150,20 @@ def try_since(programs, folder):
     path.write_text(today + "=Pkg: late 1 1 noarch\n=Req: nobody\n")
     run(programs, path, "--html", place, "--since", place, "--date", "2026-12-04")
     same("what came and fails", sections((place / "index.html").read_text()).get("Came and cannot be installed: nothing provides nobody"), ["late-1-1.noarch"])
+
+
+def try_spent(programs, folder):
+    """What is not known, since the budget was spent, is told, and is neither broken nor mended the next time."""
+    place, package = folder / "spent", "stunnel-5.71-1.fc39.x86_64@compose"
+    given = argparse.Namespace(repos=[COMPOSE], beside=[], only=[], arch="x86_64", program=programs[0], html=place, since=None, title=None,
+                               date="2026-12-01", proof=None)
+    asked = installable.asked_for(given, ["compose"])
+    found = installable_pages.Found(given, folder, rounds.head([COMPOSE], ["compose"], "x86_64"), [COMPOSE], ["compose"], asked, {}, [package])
+    installable_pages.write(given, found, None)
+    page = (place / "index.html").read_text()
+    same("not known", ("<strong>1</strong> not known" in page, "<li>stunnel-5.71-1.fc39.x86_64</li>" in page, faults_of(place)), (True, True, []))
+    run(programs, COMPOSE, "--html", place, "--since", place, "--date", "2026-12-02")
+    same("what was not known broke not", [names for names in sections((place / "index.html").read_text()).values() if package.split("@")[0] in names], [])
 
 
 def try_faults(programs, folder):
@@ -255,6 +276,7 @@ def main():
         try_folder(programs, folder)
         try_foreign(programs, folder)
         try_since(programs, folder)
+        try_spent(programs, folder)
         try_faults(programs, folder)
         try_size(programs, folder)
         if browser.program():
