@@ -1,5 +1,5 @@
 #!/usr/bin/env python3
-"""Tries the scripts of examples/differences/: their answers here and by libsolv's testsolv, and the tables of docs/DIFFERENCES.md.
+"""Tries the scripts of tools/differences/: their answers here and by libsolv's testsolv, and the tables of docs/DIFFERENCES.md.
 
     tools/test_differences.py [TESTSOLV]
 
@@ -48,11 +48,11 @@ def by_libsolv(path):
 
 def main():
     program = pathlib.Path(sys.argv[1]) if len(sys.argv) > 1 else TESTSOLV
-    page, scripts = (TOP / "docs" / "DIFFERENCES.md").read_text(), sorted((TOP / "examples" / "differences").glob("*.t"))
+    page, scripts = (TOP / "docs" / "DIFFERENCES.md").read_text(), sorted((TOP / "tools" / "differences").glob("*.t"))
     for path in scripts:
         rounds = list(expected(path))
         same(f"{path.name} on the page", [row(*one) for one in rounds if row(*one) not in page], [])
-        same(f"{path.name}, a link", f"(../examples/differences/{path.name})" in page, True)
+        same(f"{path.name}, a link", f"(../tools/differences/{path.name})" in page, True)
         if LIBSOLVS.is_file():
             same(f"{path.name} by libsolv", by_libsolv(path), [theirs for _, _, theirs in rounds])
         if program.is_file():

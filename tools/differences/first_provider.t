@@ -1,4 +1,4 @@
-# Of two providers the one whose own version is lower comes.
+# Of two providers the one that stands first comes.
 repo a 0 testtags <inline>
 #>=Pkg: branding-x 2.16 1 noarch
 #>=Prv: branding = 2.16
