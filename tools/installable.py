@@ -37,6 +37,9 @@ import pages
 import rounds
 import testtags
 
+# so many proofs has one run of testsolv at most
+PROOFS = 500
+
 
 def asked_for(given, names):
     """The texts of the packages that are asked for, each with its package, in their order."""
@@ -69,12 +72,20 @@ def prove(given, folder, head, failing):
 
     def proofs(share, place):
         with rounds.script(folder, head, share) as name:
-            text = rounds.run(given.program, *rounds.BUDGET, "--proof", name)[0]
+            text, status = rounds.run(given.program, *rounds.BUDGET, "--proof", name, statuses=(0, 5))
+        if status == 5:
+            # (the budget is for all rounds of one run)
+            half = len(share) // 2
+            if not half:
+                raise testtags.Fault(f"{given.proof}: the budget was spent over the proof of round {place + 1}")
+            return proofs(share[:half], place) + proofs(share[half:], place + half)
         moved = lambda match: f"problem {int(match[1]) + place}"
         return re.sub(r"^problem (\d+)", moved, text.removeprefix("proof 1\n"), flags=re.MULTILINE)
 
+    # (each run reads the repositories again)
+    size = max(1, min(PROOFS, -(-len(asked) // given.processes)))
     progress = testtags.Progress(f"of {len(asked):,} proofs")
-    given.proof.write_text("proof 1\n" + "".join(rounds.in_shares(proofs, asked, 100, given.processes, progress)))
+    given.proof.write_text("proof 1\n" + "".join(rounds.in_shares(proofs, asked, size, given.processes, progress)))
     checked = rounds.run(given.checker, script, given.proof)[0].splitlines()
     proved = {line.split()[1] for line in checked if line.endswith(": yes")}
     if len(proved) != len(failing) or not all(line.endswith(": yes") for line in checked):

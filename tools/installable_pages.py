@@ -328,7 +328,9 @@ class InstallablePages(pages.Pages):
         with open(proof, "rb") as file:
             text = file.read()
         starts = [(match.start(), int(match[1])) for match in re.finditer(rb"^problem (\d+) ", text, re.MULTILINE)]
-        places = {number: (number, start, end - start) for (start, number), (end, _) in zip(starts, starts[1:] + [(len(text), 0)])}
+        places = {}
+        for (start, number), (end, _) in zip(starts, starts[1:] + [(len(text), 0)]):
+            places.setdefault(number, (number, start, end - start))
         self.proofs = {one: places[number] for number, one in enumerate(self.found.failing, 1)}
         self.script = "proof.t" if os.path.getsize(f"{proof}.t") <= PACK else "proof.t.gz"
         with open(f"{proof}.t", "rb") as plain, open(self.folder / self.script, "wb") as file:
