@@ -7,6 +7,8 @@ COVER = "all-that-can-be-installed-together"
 SHARE, GAIN = 8000, 40
 # so many packages are asked for in one round, at most
 TOGETHER = 250
+# to read the repositories takes as long as so many rounds of packages together, and of packages alone (measured at 56 MB)
+SHARES, ALONE = 10, 64
 
 
 def covered(given, folder, head, shares, jobs, progress):
@@ -62,7 +64,7 @@ def together(given, folder, head, rest):
     asked = [f"solverflags noinfarchcheck\n{all_of_share}result problems <inline>\n" for all_of_share in jobs]
     failing, unknown = {}, set()
     progress = testtags.Progress(f"of {count} shares asked for together")
-    for share, answer in zip(shares, rounds.answered(given.program, folder, head, asked, given.processes, progress)):
+    for share, answer in zip(shares, rounds.answered(given.program, folder, head, asked, given.processes, progress, SHARES)):
         if answer is None:
             unknown.update(share)
         for problem in rounds.problems(answer or ()).values():
@@ -79,7 +81,7 @@ def together(given, folder, head, rest):
 def one_by_one(given, folder, head, unknown):
     """The packages that cannot be installed when each is asked for alone, and those over which the budget is spent."""
     progress = testtags.Progress(f"of {len(unknown):,} packages asked for alone")
-    found = rounds.answered(given.program, folder, head, rounds_for(unknown), given.processes, progress)
+    found = rounds.answered(given.program, folder, head, rounds_for(unknown), given.processes, progress, ALONE)
     failing = {text: lines_of(rounds.problems(answer)[1]) for text, answer in zip(unknown, found) if answer}
     return failing, [text for text, answer in zip(unknown, found) if answer is None]
 

@@ -1,6 +1,7 @@
 """What the tests of pages look at: that a folder of pages is whole, and how it looks and behaves in a browser."""
 import html.parser
 import pathlib
+import shutil
 import time
 import urllib.parse
 
@@ -10,6 +11,9 @@ from rpms_for_tests import same
 VOID = {"meta", "link", "input", "br"}
 TAGS = VOID | set("""html head title body a main footer nav ol ul li p h1 h2 h3 h4 h5 span strong b i form label div noscript section code
     table caption thead tbody tr th td dl dt dd pre details summary script svg g polygon path text""".split()) | {"polyline", "ellipse"}
+# what is told where there is no Graphviz
+NO_PICTURES = "there will be no pictures, since there is no program dot: install the package graphviz\n"
+TOLD = "" if shutil.which("dot") else NO_PICTURES
 # the width and height of a desk's window and of a phone's
 WINDOWS = {"desk": (1280, 900), "phone": (360, 740)}
 # what may be wider than a phone, since it scrolls by itself

@@ -121,10 +121,13 @@ def in_shares(work, rounds, size, processes, progress):
     progress.end()
 
 
-def answered(program, folder, script_head, rounds, processes, progress):
-    """The answers of the rounds by so many processes at a time, each with a share of them, and another one when that is done."""
+def answered(program, folder, script_head, rounds, processes, progress, least=1):
+    """The answers of the rounds by so many processes at a time, each with a share of them, and another one when that is done.
+
+    Each reads the repositories for itself. Where that takes as long as so many rounds, a share has at least these.
+    """
     work = lambda share, place: list(answers(program, folder, script_head, share))
-    size = max(1, min(MOST, -(-len(rounds) // processes)))
+    size = max(least, min(MOST, -(-len(rounds) // processes)))
     return [answer for found in in_shares(work, rounds, size, processes, progress) for answer in found]
 
 

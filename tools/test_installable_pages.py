@@ -20,7 +20,7 @@ import browser
 import installable
 import installable_pages
 import rounds
-from pages_for_tests import bytes_of, faults_of, found, look_at, walk
+from pages_for_tests import NO_PICTURES, TOLD, bytes_of, faults_of, found, look_at, walk
 from rounds import PROOFCHECK, TESTSOLV
 from rpms_for_tests import same
 
@@ -66,7 +66,7 @@ def try_folder(programs, folder):
     """The same bytes of the same input, links that lead somewhere, and the numbers of the text."""
     words = [COMPOSE, "--html", folder / "pages"]
     status, told, errors = run(programs, *words, "--proof", folder / "compose.proof")
-    same("status and errors", (status, errors), (1, ""))
+    same("status and errors", (status, errors), (1, TOLD))
     same("the last line", told.splitlines()[-1], f"pages in {folder}/pages/index.html")
     first = bytes_of(folder / "pages")
     same("faults of the pages", faults_of(folder / "pages"), [])
@@ -82,7 +82,7 @@ def try_folder(programs, folder):
         same(f"the same bytes by {jobs} processes, in the place of the earlier ones", bytes_of(folder / "pages") == first, True)
     errors = run(programs, *words, env={"PATH": str(folder)})[2]
     same("without Graphviz", (errors, faults_of(folder / "pages"), b"<svg" in (folder / "pages" / "group" / "1.html").read_bytes()),
-         ("there will be no pictures, since there is no program dot: install the package graphviz\n", [], False))
+         (NO_PICTURES, [], False))
     status, told, _ = run(programs, COMPOSE, "--only", "bash", "nginx", "--html", folder / "pages")
     same("all is well", (status, told.splitlines()[0], faults_of(folder / "pages")), (0, "0 of 2 packages cannot be installed", []))
     same("old pages are gone", (folder / "pages" / "group").exists(), False)
@@ -93,7 +93,7 @@ def try_foreign(programs, folder):
     path = folder / "foreign.repo"
     path.write_bytes(HOSTILE.encode("utf-8", "surrogateescape"))
     status, told, errors = run(programs, path, "--html", folder / "foreign", "--title", "<script>title</script>")
-    same("foreign texts, status and errors", (status, errors), (1, ""))
+    same("foreign texts, status and errors", (status, errors), (1, TOLD))
     same("foreign texts, faults", faults_of(folder / "foreign"), [])
     same("foreign texts, pages", (len(list((folder / "foreign" / "package").rglob("*.html"))), counts_of(told)[0]), (len(NAMES), len(NAMES)))
     lower = [str(path).lower() for path in (folder / "foreign").rglob("*.html")]
@@ -124,7 +124,7 @@ def try_since(programs, folder):
     place, then = folder / "since", "2026-11-30"
     path.write_text(yesterday)
     same("yesterday all is well", run(programs, path, "--html", place, "--since", place, "--date", then)[::2],
-         (0, f"{place}: there are no pages of an earlier run yet, so nothing is compared\n"))
+         (0, f"{TOLD}{place}: there are no pages of an earlier run yet, so nothing is compared\n"))
     path.write_text(today)
     run(programs, path, "--html", place, "--since", place, "--date", "2026-12-01")
     page = (place / "index.html").read_text()
@@ -183,13 +183,13 @@ def try_faults(programs, folder):
                         ("[]", "it is no state of an earlier run: list indices must be integers or slices, not str"),
                         ('{"format":1,"tool":"upgrade"}', "it is of another tool or format: run once without --since")):
         (other / "state.json.gz").write_bytes(gzip.compress(text.encode()))
-        same(f"a wrong state, {text}", run(none, COMPOSE, "--html", folder / "new", "--since", other)[::2], (2, f"{other}/state.json.gz: {fault}\n"))
+        same(f"a wrong state, {text}", run(none, COMPOSE, "--html", folder / "new", "--since", other)[::2], (2, f"{TOLD}{other}/state.json.gz: {fault}\n"))
     (other / "state.json.gz").write_bytes(b"no file that is packed")
     same("a state that is not packed", run(none, COMPOSE, "--html", folder / "new", "--since", other)[::2],
-         (2, f"{other}/state.json.gz: it is no state of an earlier run: Not a gzipped file (b'no')\n"))
+         (2, f"{TOLD}{other}/state.json.gz: it is no state of an earlier run: Not a gzipped file (b'no')\n"))
     (other / "state.json.gz").write_bytes(gzip.compress(b'{"format":1,"tool":"installable","date":"","packages":{},"providers":{}}'))
     same("a state with a part missing", run(programs, COMPOSE, "--html", folder / "new", "--since", other)[2],
-         f"{other}/state.json.gz: it is no state of an earlier run: 'failing'\n")
+         f"{TOLD}{other}/state.json.gz: it is no state of an earlier run: 'failing'\n")
     same("what is of somebody else is there", ((other / "mine.txt").read_text(), (folder / "new").exists()), ("of somebody else", False))
 
 
@@ -199,7 +199,7 @@ def try_size(programs, folder):
     path.write_text("".join(f"=Pkg: package-number-{n} 1.{n % 7} 1.fc39 noarch\n=Vnd: Vendor {n % 5}\n=Req: library-{n % 300}.so()(64bit)\n" +
                             (f"=Req: package-number-{n - 300}\n" if n >= 300 else "") for n in range(count)))
     status, told, errors = run(programs, path, "--html", folder / "many")
-    same("many packages", (status, counts_of(told)[:2], errors), (1, (count, count), ""))
+    same("many packages", (status, counts_of(told)[:2], errors), (1, (count, count), TOLD))
     files = bytes_of(folder / "many")
     same("a page for each", sum(name.startswith("package/") for name in files), count)
     same("the first page", len(files["index.html"]) < 500_000, True)
@@ -279,6 +279,8 @@ def main():
         try_spent(programs, folder)
         try_faults(programs, folder)
         try_size(programs, folder)
+        if TOLD:
+            print("skipped: pictures, since there is no program dot")
         if browser.program():
             try_browser(programs, folder)
         else:
