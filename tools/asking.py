@@ -1,6 +1,4 @@
 """Asks testsolv which packages can be installed: many at a time first, and then those alone of which that does not tell."""
-import concurrent.futures
-
 import rounds
 import testtags
 
@@ -9,34 +7,37 @@ COVER = "all-that-can-be-installed-together"
 SHARE, GAIN = 8000, 40
 # so many packages are asked for in one round, at most
 TOGETHER = 250
+# to read the repositories takes as long as so many rounds of packages together, and of packages alone (measured at 56 MB)
+SHARES, ALONE = 10, 64
 
 
-def cover(given, folder, head, share, job):
-    """What comes when a package that recommends all of the share is installed, and another job is done."""
-    lines = [f"#>=Pkg: {COVER} 1 1 noarch"] + [f"#>=Rec: {package.name} = {package.evr}" for package in share.values()]
+def covered(given, folder, head, shares, jobs, progress):
+    """What comes when packages that recommend all of a share are installed, each in a round of its own with another job."""
+    lines = []
+    for number, share in enumerate(shares):
+        lines += [f"#>=Pkg: {COVER}-{number} 1 1 noarch"] + [f"#>=Rec: {package.name} = {package.evr}" for package in share.values()]
     lines = head + [f"repo {COVER} 0 testtags <inline>", *lines, "solverflags noinfarchcheck"]
-    answer = next(rounds.answers(given.program, folder, lines, [f"job install name {COVER}\n{job}\n"]))
-    return {line.removeprefix("install ") for line in answer or ()}
+    asked = [f"job install name {COVER}-{number}\n{job}\n" for number, job in enumerate(jobs)]
+    found = rounds.answered(given.program, folder, lines, asked, given.processes, progress)
+    return {line.removeprefix("install ") for answer in found for line in answer or ()}
 
 
 def uncovered(given, folder, head, rest):
     """What is left when packages that recommend shares of the rest are installed, again and again, as long as that helps."""
-    progress, is_first = testtags.Progress("packages can be installed"), True
+    is_first = True
     while rest:
         texts = list(rest)
         # (how many shares there are must not depend on the processes, or the lines of problems would)
         count = -(-len(rest) // SHARE)
         shares = [{text: rest[text] for text in texts[at::count]} for at in range(count)]
-        with concurrent.futures.ThreadPoolExecutor(given.processes) as pool:
-            # (what was passed over before, as another architecture of a name, comes first the next time)
-            job_for = lambda share: "job noop" if is_first else f"job favor oneof {' '.join(share)}"
-            came = set().union(*pool.map(lambda share: cover(given, folder, head, share, job_for(share)), shares))
+        # (what was passed over before, as another architecture of a name, comes first the next time)
+        jobs = ["job noop" if is_first else f"job favor oneof {' '.join(share)}" for share in shares]
+        progress = testtags.Progress(f"of {count} shares of {len(rest):,} packages tried together")
+        came = covered(given, folder, head, shares, jobs, progress)
         left = {text: package for text, package in rest.items() if text not in came}
         gained, rest, is_first = len(rest) - len(left), left, False
-        progress.step(gained)
         if gained < GAIN * count:
             break
-    progress.end()
     return rest
 
 
@@ -63,7 +64,7 @@ def together(given, folder, head, rest):
     asked = [f"solverflags noinfarchcheck\n{all_of_share}result problems <inline>\n" for all_of_share in jobs]
     failing, unknown = {}, set()
     progress = testtags.Progress(f"of {count} shares asked for together")
-    for share, answer in zip(shares, rounds.answered(given.program, folder, head, asked, given.processes, progress)):
+    for share, answer in zip(shares, rounds.answered(given.program, folder, head, asked, given.processes, progress, SHARES)):
         if answer is None:
             unknown.update(share)
         for problem in rounds.problems(answer or ()).values():
@@ -80,7 +81,7 @@ def together(given, folder, head, rest):
 def one_by_one(given, folder, head, unknown):
     """The packages that cannot be installed when each is asked for alone, and those over which the budget is spent."""
     progress = testtags.Progress(f"of {len(unknown):,} packages asked for alone")
-    found = rounds.answered(given.program, folder, head, rounds_for(unknown), given.processes, progress)
+    found = rounds.answered(given.program, folder, head, rounds_for(unknown), given.processes, progress, ALONE)
     failing = {text: lines_of(rounds.problems(answer)[1]) for text, answer in zip(unknown, found) if answer}
     return failing, [text for text, answer in zip(unknown, found) if answer is None]
 

@@ -2,6 +2,7 @@
 """Tells which packages of repositories cannot be installed, and why.
 
     tools/installable.py REPO .. [--beside OTHER ..] [--only NAME ..] [--arch ARCH] [--proof FILE] [--jobs N]
+                         [--html FOLDER] [--since FOLDER] [--title TEXT] [--date TEXT]
                          [--locale LOCALE ..] [--modalias FILE] [--filesystem NAME ..]
 
 Each REPO is a repository in testtags format, as rpmmd_to_testtags.py makes them. A package can be installed where some set of
@@ -16,10 +17,12 @@ rest is asked for together, many in one round, and of whom that does not tell al
 with the lines of their problem, grouped by the cause that most of them share. With --proof the proof of each problem is written
 to FILE, and the script that it is of, with a round for each, to FILE.t, which stands alone; `proofcheck FILE.t FILE` has said
 yes to all.
+
+With --html the same is written as pages too, with a page for each package that cannot be installed; the proofs are copied into
+the FOLDER where they are asked for. An earlier run's FOLDER is replaced. With --since the pages tell what is newly broken and what
+is mended since the run that wrote that FOLDER, which may be the same, and which change of the repositories did it.
 """
 import argparse
-import collections
-import heapq
 import os
 import pathlib
 import re
@@ -27,12 +30,15 @@ import sys
 import tempfile
 
 import asking
+import causes
+import installable_pages
 import machine
+import pages
 import rounds
 import testtags
 
-# lines that say more of a cause come first where as many packages share them
-WEIGHTS = ("nothing provides", "is not installable", "conflicts with", "cannot install both", "obsoletes", "inferior architecture")
+# so many proofs has one run of testsolv at most
+PROOFS = 500
 
 
 def asked_for(given, names):
@@ -57,30 +63,6 @@ def asked_for(given, names):
     return asked
 
 
-def cause_of(line):
-    """What of a line may be shared by most: not who needs what nothing provides."""
-    return re.sub(r"^(nothing provides .*) needed by \S+$", r"\1", line)
-
-
-def groups(failing):
-    """The packages by the cause that most of them share, the greatest group first."""
-    having = collections.defaultdict(list)
-    for text, lines in failing.items():
-        for line in dict.fromkeys(map(cause_of, lines)):
-            having[line].append(text)
-    weight = {line: next((n for n, words in enumerate(WEIGHTS) if words in line), len(WEIGHTS)) for line in having}
-    queue = [(-len(texts), weight[line], line) for line, texts in having.items()]
-    heapq.heapify(queue)
-    rest = dict(failing)
-    while rest:
-        count, _, line = heapq.heappop(queue)
-        group = [text for text in having[line] if text in rest]
-        if len(group) == -count:
-            yield line, {text: rest.pop(text) for text in group}
-        elif group:
-            heapq.heappush(queue, (-len(group), weight[line], line))
-
-
 def prove(given, folder, head, failing):
     """Writes the proofs of what fails, and the script that they are of, and has them checked."""
     asked = asking.rounds_for(failing)
@@ -90,12 +72,20 @@ def prove(given, folder, head, failing):
 
     def proofs(share, place):
         with rounds.script(folder, head, share) as name:
-            text = rounds.run(given.program, *rounds.BUDGET, "--proof", name)[0]
+            text, status = rounds.run(given.program, *rounds.BUDGET, "--proof", name, statuses=(0, 5))
+        if status == 5:
+            # (the budget is for all rounds of one run)
+            half = len(share) // 2
+            if not half:
+                raise testtags.Fault(f"{given.proof}: the budget was spent over the proof of round {place + 1}")
+            return proofs(share[:half], place) + proofs(share[half:], place + half)
         moved = lambda match: f"problem {int(match[1]) + place}"
         return re.sub(r"^problem (\d+)", moved, text.removeprefix("proof 1\n"), flags=re.MULTILINE)
 
+    # (each run reads the repositories again)
+    size = max(1, min(PROOFS, -(-len(asked) // given.processes)))
     progress = testtags.Progress(f"of {len(asked):,} proofs")
-    given.proof.write_text("proof 1\n" + "".join(rounds.in_shares(proofs, asked, 100, given.processes, progress)))
+    given.proof.write_text("proof 1\n" + "".join(rounds.in_shares(proofs, asked, size, given.processes, progress)))
     checked = rounds.run(given.checker, script, given.proof)[0].splitlines()
     proved = {line.split()[1] for line in checked if line.endswith(": yes")}
     if len(proved) != len(failing) or not all(line.endswith(": yes") for line in checked):
@@ -112,6 +102,7 @@ def number_of_processes(text):
 def main(given):
     for path in [given.proof, pathlib.Path(f"{given.proof}.t")] if given.proof else []:
         testtags.expect_writable(path)
+    earlier = pages.read_state(given, "installable")
     paths = given.repos + given.beside
     names = rounds.repo_names(paths)
     testtags.expect_packages(paths)
@@ -122,7 +113,7 @@ def main(given):
         failing, spent = asking.failing(given, folder, head, asked)
         print(f"{len(failing)} of {len(asked)} packages cannot be installed")
         numbers = {text: f", round {n}" if given.proof else "" for n, text in enumerate(failing, 1)}
-        for cause, group in groups(failing):
+        for cause, group in causes.groups(failing):
             print(f"\n{len(group)} by this: {cause}")
             for text, lines in group.items():
                 print(f"  {text}{numbers[text]}")
@@ -131,6 +122,10 @@ def main(given):
             print(f"\nnot known, the budget was spent: {text}")
         if given.proof and failing:
             prove(given, folder, head, failing)
+        if given.html:
+            found = installable_pages.Found(given, folder, head, paths, names, asked, failing, spent)
+            installable_pages.write(given, found, earlier)
+            print(f"pages in {given.html / 'index.html'}")
     return 1 if failing or spent else 0
 
 
@@ -145,5 +140,6 @@ if __name__ == "__main__":
     arguments.add_argument("--checker", type=pathlib.Path, default=rounds.PROOFCHECK, help="proofcheck")
     arguments.add_argument("--jobs", dest="processes", metavar="N", type=number_of_processes, default=len(os.sched_getaffinity(0)),
                            help="so many processes at a time")
+    pages.add_options(arguments)
     machine.add_options(arguments)
     testtags.run(main, arguments)

@@ -44,11 +44,16 @@ OF_JOBS = ("deljob ", "dropbest ")
 CLASH = 'color="#cc0000", fontcolor="#cc0000"'
 
 
-class Picture:
-    """Nodes, each with its kind and lines, and edges with their words."""
+def rule_of(line):
+    """The kind of rule that a line tells of, and its match; or None twice."""
+    return next(((kind, match) for form, kind in RULES if (match := form.fullmatch(line))), (None, None))
 
-    def __init__(self, problem, names, met_by):
-        self.nodes, self.edges, self.names, self.meeting = {}, [], names, met_by
+
+class Picture:
+    """Nodes, each with its kind and lines, and edges with their words. Of those that meet a requirement `most` are drawn."""
+
+    def __init__(self, problem, names, met_by, most=MOST):
+        self.nodes, self.edges, self.names, self.meeting, self.most = {}, [], names, met_by, most
         ways = [line for lines in problem.solutions.values() for line in lines]
         for job in sorted({line.split(" ", 1)[1] for line in ways if line.startswith(OF_JOBS)}):
             self.job(job)
@@ -72,16 +77,16 @@ class Picture:
 
     def job(self, job):
         action, _, selection = job.partition(" ")
-        for package in self.meeting.get(selection, ())[:MOST]:
+        for package in self.meeting.get(selection, ())[:self.most]:
             is_clash = action in ("erase", "lock")
             words = f"{action}s" if is_clash else "asks for"
             self.edge(self.node(job, "job"), self.node(package), words, CLASH if is_clash else "")
         self.node(job, "job")
 
     def rule(self, line):
-        for form, kind in RULES:
-            if match := form.fullmatch(line):
-                return getattr(self, kind.replace(" ", "_"))(*match.groups())
+        kind, match = rule_of(line)
+        if kind:
+            return getattr(self, kind.replace(" ", "_"))(*match.groups())
         # (the jobs stand there already)
         return None if line == "conflicting requests" else self.node(line, "missing")
 
@@ -90,10 +95,10 @@ class Picture:
         if len(met) == 1:
             self.edge(self.node(package), self.node(met[0]), f"requires {wanted}")
             return
-        more = f"met by {len(met) - MOST} more" if len(met) > MOST else None
+        more = f"met by {len(met) - self.most} more" if len(met) > self.most else None
         self.edge(self.node(package), self.node(wanted, "wanted", more), "requires")
         is_whole = operators_of(Reader(wanted).expression()) <= {"or"}
-        for other in met[:MOST]:
+        for other in met[:self.most]:
             self.edge(wanted, self.node(other), "met by" if is_whole else "in part met by")
 
     def nothing_provides(self, wanted, package):
@@ -176,7 +181,7 @@ def choices_of(lines):
     """The requirements and conflicts of a problem and the selections of its jobs, each with what single packages may meet of it."""
     choices = {}
     for line in lines:
-        kind, match = next(((kind, match) for form, kind in RULES if (match := form.fullmatch(line))), (None, None))
+        kind, match = rule_of(line)
         if kind in ("requires", "conflicts with"):
             wanted = match.group(2)
             choices[wanted] = [f"provides {leaf}" for leaf in leaves(Reader(wanted).expression()) if not is_namespace(leaf)]

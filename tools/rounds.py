@@ -2,6 +2,7 @@
 import collections
 import concurrent.futures
 import contextlib
+import itertools
 import pathlib
 import re
 import subprocess
@@ -59,12 +60,13 @@ def repo_names(paths):
     return names
 
 
-def head(paths, names, arch, installed=None):
-    """The lines of a script that come before its rounds."""
+def head(paths, names, arch, installed=None, priorities=()):
+    """The lines of a script that come before its rounds. The first repositories have these priorities, and the others 0."""
     for path in paths:
         if len(str(path.resolve()).split()) != 1 or path.suffix in (".gz", ".bz2", ".xz", ".zst", ".lzma"):
             raise Fault(f"{path}: testsolv reads no file that is packed, or has a blank in its name or that of its folder")
-    lines = [f"repo {name} 0 testtags {path.resolve()}" for path, name in zip(paths, names)]
+    files = itertools.zip_longest(paths, names, priorities, fillvalue=0)
+    lines = [f"repo {name} {priority} testtags {path.resolve()}" for path, name, priority in files]
     return lines + [f"system {arch} rpm" + (f" {installed}" if installed else "")]
 
 
@@ -119,10 +121,13 @@ def in_shares(work, rounds, size, processes, progress):
     progress.end()
 
 
-def answered(program, folder, script_head, rounds, processes, progress):
-    """The answers of the rounds by so many processes at a time, each with a share of them, and another one when that is done."""
+def answered(program, folder, script_head, rounds, processes, progress, least=1):
+    """The answers of the rounds by so many processes at a time, each with a share of them, and another one when that is done.
+
+    Each reads the repositories for itself. Where that takes as long as so many rounds, a share has at least these.
+    """
     work = lambda share, place: list(answers(program, folder, script_head, share))
-    size = max(1, min(MOST, -(-len(rounds) // processes)))
+    size = max(least, min(MOST, -(-len(rounds) // processes)))
     return [answer for found in in_shares(work, rounds, size, processes, progress) for answer in found]
 
 

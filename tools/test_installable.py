@@ -6,6 +6,8 @@
 Without the words it takes the programs where `rt run` builds them.
 """
 import argparse
+import contextlib
+import io
 import pathlib
 import random
 import subprocess
@@ -15,6 +17,7 @@ import tempfile
 import asking
 import installable
 import rounds
+import testtags
 from rounds import PROOFCHECK, TESTSOLV
 from rpms_for_tests import same
 
@@ -93,6 +96,26 @@ def try_budget(program, folder):
     none = list(rounds.answers(program, folder, head, asked))
     same("rounds within the budget", [bool(rounds.problems(answer)) for answer in full], [True, False, True, True, True])
     same("rounds that spend it", none, [None, full[1], None, None, full[4]])
+
+
+def try_proofs(programs, folder):
+    """Where all proofs of a run spend its budget together, and none by itself, runs of fewer give them."""
+    (folder / "hard.repo").write_text(HARD.replace("hard", "hard0") + "".join(HARD.split("=Pkg: a")[0].replace("hard", f"hard{n}") for n in (1, 2)))
+    head = rounds.head([folder / "hard.repo"], ["hard"], "x86_64")
+    given = argparse.Namespace(proof=folder / "hard.proof", program=programs[0], checker=programs[1], processes=1)
+    told, budget, all_of_them = io.StringIO(), rounds.BUDGET, [f"hard{n}-1-1.noarch@hard" for n in range(3)]
+    with contextlib.redirect_stdout(told):
+        for count in range(20):
+            rounds.BUDGET = ("--budget", str(count))
+            try:
+                installable.prove(given, folder, head, all_of_them[:1])
+                break
+            except testtags.Fault as fault:
+                last = str(fault)
+        same("no budget for one proof", last, f"{given.proof}: the budget was spent over the proof of round 1")
+        installable.prove(given, folder, head, all_of_them)
+    rounds.BUDGET = budget
+    same("three proofs with the budget of one", told.getvalue().splitlines()[-1], f"3 proofs in {given.proof}, checked against {given.proof}.t")
 
 
 def drawn(draw, count):
@@ -205,6 +228,7 @@ def main():
         try_bulk(programs[0], folder)
         try_processes(programs[0], folder)
         try_budget(programs[0], folder)
+        try_proofs(programs, folder)
         same("no program", run(["nosuch", "nosuch"], COMPOSE)[0], 2)
     print("as it should be")
 

@@ -11,6 +11,7 @@ import subprocess
 import sys
 import tempfile
 
+import providers
 from rounds import TESTSOLV
 from rpms_for_tests import same
 
@@ -70,6 +71,18 @@ way out 1: deljob install name app
 """
 
 
+def try_many(program, folder):
+    """Who meets each of many choices, by name and by what is provided: more than are asked for in one script."""
+    script, count = folder / "many.t", 130
+    script.write_text("repo a 0 testtags <inline>\n" + "".join(
+        f"#>=Pkg: lib{n} {version} 1 noarch\n#>=Prv: so{n} = {version}\n#>=Prv: name{n}\n" for n in range(count) for version in (1, 2, 3)) + "system x86_64 rpm\njob noop\n")
+    wanted = {f"{kind} {name}{n} >= 2": [f"lib{n}-{version}-1.noarch@a" for version in (2, 3)] for n in range(count) for kind, name in (("name", "lib"), ("provides", "so"))}
+    wanted |= {f"provides lib{n} > 3": [] for n in range(count)} | {"provides nobody": [], "pkg lib1-1-1.noarch@a": ["lib1-1-1.noarch@a"]}
+    names, met = providers.meeting(program, folder, script, {"lib1-1-1.noarch@a"}, wanted.keys())
+    same("who meets many choices", met, wanted)
+    same("names of packages", (names["lib1-1-1.noarch@a"], len(names)), ("lib1", 3 * count))
+
+
 def run(program, *words):
     done = subprocess.run([sys.executable, TOOLS / "picture.py", "--program", program, *words], capture_output=True, text=True)
     return done.returncode, done.stdout, done.stderr
@@ -93,6 +106,7 @@ def main():
         upgrade = [sys.executable, TOOLS / "upgrade.py", "--program", program, old, new]
         subprocess.run([*upgrade, "--set", "charts,postfix", "--script", made.with_name("upgrade-2.t")], capture_output=True)
         same("docs/MAINTAINERS.md has the picture of an upgrade", run(program, made.with_name("upgrade-2.t"), "--problem", "2")[1] in PAGE, True)
+        try_many(program, pathlib.Path(name))
         if shutil.which("dot"):
             same("status of a picture", run(program, made, "--svg", svg), (0, "", ""))
             text = svg.read_text()

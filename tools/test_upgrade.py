@@ -12,6 +12,7 @@ import tempfile
 
 from rounds import TESTSOLV
 from rpms_for_tests import same
+from upgrade import CHANGES
 
 TOOLS = pathlib.Path(__file__).resolve().parent
 PAGE = (TOOLS.parent / "docs" / "MAINTAINERS.md").read_text()
@@ -68,6 +69,37 @@ LANGUAGES = ("=Pkg: app 1 1 noarch\n=Pkg: old 1 1 noarch\n=Pkg: words 1 1 noarch
 # an upgrade that one package stands in the way of, and many go with it
 MANY = ("=Pkg: lib 1 1 noarch\n" + "".join(f"=Pkg: user{number} 1 1 noarch\n=Req: lib < 2\n" for number in range(3)),
         "=Pkg: other 2 1 noarch\n=Obs: lib\n")
+# two kernels that stay, and a third one in the new release
+KERNELS = ("=Pkg: kernel 5.1 1 x86_64\n=Pkg: kernel 5.2 1 x86_64\n=Pkg: app 1 1 noarch\n", "=Pkg: kernel 5.3 1 x86_64\n=Pkg: app 2 1 noarch\n")
+KERNELS_TOLD = """\
+  it goes through: 1 upgraded, 1 new, 0 gone, 2 as they are
+  comes beside another version: 1
+    kernel-5.3-1.x86_64@new
+  stays, and no new repository has it: 2
+    kernel-5.1-1.x86_64@system
+    kernel-5.2-1.x86_64@system
+"""
+# a library that a release has as an outdated package and its updates as another one
+OUTDATED = ("=Pkg: app 1 1 noarch\n", "=Pkg: python 2.6b3 1 noarch\n=Prv: libpython2.6.so\n=Pkg: app 2 1 noarch\n=Req: libpython2.6.so\n",
+            "=Pkg: libpython2_6 2.6.0 1 noarch\n=Prv: libpython2.6.so\n=Pkg: python 2.6.0 1 noarch\n")
+# a library of two architectures
+TWICE = ("=Pkg: lib 1 1 i686\n=Pkg: lib 1 1 x86_64\n", "=Pkg: lib 2 1 i686\n=Pkg: lib 2 1 x86_64\n")
+TWICE_TOLD = """\
+  it goes through: 2 upgraded, 0 new, 0 gone, 0 as they are
+  changes its architecture: 1
+    lib-1-1.i686@system to lib-2-1.x86_64@new
+  comes in place of several of its name: 1
+    lib-2-1.x86_64@new of lib-1-1.i686@system, lib-1-1.x86_64@system
+"""
+TWICE_KEPT = """\
+  it goes through: 0 upgraded, 0 new, 0 gone, 2 as they are
+  stays, and is installed more than once: 2
+    lib-1-1.i686@system
+    lib-1-1.x86_64@system
+"""
+# what an installed package calls for, and what one that is upgraded does
+CALLED_FOR = ("=Pkg: app 1 1 noarch\n=Pkg: tool 1 1 noarch\n", "=Pkg: app 1 1 noarch\n=Pkg: app-lang 1 1 noarch\n=Sup: app\n"
+              "=Pkg: tool 2 1 noarch\n=Pkg: tool-lang 2 1 noarch\n=Sup: tool\n")
 LIBSOLVS = pathlib.Path("/usr/bin/testsolv")
 WRONG_JOBS = (("frobnicate name vim", 'testsolv does not take the line "job frobnicate name vim": UnknownJob'),
               ("lock pkg", 'testsolv does not take the line "job lock pkg": BadWords'),
@@ -82,7 +114,7 @@ def run(program, *words):
 def come(program, script):
     """The texts of the packages that come."""
     lines = subprocess.run([program, "-r", script], capture_output=True, text=True).stdout.splitlines()
-    return {line.split()[-1] for line in lines if line.startswith(("install ", "upgrade "))}
+    return {line.split()[-1] for line in lines if line.split(" ")[0] in ("install", *CHANGES)}
 
 
 def try_languages(program, folder):
@@ -96,15 +128,58 @@ def try_languages(program, folder):
         same(f"languages, {requirement}", (status, told.splitlines()[1], errors),
              (0, f"  it goes through: 2 upgraded, {len(wanted) - 2} new, 0 gone, 1 as they are", ""))
         same(f"what comes, {requirement}", come(program, script), wanted)
-        if LIBSOLVS.is_file():
-            plain = folder / "plain.t"
-            plain.write_text("".join(f"{line}\n" for line in script.read_text().splitlines() if not line.startswith("job lock ")))
-            same(f"what comes by libsolv without any lock, {requirement}", come(LIBSOLVS, plain), wanted)
-        else:
-            print(f"skipped: there is no program {LIBSOLVS}")
+        same_by_libsolv(f"what comes without any lock, {requirement}", script, wanted, "job lock ")
     new.write_text(LANGUAGES[1].format(""))
     same("a set", run(program, new, new, "--locale", "de", "--set", "old")[1].splitlines()[0], "set 1, old: 2 packages")
     same("a set that asks for it", run(program, new, new, "--locale", "de", "--set", "old,fonts")[1].splitlines()[0], "set 1, old,fonts: 3 packages")
+
+
+def same_by_libsolv(what, script, wanted, without=None):
+    """libsolv's testsolv brings the same for the script, without the lines that begin so; lines are told where it is not there."""
+    if not LIBSOLVS.is_file():
+        return print(f"skipped: {what}: there is no program {LIBSOLVS}")
+    plain = script.with_name("plain.t")
+    plain.write_text("".join(f"{line}\n" for line in script.read_text().splitlines() if not without or not line.startswith(without)))
+    same(f"{what}, by libsolv", come(LIBSOLVS, plain), wanted)
+
+
+def try_as_libsolv(program, folder):
+    """Where the tool writes more into the script, so that what comes is what libsolv brings by itself."""
+    old, new, updates, script = (folder / name for name in ("old.repo", "new.repo", "updates.repo", "upgrade.t"))
+    old.write_text(KERNELS[0])
+    new.write_text(KERNELS[1])
+    told = run(program, old, new, "--job", "multiversion name kernel", "--script", script)
+    same("a kernel", told, (0, f"set 1, {old}: 3 packages\n{KERNELS_TOLD}", ""))
+    same("a kernel, its job", "job install name kernel [forcebest]" in script.read_text(), True)
+    same_by_libsolv("a kernel", script, {"kernel-5.3-1.x86_64@new", "app-2-1.noarch@new"}, "job install ")
+    new.write_text("=Pkg: app 2 1 noarch\n")
+    run(program, old, new, "--job", "multiversion name kernel", "--script", script)
+    same("no kernel", "job install" in script.read_text(), False)
+
+    old.write_text(OUTDATED[0])
+    new.write_text(OUTDATED[1])
+    updates.write_text(OUTDATED[2])
+    same("an outdated provider", run(program, old, new, updates, "--script", script)[::2], (0, ""))
+    wanted = {"app-2-1.noarch@new", "libpython2_6-2.6.0-1.noarch@updates"}
+    same("what comes of two repositories", come(program, script), wanted)
+    script.write_text(script.read_text().replace("repo updates 1 ", "repo updates 0 "))
+    same_by_libsolv("an outdated provider without priorities", script, wanted)
+    same("an outdated provider in a set", run(program, new, updates, "--beside", updates, "--set", "app", "--script", script)[::2], (0, ""))
+    same("what is installed of two repositories", "#>=Pkg: libpython2_6 " in script.read_text(), True)
+
+    old.write_text(TWICE[0])
+    new.write_text(TWICE[1])
+    same("of two architectures", run(program, old, new, "--script", script), (0, f"set 1, {old}: 2 packages\n{TWICE_TOLD}", ""))
+    same_by_libsolv("of two architectures", script, {"lib-2-1.x86_64@new"})
+    same("of two architectures that stay", run(program, old, new, "--job", "multiversion provides lib"), (0, f"set 1, {old}: 2 packages\n{TWICE_KEPT}", ""))
+
+    old.write_text(CALLED_FOR[0])
+    new.write_text(CALLED_FOR[1])
+    usual = {"tool-2-1.noarch@new", "tool-lang-2-1.noarch@new"}
+    for words, wanted in (([], usual | {"app-lang-1-1.noarch@new"}), (["--as-now"], usual)):
+        run(program, old, new, *words, "--script", script)
+        same(f"what is called for, {words}", come(program, script), wanted)
+    same_by_libsolv("what is called for", script, usual, "job lock ")
 
 
 def try_many(program, folder):
@@ -152,8 +227,8 @@ def main():
         same("status and errors of two sets", (status, errors), (1, ""))
         same("docs/MAINTAINERS.md has what is told of two sets", WEB in told and told in PAGE, True)
         status, told, errors = run(program, OLD, NEW, "--set", "stunnel")
-        same("a set that cannot be installed", (status, told.splitlines()[:2], errors),
-             (1, ["  it cannot be installed from the old release: 1 problem", "  problem 1:"], ""))
+        same("a set that cannot be installed", (status, told.splitlines()[:3], errors),
+             (1, ["set 1, stunnel", "  it cannot be installed from the old release: 1 problem", "  problem 1:"], ""))
         status, told, errors = run(program, OLD, NEW, "--set", "charts", "--job", "allowuninstall name charts")
         same("a further job", (status, told.splitlines()[1:], errors), (0, [
             "  it goes through: 1 upgraded, 0 new, 1 gone, 0 as they are", "  goes: 1", "    charts-4.1-7.fc39.x86_64@system"], ""))
@@ -163,6 +238,7 @@ def main():
         status, told, errors = run(program, NEW, NEW)
         same("all packages of the old release", (status, told, errors), (0, f"set 1, {NEW}: 6 packages\n  it goes through: 0 upgraded, 0 new, 0 gone, 6 as they are\n", ""))
         try_languages(program, folder)
+        try_as_libsolv(program, folder)
         try_many(program, folder)
         try_faults(program, folder)
         same("no such group", run(program, OLD, NEW, "--set", "@nosuch")[::2], (2, "@nosuch: no group of this name; --groups names the file that has them\n"))
