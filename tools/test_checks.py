@@ -27,8 +27,8 @@ FAULTS = {
     ),
     "check_edits.py": (
         ("crates/solv_core/must-fail/spent_at_once.edit", "old: if ledger.spent() {", f"old: if {NOWHERE} {{", "0 times in src/core_run.rt"),
-        ("crates/solv_rich/must-fail/condition_read_as_and.edit", "Parts::Joined(a, b)", "Parts::Crossed(a, b, false)", "it changes nothing"),
-        ("crates/solv_policy/must-fail/oldest_version_first.edit", "src/comparing.rt", f"src/{NOWHERE}.rt", f"there is no src/{NOWHERE}.rt"),
+        ("crates/solv_trans/must-fail/going_like_coming.edit", "Turn::Early", "Turn::Late", "it changes nothing"),
+        ("crates/solv_base/must-fail/pre_release_above_release.edit", "src/version/tokens.rt", f"src/{NOWHERE}.rt", f"there is no src/{NOWHERE}.rt"),
     ),
     "promise.py --check": (
         ("crates/solv_pool/specs/Counting.antt", None, f"\n-- one that no contract reaches\nabbrev pub {NOWHERE} : ℕ\n{NOWHERE} = 7\n", f"{NOWHERE} is not of the promise"),
