@@ -20,7 +20,7 @@ MOST_IN_SENTENCE = 40
 # pages whose paragraphs and list items are short
 MOST_IN_ENTRY = {"docs/DECISIONS.md": 80}
 # how many longer sentences, and longer entries, may stand in a page for now: they say what is about to change
-LONGER = {"docs/MAINTAINERS.md": 3}
+LONGER = {}
 LONGER_ENTRIES = {}
 FENCE = re.compile(r"^\s*(```|~~~)")
 ITEM = re.compile(r"^\s*(?:[-*+]|\d+[.)])\s+")

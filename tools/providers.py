@@ -3,7 +3,7 @@ import collections
 import pathlib
 
 import rounds
-from scripts import Script
+from scripts import before_rounds, packages_of
 from testtags import UTF
 
 # so many choices are asked for in one script
@@ -13,7 +13,7 @@ TOGETHER = 50
 def provides_of(program, script, wanted, names):
     """What those packages of a script provide whose texts are wanted, or that provide one of the names."""
     found = {}
-    for package in Script(rounds.run(program, "--write", script)[0]).packages:
+    for package in packages_of(before_rounds(rounds.run(program, "--write", script)[0])):
         _, name, version, release, _ = package.heading.split()
         provided = [f"{name} = {version}" + (f"-{release}" if release != "-" else "")]
         provided += [line[6:] for line in package.lines if line.startswith(("=Prv: ", "=Fls: "))]

@@ -5,25 +5,39 @@ import collections
 Written = collections.namedtuple("Written", "repo text heading lines")
 
 
+def before_rounds(text):
+    """The lines before the first round. What is expected in a round may look like any line, and a round begins with its flags."""
+    return [] if text.startswith("solverflags ") else text.partition("\nsolverflags ")[0].split("\n")
+
+
+def packages_of(lines):
+    """The packages among the lines before the rounds, one after the other."""
+    repo = package = None
+    for line in lines:
+        if line.startswith("#>") and not line.startswith("#>=Pkg: "):
+            package.lines.append(line[2:])
+            continue
+        if package:
+            yield package
+            package = None
+        if line.startswith("repo "):
+            repo = line.split()[1]
+        elif line.startswith("#>"):
+            _, name, version, release, arch = line.split()
+            evr = version if release == "-" else f"{version}-{release}"
+            package = Written(repo, f"{name}-{evr}.{arch}@{repo}", line[2:], [])
+    if package:
+        yield package
+
+
 class Script:
     """A script in parts: the lines of its repositories by name, their packages, the lines on the machine, and those of each round."""
 
     def __init__(self, text):
-        self.repos, self.packages, self.machine, self.rounds = {}, [], [], []
-        head, *rounds = text.split("\nnextjob\n")
-        # (what is expected in a round may look like any line, so a round begins with the line that each has)
-        head, _, first = head.partition("solverflags ") if head.startswith("solverflags ") else head.partition("\nsolverflags ")
-        self.rounds = [[line for line in one.split("\n") if line] for one in (f"solverflags {first}", *rounds)]
-        repo = None
-        for line in head.split("\n"):
-            if line.startswith("#>=Pkg: "):
-                _, name, version, release, arch = line.split()
-                evr = version if release == "-" else f"{version}-{release}"
-                self.packages.append(Written(repo, f"{name}-{evr}.{arch}@{repo}", line[2:], []))
-            elif line.startswith("#>"):
-                self.packages[-1].lines.append(line[2:])
-            elif line.startswith("repo "):
-                repo = line.split()[1]
-                self.repos[repo] = line
-            elif line:
-                self.machine.append(line)
+        head = before_rounds(text)
+        self.packages = list(packages_of(head))
+        plain = [line for line in head if line and not line.startswith("#>")]
+        self.repos = {line.split()[1]: line for line in plain if line.startswith("repo ")}
+        self.machine = [line for line in plain if not line.startswith("repo ")]
+        rounds = text if not head else text[text.index("\nsolverflags ") + 1:]
+        self.rounds = [[line for line in one.split("\n") if line] for one in rounds.split("\nnextjob\n")]
