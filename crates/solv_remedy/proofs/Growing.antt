@@ -23,6 +23,7 @@ use Rattle.solv_remedy.specs.Remedies.{is_once}
 use Rattle.solv_remedy.specs.Inner.Trying.{firm_but, is_off_in, IsNeeded, IsSetUp, IsSolvable, MeetsOn}
 use Rattle.solv_remedy.specs.Inner.Correcting.{and_one, and_some, is_left, open_count, refuted_rules, AreRefutedBy, IsDropped, IsFoundOn, IsHeldMore, IsParted, IsPartedOf, IsRefutedOn, KeepsParted}
 use Rattle.solv_remedy.specs.declared.setting.Setting.{Setting}
+use Rattle.solv_remedy.specs.declared.correcting.Looks.{Looks}
 use Rattle.solv_remedy.specs.declared.correcting.Parted.{Parted}
 use Rattle.solv_remedy.proofs.Fewer.{few, fewer}
 use Rattle.solv_remedy.proofs.Fronts.{among_more, next_one}
@@ -222,7 +223,7 @@ module _ (r : Request) (core : CoreOf) where
       }
 
     -- whether looks are made has no say
-    pub looked : (p : Parted) (looks : Bool) → IsParted r core fixed firm rules p → IsParted r core fixed firm rules (record p { looks = looks })
+    pub looked : (p : Parted) (looks : Looks) → IsParted r core fixed firm rules p → IsParted r core fixed firm rules (record p { looks = looks })
     looked p looks h = record {
       same = h.same;
       held_size = h.held_size;

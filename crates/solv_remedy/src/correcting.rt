@@ -28,15 +28,55 @@ use solv_list::Items;
 use solv_pack::RuleNo;
 use std::alloc::{AllocError, Global};
 
+/// When looks are made: one that drops nothing is followed by a pause of some drops without a look, which is twice as long, and one more, each time.
+#[derive(Clone, Copy)]
+pub struct Looks {
+    /// How long the last pause was from its beginning.
+    pub pause: usize,
+    /// How many drops are still to be without a look.
+    pub left_out: usize,
+}
+
+impl Looks {
+    /// A look is due after the first drop.
+    fn at_once() -> Looks {
+        Looks {
+            pause: 0,
+            left_out: 0,
+        }
+    }
+
+    /// So it goes on after a look.
+    fn after(self, drops: bool) -> Looks {
+        let pause = if drops {
+            0
+        } else {
+            self.pause.saturating_add(self.pause).saturating_add(1)
+        };
+        Looks {
+            pause,
+            left_out: pause,
+        }
+    }
+
+    /// So it goes on after a drop without one.
+    fn without_one(self) -> Looks {
+        Looks {
+            pause: self.pause,
+            left_out: self.left_out.saturating_sub(1),
+        }
+    }
+}
+
 /// Rules that are parted: each of them is held to, open, or dropped with a derivation that what is held to refutes it. With these the fixed rules are held
-/// to, and those of a conflict but one. Looks are made as long as they drop something.
+/// to, and those of a conflict but one.
 #[derive(Drop)]
 pub struct Parted {
     pub rules: Vec<usize>,
     pub held: Vec<bool>,
     pub open: Vec<bool>,
     pub dropped: Vec<RefutedRule>,
-    pub looks: bool,
+    pub looks: Looks,
 }
 
 impl Parted {
@@ -54,7 +94,7 @@ impl Parted {
             held,
             open,
             dropped: Vec::new(setting.alloc),
-            looks: true,
+            looks: Looks::at_once(),
         })
     }
 
@@ -160,7 +200,7 @@ impl Parted {
         let before = self.dropped.len();
         self.leave_each(refuted.into_vec())?;
         self.hold_met(setting, core, trail)?;
-        self.looks = self.dropped.len() > before;
+        self.looks = self.looks.after(self.dropped.len() > before);
         Ok(())
     }
 }
@@ -286,7 +326,7 @@ fn drop_one_of(
     }
 }
 
-/// One run of what is held to, unless the last one dropped nothing. What it refutes of these clauses' rules is dropped, and what its set meets is held to. Whether
+/// One run of what is held to, unless there is a pause. What it refutes of these clauses' rules is dropped, and what its set meets is held to. Whether
 /// the ledger is not spent.
 fn look(
     setting: &Setting<'_>,
@@ -303,7 +343,8 @@ fn look(
     ensures few { IfOk result (λ on. on ≡ true → open_count parted.new ≤ open_count parted.old) }
 {
     good_logs_refute_their_rules();
-    if !parted.looks {
+    if parted.looks.left_out > 0 {
+        parted.looks = parted.looks.without_one();
         return Ok(true);
     }
     match run_and_probe(setting, core, ledger, &parted.held, clauses)? {

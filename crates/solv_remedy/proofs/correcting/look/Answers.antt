@@ -9,17 +9,21 @@ use Rattle.solv_decide.specs.Deciding.{IsSolution}
 use Rattle.solv_decide.specs.Inner.Deciding.{IsDecided}
 use Rattle.solv_remedy.specs.Inner.Correcting.{AreRefutedBy, IsParted}
 use Rattle.solv_remedy.specs.Inner.Runs.{IsOf}
+use Rattle.solv_remedy.proofs.Growing.{looked}
 use Rattle.solv_remedy.proofs.Ledgers.{not_spent}
 use Rattle.solv_remedy.proofs.Numbered.{met_enabled}
 use Rattle.solv_remedy.proofs.Probed.{all_by_look}
 use Rattle.solv_remedy.proofs.Ran.{of_same, ran_not}
 use Rattle.solv_remedy.proofs.correcting.look.Goals as goal
 
-pub returns-then-not-parted-clause-has_run : goal.returns-then-not-parted-clause-has_run
-returns-then-not-parted-clause-has_run c = ran_not c.requires.may_run
+pub returns-then-parted-gt0-clause-has_run : goal.returns-then-parted-gt0-clause-has_run
+returns-then-parted-gt0-clause-has_run c = ran_not c.requires.may_run
 
-pub returns-then-not-parted-clause-spent : goal.returns-then-not-parted-clause-spent
-returns-then-not-parted-clause-spent c = not_spent c.args.ledger.now c.requires.may_run.unspent
+pub returns-then-parted-gt0-clause-spent : goal.returns-then-parted-gt0-clause-spent
+returns-then-parted-gt0-clause-spent c = not_spent c.args.ledger.now c.requires.may_run.unspent
+
+pub returns-then-parted-gt0-clause-parted : goal.returns-then-parted-gt0-clause-parted
+returns-then-parted-gt0-clause-parted c = λ yes r firm rules_ up p. looked r c.args.core.now.made c.args.setting.now.fixed.now firm rules_ c.args.parted.now _ p
 
 pub run_and_probe-requires-clause-size : goal.run_and_probe-requires-clause-size
 run_and_probe-requires-clause-size c = ap length c.deref.ensures.value ∙ c.requires.parted.parted.held_size
