@@ -6,8 +6,8 @@ ghost use Rattle.solv_pool.specs.Prelude.{Catalog, catalog_of, hard_rules_by, is
 ghost use Rattle.solv_prov.specs.Index.{IsIndexOf};
 ghost use Rattle.solv_rules.specs.Books.{IsBook, read_rules};
 ghost use Rattle.solv_leaving.specs.Inner.Leaving.{leaving, LeavesOut};
-ghost use Rattle.solv_over.specs.Inner.Places.{ArePlaces, clause_place, rule_place};
-ghost use Rattle.solv_over.specs.Inner.Sums.{are_others, gives_clause, needed_clauses, stage, stage_at, sum_at, sums_from, unmade_clauses, unmade_rules, IsAscending, AreAscending};
+ghost use Rattle.solv_over.specs.Inner.Places.{ArePlaces, clause_place, rule_place, with_clauses};
+ghost use Rattle.solv_over.specs.Inner.Sums.{are_others, gives_clause, needed_clauses, stage, stage_at, sum_at, sums_from, unmade_before, unmade_clauses, unmade_rules, IsAscending, AreAscending};
 
 use solv_pack::RuleNo;
 use solv_pool::{Need, PackNo, Rule, Task};
@@ -247,24 +247,46 @@ fn sum_at(table: &[usize], place: usize) -> usize
     }
 }
 
+/// The sums of how many clauses of each package are not made. Nothing where they are not to be told.
+fn clause_table(
+    alloc: Global,
+    task: &Task,
+    prov: &Providers,
+    left: &[bool],
+    tells: bool,
+) -> Result<Vec<usize>, AllocError>
+    requires closed { IsClosed task.now }
+    requires index { IsIndexOf prov.now (catalog_of task.now) }
+    ensures { tells ≡ true → IfOk result (λ table. table.items ≡ unmade_before (catalog_of task.now) left.now) }
+{
+    if tells {
+        sums(alloc, &clauses_each(alloc, task, prov, left)?)
+    } else {
+        Ok(Vec::new(alloc))
+    }
+}
+
 impl<'a> Places<'a> {
-    /// The places of the rules of a book that leaves out what these packages require, and of its clauses.
+    /// The places of the rules of a book that leaves out what these packages require, and, where `tells` is set, of its clauses. Without these no requirement is
+    /// looked at.
     pub fn of(
         alloc: Global,
         task: &Task,
         prov: &Providers,
         left: &[bool],
         book: &'a Book,
+        tells: bool,
     ) -> Result<Places<'a>, AllocError>
         requires closed { IsClosed task.now }
         requires index { IsIndexOf prov.now (catalog_of task.now) }
         requires out { LeavesOut (catalog_of task.now) task.now.flags task.now.jobs (marks_of task.now) left.now }
         requires book { IsBook (catalog_of task.now) book.now }
         requires rules { read_rules book.now.rules ≡ hard_rules_by (catalog_of task.now) task.now.flags task.now.jobs (leaving (marks_of task.now) left.now) }
-        ensures { IfOk result (λ places. ArePlaces task.now left.now places) }
+        ensures told { tells ≡ true → IfOk result (ArePlaces task.now left.now) }
+        ensures rules { IfOk result (λ places. ArePlaces task.now left.now (with_clauses (unmade_before (catalog_of task.now) left.now) places)) }
     {
         let rules_before = sums(alloc, &rules_each(alloc, task, left)?)?;
-        let clauses_before = sums(alloc, &clauses_each(alloc, task, prov, left)?)?;
+        let clauses_before = clause_table(alloc, task, prov, left, tells)?;
         let count = task.universe.count();
         Ok(Places {
             rules: book.rules().list.held(),

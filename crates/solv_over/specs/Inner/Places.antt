@@ -62,6 +62,10 @@ rule_place places = rule_by places.rules places.count places.rules_before
 abbrev pub clause_place : PlacesOf → ℕ → ℕ
 clause_place places = clause_by places.rules places.owners places.count places.clauses_before
 
+-- the same with this table of clauses
+abbrev pub with_clauses : List ℕ → PlacesOf → PlacesOf
+with_clauses table places = record places { clauses_before = table }
+
 -- so it is among the hard rules of a task
 pub record ArePlaces (task : Task) (left : List Bool) (places : PlacesOf) : Type 0 where
   pub rule : (k : ℕ) → rule_place places k ≡ rule_among left (hard_rules task) k

@@ -1,9 +1,9 @@
 -- How many rules and clauses are not made, package by package, and how many come before a rule.
-use Rattle.std.specs.Prelude.{ℕ, suc, ◌≡◌, ◌≤◌, ◌<◌, ◌+◌, ◌==◌, ◌||◌, Bool, not, List, [], ◌∷◌, Some, filter, length, slice_get, slice_index, unwrap_or, if◌then◌else◌}
+use Rattle.std.specs.Prelude.{ℕ, suc, ◌≡◌, ◌≤◌, ◌<◌, ◌+◌, ◌==◌, ◌||◌, Bool, not, List, [], ◌∷◌, Some, filter, length, map, slice_get, slice_index, unwrap_or, if◌then◌else◌}
 use Rattle.std.specs.List.{list_all}
 use Rattle.std.specs.Option.{option_map_or}
 use Rattle.solv_pool.specs.JobMarks.{marked}
-use Rattle.solv_pool.specs.Catalog.{Catalog, package_at}
+use Rattle.solv_pool.specs.Catalog.{Catalog, members, package_at}
 use Rattle.solv_prov.specs.Index.{providers_of}
 use Rattle.solv_pool.specs.declared.packages.Need.{Need}
 use Rattle.solv_pool.specs.declared.hard_rules.Rule.{Rule}
@@ -43,6 +43,10 @@ module _ (catalog : Catalog) where
 abbrev pub sums_from : ℕ → List ℕ → List ℕ
 sums_from sum [] = sum ∷ []
 sums_from sum (n ∷ ns) = sum ∷ sums_from (sum + n) ns
+
+-- how many clauses of the first so many packages, the system one of them, are not made
+abbrev pub unmade_before : Catalog → List Bool → List ℕ
+unmade_before catalog left = sums_from 0 (map (unmade_clauses catalog left) (members catalog))
 
 -- how many packages, the system one of them, have what is not made before a rule: the requirements of a package stand behind the rule that it is not installable, and before
 -- all others of it; and all packages before a rule that is of no package
