@@ -1,15 +1,16 @@
 -- An answer by the rules that are made is one by all hard rules, with its numbers at their places.
-use Rattle.std.proofs.Common.{◌≡◌, ◌+◌, ◌≤◌, ◌<◌, ℕ, Bool, true, List, map, refl, sym, ap, ◌∙◌, subst, length, arith}
+use Rattle.std.proofs.Common.{◌≡◌, ◌+◌, ◌≤◌, ◌<◌, ℕ, Bool, true, List, [], map, refl, sym, ap, ◌∙◌, subst, length, arith}
 use Rattle.std.specs.Prelude.{◌==◌, IfSome}
 use Rattle.std.specs.List.{list_all}
 use Rattle.solv_pool.specs.Prelude.{catalog_of, hard_rules, marks_of, marked}
 use Rattle.solv_pool.specs.Laws.{ClausesNamePackages, ClausesSayTheRule}
 use Rattle.solv_pool.specs.declared.tasks.Task.{Task}
 use Rattle.solv_rules.specs.Books.{is_bookable}
+use Rattle.solv_core.specs.declared.ledger.Entry.{Entry}
 use Rattle.solv_core.specs.declared.ledger.Ledger.{Ledger}
 use Rattle.solv_leaving.specs.Inner.Leaving.{LeavesOut}
 use Rattle.solv_remedy.specs.Remedies.{droppable_rules, most_runs}
-use Rattle.solv_over.specs.Inner.Places.{ArePlaces, PlacesOf, clause_place, is_of_inside, ledger_at, put_before, rule_place}
+use Rattle.solv_over.specs.Inner.Places.{ArePlaces, PlacesOf, clause_place, entry_at, is_of_inside, ledger_at, put_before, rule_place, run_at}
 use Rattle.solv_over.specs.Inner.Thinned.{Thinned}
 use Rattle.solv_over.proofs.Flagging.{few_same}
 use Rattle.solv_over.proofs.Moved.{first_before, ledger_moved, problems_moved, runs_before, runs_many, entries_many}
@@ -26,6 +27,12 @@ spent_same : (places : PlacesOf) (given : Answer) → is_spent (answer_at places
 spent_same places (answer.Transaction trail set made ordered) = refl
 spent_same places (answer.Problems problems) = refl
 spent_same places answer.Spent = refl
+
+-- where nothing was learnt no clause has a place
+pub ledger_of_none : (at other : ℕ → ℕ) (flags : List Bool → List Bool) (ledger : Ledger) → ledger.entries ≡ [] → ledger_at at flags ledger ≡ ledger_at other flags ledger
+ledger_of_none at other flags ledger none =
+    let of : List Entry → Ledger = λ entries. record { budget = ledger.budget; runs = map (run_at flags) ledger.runs; entries = entries } in
+    ap of (ap (map (entry_at at)) none ∙ sym (ap (map (entry_at other)) none))
 
 module _ (task : Task) (left : List Bool) (out : LeavesOut (catalog_of task) task.flags task.jobs (marks_of task) left) (names : ClausesNamePackages) (say : ClausesSayTheRule)
     (bookable : list_all (is_bookable (catalog_of task)) (hard_rules task) ≡ true) (places : PlacesOf) (are : ArePlaces task left places) where

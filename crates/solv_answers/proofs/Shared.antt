@@ -14,11 +14,11 @@ use Rattle.solv_pool.specs.declared.tasks.Task.{Task}
 use Rattle.std.specs.List.{list_all}
 use Rattle.solv_jobs.specs.Marking.{HasMarks}
 use Rattle.solv_plan.specs.declared.plans.Rest.{Rest}
-use Rattle.solv_rules.specs.Books.{first_fault, is_bookable, read_rules}
+use Rattle.solv_rules.specs.Books.{first_fault, is_bookable, read_rules, IsDue}
 use Rattle.solv_rules.specs.Inner.Drafting.{IsBegun, IsDraft, IsFront}
 use Rattle.solv_rules.specs.declared.drafts.Draft.{Draft}
 use Rattle.solv_rules.specs.declared.fault.BookFault.{BookFault}
-use Rattle.solv_rules.proofs.Fronts.{both_parts}
+use Rattle.solv_rules.proofs.Fronts.{both_parts, due_of_all}
 use Rattle.solv_answers.specs.Answers.{IsPrepared}
 use Rattle.solv_answers.specs.Inner.Fronts.{HasFront, IsBookedBy, Reads, front_rules}
 use Rattle.solv_decide.specs.Inner.Rests.{IsRestFor}
@@ -71,6 +71,12 @@ module _ (catalog : Catalog) (flags : Flags) (jobs : List Job) (marks : Marks) w
   unfolding other_rules
   front_first =
       behind_first (front_rules catalog flags marks) (update_rules catalog flags marks jobs) (feature_rules catalog flags marks) (job_rules catalog jobs) (best_job_rules catalog jobs) (best_update_rules catalog flags marks jobs)
+
+  -- a fault of the rules of packages is that of all hard rules
+  pub due_of_packages : (fault : BookFault) → IsDue (first_fault catalog 0 (package_rules catalog marks)) fault → IsDue (first_fault catalog 0 (hard_rules_by catalog flags jobs marks)) fault
+  due_of_packages fault due =
+      subst (λ (l : List HardRule). IsDue (first_fault catalog 0 l) fault) (sym front_first)
+      (due_of_all catalog 0 (front_rules catalog flags marks) other_rules fault (due_of_all catalog 0 (package_rules catalog marks) (infarch_rules catalog flags) fault due))
 
 -- where flags and marks count alike, the first rules are the same
 pub front_alike : (catalog : Catalog) (f g : Flags) (m n : Marks) → f.no_infarch_check ≡ g.no_infarch_check → m.verify ≡ n.verify → m.multiversion ≡ n.multiversion → m.left_out ≡ n.left_out → front_rules catalog f m ≡ front_rules catalog g n

@@ -6,6 +6,7 @@ ghost use Rattle.solv_prov.specs.Index.{IsIndexOf};
 ghost use Rattle.solv_jobs.specs.Marking.{HasMarks};
 ghost use Rattle.solv_rules.specs.Books.{first_fault, read_rules};
 ghost use Rattle.solv_pool.specs.TaskForms.{asks_in_form};
+ghost use Rattle.solv_over.specs.Inner.Places.{PlacesOf};
 ghost use Rattle.solv_answers.specs.Answers.{IsAnswered, IsTransactionUnlessChoicesClash, is_transaction};
 ghost use Rattle.solv_answers.specs.Inner.Made.{IsAnsweredMade, answer_at};
 ghost use Rattle.solv_answers.specs.Inner.Lean.{HasLeft, IsMade};
@@ -14,6 +15,7 @@ use crate::answering::{Given, answer_made};
 use crate::answers::{Answer, Answered};
 use crate::making::hard_rules;
 use crate::preparing::{Prepared, marks, prepare_anew};
+use solv_core::Ledger;
 use solv_leaving::{all_fit, all_rules_fit, left_out};
 use solv_list::Items;
 use solv_over::{Places, is_inside, moved_ledger, moved_problems};
@@ -77,6 +79,32 @@ fn moved_answer(alloc: Global, places: &Places<'_>, answer: Answer) -> Result<An
     }
 }
 
+/// Whether an answer names rules.
+fn names_rules(answer: &Answer) -> bool
+    ensures { result ≡ false → (places others : PlacesOf) → answer_at places answer.now ≡ answer_at others answer.now }
+{
+    match answer {
+        Answer::Transaction { .. } => false,
+        Answer::Problems(_) => true,
+        Answer::Spent => false,
+    }
+}
+
+/// Whether something was learnt.
+fn has_learnt(ledger: &Ledger) -> bool
+    ensures { result ≡ false → ledger.now.entries ≡ [] }
+{
+    !ledger.entries.is_empty()
+}
+
+/// Whether an answer, or what was learnt for it, names rules or clauses.
+fn names_some(answer: &Answer, ledger: &Ledger) -> bool
+    ensures answer { result ≡ false → (places others : PlacesOf) → answer_at places answer.now ≡ answer_at others answer.now }
+    ensures learnt { result ≡ false → ledger.now.entries ≡ [] }
+{
+    names_rules(answer) || has_learnt(ledger)
+}
+
 /// An answer by the rules that are made with the numbers of all rules and clauses among those of all hard rules. Nothing where a learnt clause speaks of a package
 /// that is left out, which no search gives.
 fn moved(
@@ -100,7 +128,8 @@ fn moved(
     if !is_inside(&ledger, left, task.universe.count()) {
         return Ok(None);
     }
-    let places = Places::of(alloc, task, prov, left, &prepared.book)?;
+    let names = names_some(&answer, &ledger);
+    let places = Places::of(alloc, task, prov, left, &prepared.book, names)?;
     let ledger = moved_ledger(alloc, &places, ledger)?;
     let answer = moved_answer(alloc, &places, answer)?;
     Ok(Some(Answered { answer, ledger }))

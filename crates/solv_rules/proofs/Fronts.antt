@@ -1,11 +1,11 @@
 -- The first rules of a list: their clauses, owners, spans and faults stand first.
-use Rattle.std.proofs.Common.{◌≡◌, ◌+◌, ◌≤◌, ℕ, zero, suc, ℤ, List, [], ◌∷◌, ◌++◌, length, map, replicate, Option, Some, None, refl, sym, ap, subst, ◌∙◌, append_assoc, length-append, arith}
+use Rattle.std.proofs.Common.{◌≡◌, ◌+◌, ◌≤◌, inl, inr, ℕ, zero, suc, ℤ, List, [], ◌∷◌, ◌++◌, length, map, replicate, Option, Some, None, refl, sym, ap, subst, ◌∙◌, append_assoc, length-append, arith}
 use Rattle.std.specs.Prelude.{flat_map, take, drop}
 use Rattle.std.proofs.lemmas.List.{drop-map, length-replicate, length-take-le}
 use Rattle.std.proofs.Math.Seq.{drop-append_seam}
 use Rattle.solv_pool.specs.Prelude.{Catalog, rule_clauses, words_of_all, HardRule}
 use Rattle.solv_pool.specs.declared.hard_rules.Rule.{Rule}
-use Rattle.solv_rules.specs.Books.{first_fault, owners_from, spans_from}
+use Rattle.solv_rules.specs.Books.{first_fault, owners_from, spans_from, IsDue}
 use Rattle.solv_rules.specs.Inner.Books.{or_else, rule_fault}
 use Rattle.solv_rules.specs.Inner.Drafting.{HasRules, IsBegun, IsDraft, IsFront, clauses_before}
 use Rattle.solv_rules.specs.declared.drafts.Draft.{Draft}
@@ -29,6 +29,11 @@ words_parts n cs = ap words_of_all (sym (both_parts n cs)) ∙ words_append (tak
 pub neither_fault : (a b : Option BookFault) → or_else a b ≡ None → (a ≡ None) × (b ≡ None)
 neither_fault None b h = (refl, h)
 neither_fault (Some fault) b h = absurd (cc)
+
+-- a fault, or else one that others have too
+this_or_later : (a b c : Option BookFault) (fault : BookFault) → or_else a b ≡ Some fault → (b ≡ Some fault → c ≡ Some fault) → or_else a c ≡ Some fault
+this_or_later (Some x) b c fault h later = h
+this_or_later None b c fault h later = later h
 
 module _ (catalog : Catalog) where
   abbrev clauses_of : List HardRule → List (List ℤ)
@@ -71,6 +76,17 @@ module _ (catalog : Catalog) where
       let own : ℕ = words_of_all (rule_clauses catalog r) in
       let two = neither_fault (rule_fault catalog before r) (first_fault catalog (before + own) (front ++ rest)) fits in
       ap (λ o. or_else o (first_fault catalog (before + own) front)) two.0 ∙ front_fits (before + own) front rest two.1
+
+  -- a fault of the first rules is that of all
+  pub fault_first : (before : ℕ) (front rest : List HardRule) (fault : BookFault) → first_fault catalog before front ≡ Some fault → first_fault catalog before (front ++ rest) ≡ Some fault
+  fault_first before [] rest fault h = absurd (cc)
+  fault_first before (r ∷ front) rest fault h =
+      let own : ℕ = words_of_all (rule_clauses catalog r) in
+      this_or_later (rule_fault catalog before r) (first_fault catalog (before + own) front) (first_fault catalog (before + own) (front ++ rest)) fault h (fault_first (before + own) front rest fault)
+
+  pub due_of_all : (before : ℕ) (front rest : List HardRule) (fault : BookFault) → IsDue (first_fault catalog before front) fault → IsDue (first_fault catalog before (front ++ rest)) fault
+  due_of_all before front rest fault (inl memory) = inl memory
+  due_of_all before front rest fault (inr due) = inr (fault_first before front rest fault due)
 
   -- what comes after the clauses of the first rules
   pub left_behind : (front rest all : List HardRule) (draft : Draft) → all ≡ front ++ rest → HasRules catalog front draft → IsDraft draft → AreLeft catalog rest all (length front) draft
