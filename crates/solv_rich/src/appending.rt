@@ -8,7 +8,7 @@ ghost use Rattle.solv_rich.specs.Inner.Expansions.{are_counted, clauses_in};
 ghost use Rattle.solv_rich.specs.Inner.Shortening.{has_number};
 
 use crate::expanding::expand;
-use crate::expansion::{Expansion, Said, count_in, put_clause};
+use crate::expansion::{Expansion, Literals, count_in, put_clause};
 use crate::shortening::append_clause;
 use solv_pack::Lit;
 use solv_pool::{DepId, PackNo, Task};
@@ -19,7 +19,7 @@ use std::alloc::AllocError;
 fn append_numbered(
     expansion: &Expansion<'_>,
     number: u64,
-    said: &mut Vec<Said>,
+    said: &mut Literals,
     lits: &mut Vec<Lit>,
     ends: &mut Vec<usize>,
 ) -> Result<(), AllocError>
@@ -39,7 +39,7 @@ fn append_numbered(
 /// Appends all clauses.
 fn append_all(
     expansion: &Expansion<'_>,
-    said: &mut Vec<Said>,
+    said: &mut Literals,
     lits: &mut Vec<Lit>,
     ends: &mut Vec<usize>,
 ) -> Result<(), AllocError>
@@ -76,6 +76,6 @@ pub(crate) fn append_rich(
     task.universe.marks_each();
     let alloc = *lits.allocator();
     let expansion = expand(alloc, task, prov, dep, positive, except)?;
-    let mut said = Vec::new(alloc);
+    let mut said = Literals::new(alloc);
     append_all(&expansion, &mut said, lits, ends)
 }

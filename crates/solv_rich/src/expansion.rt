@@ -5,6 +5,7 @@ ghost use Rattle.solv_rich.specs.Counts.{saturated};
 ghost use Rattle.solv_rich.specs.Inner.Expansions.{literal_of, clauses_in, are_counted, IsExpansion, CrossesAt};
 
 use crate::relations::{product, sum};
+use smallvec::SmallVec;
 use solv_pool::PackNo;
 use std::alloc::{AllocError, Global};
 
@@ -14,6 +15,15 @@ pub(crate) enum Said {
     In(PackNo),
     Out(PackNo),
 }
+
+impl Default for Said {
+    fn default() -> Self {
+        Said::In(PackNo(0))
+    }
+}
+
+/// The literals of a clause. Most clauses are short, and need no allocation.
+pub(crate) type Literals = SmallVec<Said, 16>;
 
 /// What clauses are made of. The packages of a list are the first ones and then the others.
 #[derive(Drop)]
@@ -54,7 +64,7 @@ fn saturated_len(packs: &[PackNo]) -> u64
 }
 
 /// Appends "in" of each package to what is said.
-fn put_ins(packs: &[PackNo], said: &mut Vec<Said>) -> Result<(), AllocError>
+fn put_ins(packs: &[PackNo], said: &mut Literals) -> Result<(), AllocError>
     ensures { OnOk result (map literal_of said.new.items ≡ map literal_of said.old.items ++ map is_in packs.now) }
 {
     for pack in packs {
@@ -89,7 +99,7 @@ fn numbers_of(first: &Expansion<'_>, count: u64, second: &Expansion<'_>, number:
 pub(crate) fn put_clause(
     expansion: &Expansion<'_>,
     number: u64,
-    said: &mut Vec<Said>,
+    said: &mut Literals,
 ) -> Result<(), AllocError>
     requires counted { are_counted expansion.now ≡ true }
     requires few { length (clauses_in expansion.now) ≤ 65536 }

@@ -14,7 +14,7 @@ returns-in_ok-push-in-EachOut t c = λ d e.
     let at : slice_get (map (λ q. is_out q ∷ []) (c.in-EachOut.first.now ++ c.in-EachOut.others.now)) c.args.number ≡ Some d = rw c.in-EachOut.is at e in
     let here : Some (is_out c.at-pack.result ∷ []) ≡ Some d = sym (slice_get-map (λ q. is_out q ∷ []) (c.in-EachOut.first.now ++ c.in-EachOut.others.now) c.args.number ∙ ap (λ o. option_map (λ q. is_out q ∷ []) o) c.at-pack.ensures) ∙ at in
     let own : is_out c.at-pack.result ∷ [] ≡ d = cc in
-    ap (map literal_of) c.in_ok-push-in-EachOut.ensures.items ∙ map_push literal_of c.args.said.now.items _ ∙ ap (λ t. map literal_of c.args.said.now.items ++ t) own
+    ap (map literal_of) c.in_ok-push-in-EachOut.ensures.ok ∙ map_push literal_of c.args.said.now.items _ ∙ ap (λ t. map literal_of c.args.said.now.items ++ t) own
 
 pub returns-then-number-count : goal.returns-then-number-count
 returns-then-number-count t c = λ d e.
