@@ -56,8 +56,19 @@ SANITIZED = ["-fsanitize=address,undefined", "-fno-sanitize-recover=all"]
 WRAPPED = ["-Wl,--wrap=malloc,--wrap=realloc,--wrap=free"]
 
 # what a shared library may want from outside: the C library's calls for memory, and what links and unloads it
-WANTED = {"malloc", "realloc", "free", "memcpy", "memmove", "memset", "memcmp",
-          "__cxa_finalize", "__gmon_start__", "_ITM_registerTMCloneTable", "_ITM_deregisterTMCloneTable"}
+WANTED = {
+    "malloc",
+    "realloc",
+    "free",
+    "memcpy",
+    "memmove",
+    "memset",
+    "memcmp",
+    "__cxa_finalize",
+    "__gmon_start__",
+    "_ITM_registerTMCloneTable",
+    "_ITM_deregisterTMCloneTable",
+}
 
 # the headers, which declare what the library shows
 HEADERS = [TOP / "include/gachuswi.h", TOP / "include/gachuswi_task.h"]
@@ -201,7 +212,7 @@ class Trial:
         at = next((i for i, (a, b) in enumerate(zip(said, wanted)) if a != b), min(len(said), len(wanted)))
         line = said[:at].count(b"\n")
         lines = said.decode(errors="replace").splitlines()
-        return f"status {status}; it differs at line {line + 1}: " + "\n".join(lines[line:line + 5])
+        return f"status {status}; it differs at line {line + 1}: " + "\n".join(lines[line : line + 5])
 
     def memory(self, source, words, folder):
         status, said = told([self.linked(TESTS / source, "wrapped"), *words], folder)

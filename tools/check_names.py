@@ -21,7 +21,8 @@ import re
 import subprocess
 import sys
 
-EXCEPT = set("""
+EXCEPT = set(
+    """
 apt-get autogroup bestobeypolicy bud callgrind chrt dac8208d650f15bf dhat dump-instr harsh-distupgrade harsh-update-best
 harsh-verify hugetlb install-gnome installcheck keepexplicitobsoletes man1 man3 mandoc massif nonexistent norec oantt perf
 pkgconfig readelf regex_t relro renice sched_autogroup_enabled setev setname setrepo setvendor testcase_write Tlint
@@ -29,7 +30,8 @@ update-desktop uprobe_events uprobes yumobsoletes RichDependencies SuSEconfig lh
 in-ARM held-in-ARM returns-in-ARM-clause-NAME returns-in_ok-x-in-ARM-clause-NAME
 compose.proof.t upgrade-2.t src/whole/.._lines.rt specs/Inner/X.antt proofs/block/Block/NAME/Proof.antt
 pool.c evr.c poolarch.c testcase.c rules.c solver.c policy.c cleandeps.c problems.c transaction.c order.c testsolv.c
-""".split())
+""".split()
+)
 FOLDERS = ("crates", "tools", "include", "c_tests", "packaging", "examples", "docs/man", ".ci")
 NAME = re.compile(r"[A-Za-z_]\w*(?:[-']\w+)*")
 SPAN = re.compile(r"`([^`\n]+)`")
@@ -49,7 +51,11 @@ def in_toolchain(names):
         wanted = "\n".join(sorted({part for name in names for part in [name] + parts(name)}))
         found = subprocess.run(
             ["grep", "-rhowFI", "--include=*.rt", "--include=*.antt", "--include=*.md", "-f", "-", kit],
-            input=wanted, capture_output=True, text=True, errors="replace", timeout=600,
+            input=wanted,
+            capture_output=True,
+            text=True,
+            errors="replace",
+            timeout=600,
         ).stdout.split("\n")
     except (OSError, IndexError, subprocess.SubprocessError):
         return set()

@@ -67,7 +67,7 @@ def blocks(lines):
             yield "code", number, line
         elif ITEM.match(line):
             yield from ended()
-            held.append(line[ITEM.match(line).end():])
+            held.append(line[ITEM.match(line).end() :])
             first = number
         else:
             first = first if held else number
@@ -78,8 +78,8 @@ def blocks(lines):
 def sentences(text):
     text, parts, at = plain(text), [], 0
     for match in END.finditer(text):
-        if not NO_END.search(text[at:match.start()]):
-            parts.append(text[at:match.start()])
+        if not NO_END.search(text[at : match.start()]):
+            parts.append(text[at : match.start()])
             at = match.end()
     return [part for part in [*parts, text[at:]] if words(part)]
 
@@ -113,7 +113,10 @@ def table(paths, top):
         row, _ = counted(path)
         rows.append(row)
         print("%-26s %6d %7d %6d %10d %8d %8d" % (path.relative_to(top) if path.is_relative_to(top) else path, *row.values()))
-    sums = [max((row[it] for row in rows), default=0) if it == "longest" else sum(row[it] for row in rows) for it in ("words", "table", "code", "sentences", "longer", "longest")]
+    sums = [
+        max((row[it] for row in rows), default=0) if it == "longest" else sum(row[it] for row in rows)
+        for it in ("words", "table", "code", "sentences", "longer", "longest")
+    ]
     print("%-26s %6d %7d %6d %10d %8d %8d" % ("all", *sums))
 
 

@@ -37,11 +37,60 @@ CALLS = {
     "c": (
         ("gachuswi", "calls", tuple(f"gachuswi_{it}" for it in ("abi", "run", "status", "out", "err", "close"))),
         ("gachuswi", "versions", ("gachuswi_evr_compare",)),
-        ("gachuswi", "tasks", tuple(f"gachuswi_{it}" for it in ("task_solve", "task_status", "task_err", "task_changes", "task_order", "task_set", "task_cycles", "cycle_packages", "task_problems", "problem_rules", "problem_solutions", "solution_rules", "solution_set", "task_close"))),
+        (
+            "gachuswi",
+            "tasks",
+            tuple(
+                f"gachuswi_{it}"
+                for it in (
+                    "task_solve",
+                    "task_status",
+                    "task_err",
+                    "task_changes",
+                    "task_order",
+                    "task_set",
+                    "task_cycles",
+                    "cycle_packages",
+                    "task_problems",
+                    "problem_rules",
+                    "problem_solutions",
+                    "solution_rules",
+                    "solution_set",
+                    "task_close",
+                )
+            ),
+        ),
         ("gachuswi", "task_rules", tuple(f"gachuswi_{it}" for it in ("task_rules", "rule_get", "rule_packages"))),
-        ("gachuswi", "task_texts", tuple(f"gachuswi_{it}" for it in ("package_text", "dep_text", "rule_text", "solution_text", "problem_proof", "task_packages", "package_find"))),
+        (
+            "gachuswi",
+            "task_texts",
+            tuple(
+                f"gachuswi_{it}"
+                for it in ("package_text", "dep_text", "rule_text", "solution_text", "problem_proof", "task_packages", "package_find")
+            ),
+        ),
         ("gachuswi", "tasks_anew", ("gachuswi_task_solve_again",)),
-        ("gachuswi", "tasks_built", tuple(f"gachuswi_{it}" for it in ("task_open", "task_repos", "repo_add", "packages_add", "system_set", "package_disable", "namespace_add", "flags_set", "job_add", "job_add_by", "jobs_clear", "task_answer"))),
+        (
+            "gachuswi",
+            "tasks_built",
+            tuple(
+                f"gachuswi_{it}"
+                for it in (
+                    "task_open",
+                    "task_repos",
+                    "repo_add",
+                    "packages_add",
+                    "system_set",
+                    "package_disable",
+                    "namespace_add",
+                    "flags_set",
+                    "job_add",
+                    "job_add_by",
+                    "jobs_clear",
+                    "task_answer",
+                )
+            ),
+        ),
     ),
 }
 # modules that stand apart and are read with a promise: the number of each status
@@ -137,7 +186,11 @@ def items_of(module):
 def begins(rest, item):
     """Whether a line is the first of a definition, and no equation of the one in hand."""
     name = HEAD.match(rest)
-    return bool(name) and (rest.startswith(KINDS) or re.match(r"^(?:pub )?[^\s:=(]+ :", rest) is not None) and (item is None or name.group(2) not in item.names)
+    return (
+        bool(name)
+        and (rest.startswith(KINDS) or re.match(r"^(?:pub )?[^\s:=(]+ :", rest) is not None)
+        and (item is None or name.group(2) not in item.names)
+    )
 
 
 def crates():
@@ -218,7 +271,9 @@ class Book:
                 continue
             seen.add(item)
             module = item.module
-            left += [other for other in self.cited(words_of(item.headers + item.lines), module.imports, module.aliases, module.crate, module.name) if other]
+            left += [
+                other for other in self.cited(words_of(item.headers + item.lines), module.imports, module.aliases, module.crate, module.name) if other
+            ]
         return seen
 
 
@@ -245,14 +300,14 @@ def functions_of(path):
         indent = match.group(1)
         end = re.compile(r"^" + indent + r"(?:\{\}|\{)$", re.M).search(text, match.end())
         if end:
-            yield match.group(2), text[match.start():end.start()], end.group(0).strip() == "{}"
+            yield match.group(2), text[match.start() : end.start()], end.group(0).strip() == "{}"
 
 
 def trait_clauses(path, trait):
     """The clauses of the functions of a trait."""
     text = path.read_text()
     begin = re.search(r"^pub trait " + trait + r" \{$", text, re.M).end()
-    body = text[begin:text.index("\n}\n", begin)]
+    body = text[begin : text.index("\n}\n", begin)]
     return "\n".join(line for line in body.split("\n") if not line.lstrip().startswith("//"))
 
 
@@ -313,7 +368,7 @@ def rows_of(items):
     for item in items:
         depth = len(item.lines[0]) - len(item.lines[0].lstrip())
         block = [line for line in item.comment if len(line) - len(line.lstrip()) < depth]
-        own = item.comment[len(block):]
+        own = item.comment[len(block) :]
         if block:
             rows.append(([], f"*{words_in(block)}*"))
         names = [name for name in item.names if name] or ["mutual"]

@@ -23,27 +23,33 @@ try() {
     echo "$1:"
     "$@" || failed=1
 }
-try tools/test_checks.py
-try tools/test_where.py
-try tools/test_testtags.py
-try tools/test_passed_over.py
-try tools/test_refused_memory.py
-if [ -x "$testsolv" ]; then
-    try tools/test_unpack_debugdata.py "$testsolv"
+if command -v black > /dev/null; then
+    try black --check --quiet tools
 else
-    try tools/test_unpack_debugdata.py
+    echo "black --check tools: skipped, since black is not installed (Debian: black)"
 fi
-try tools/test_dependencies.py "$testsolv"
-try tools/test_odd_repositories.py
-try tools/test_suse.py "$testsolv"
-try tools/test_compare_readings.py
-try tools/test_rpmmd_to_testtags.py "$testsolv"
-try tools/test_rpmdb_to_testtags.py "$testsolv"
-try tools/test_installable.py "$testsolv" "$proofcheck"
-try tools/test_installable_pages.py "$testsolv" "$proofcheck"
-try tools/test_upgrade.py "$testsolv"
-try tools/test_upgrade_pages.py "$testsolv"
-try tools/test_differences.py "$testsolv"
-try tools/test_picture.py "$testsolv"
-try tools/test_shrink.py "$testsolv"
+try tools/tests/test_checks.py
+try tools/tests/test_where.py
+try tools/tests/test_testtags.py
+try tools/tests/test_passed_over.py
+try tools/tests/test_refused_memory.py
+if [ -x "$testsolv" ]; then
+    try tools/tests/test_unpack_debugdata.py "$testsolv"
+else
+    try tools/tests/test_unpack_debugdata.py
+fi
+try tools/tests/test_dependencies.py "$testsolv"
+try tools/tests/test_odd_repositories.py
+try tools/tests/test_suse.py "$testsolv"
+try tools/tests/test_compare_readings.py
+try tools/tests/test_rpmmd_to_testtags.py "$testsolv"
+try tools/tests/test_rpmdb_to_testtags.py "$testsolv"
+try tools/tests/test_installable.py "$testsolv" "$proofcheck"
+try tools/tests/test_installable_pages.py "$testsolv" "$proofcheck"
+try tools/tests/test_upgrade.py "$testsolv"
+try tools/tests/test_upgrade_pages.py "$testsolv"
+try tools/tests/test_differences.py "$testsolv"
+try tools/tests/test_picture.py "$testsolv"
+try tools/tests/test_shrink.py "$testsolv"
+try tools/tests/test_hostile.py "$testsolv"
 exit "$failed"
