@@ -8,26 +8,25 @@ LIBDIR = $(PREFIX)/lib
 INCLUDEDIR = $(PREFIX)/include
 MANDIR = $(PREFIX)/share/man
 DOCDIR = $(PREFIX)/share/doc/gachuswi
+TOOLSDIR = $(PREFIX)/share/gachuswi
 # libsolv has a program and a page of the name testsolv, so both programs are installed under names of their own
 NAMED = gachuswi-
 BUILD = build
 # flags of rt, as --cpu=x86-64
 RTFLAGS =
-# how many crates are proved beside each other; a proof may take 8 GB
-JOBS = 4
 KIT = $(patsubst %/START-HERE.md,%,$(shell rt doc))
 TESTSOLV = crates/testsolv/out/testsolv
 PROOFCHECK = crates/proofcheck/out/proofcheck
 ARCHIVE = crates/gachuswi/out/libgachuswi.a
 MADE = $(BUILD)/testsolv $(BUILD)/proofcheck $(BUILD)/libgachuswi.a $(BUILD)/libgachuswi.so.1
 HEADERS = include/gachuswi.h include/gachuswi_task.h
-DOCS = README.md CHANGELOG.md VERSION docs/LIBRARY.md docs/FORMATS.md docs/PROMISE.md docs/PROVED.md docs/MEANING.md docs/GLOSSARY.md
+DOCS = README.md CHANGELOG.md VERSION docs/LIBRARY.md docs/MAINTAINERS.md docs/DIFFERENCES.md docs/FORMATS.md docs/PROMISE.md docs/PROVED.md docs/MEANING.md docs/GLOSSARY.md
 
 all: $(MADE)
 
-# Nothing is built that is not proved: first every crate, several beside each other.
+# Nothing is built that is not proved: first every crate that the programs and the archive are made of.
 $(BUILD)/proved:
-	rt all check --jobs $(JOBS)
+	tools/prove.py
 	install -d $(BUILD)
 	touch $@
 
@@ -74,6 +73,11 @@ install: all
 	install -m 644 docs/man/gachuswi.3 docs/man/gachuswi_task.3 $(DESTDIR)$(MANDIR)/man3
 	for page in gachuswi gachuswi_task; do for call in $$(sed -n 's/^\.Nm \(gachuswi_[a-z_]*\).*/\1/p' docs/man/$$page.3); do \
 	    test $$call = $$page || ln -sf $$page.3 $(DESTDIR)$(MANDIR)/man3/$$call.3; done; done
+	install -d $(DESTDIR)$(TOOLSDIR)/gachuswi_tools/page
+	install -m 755 tools/gachuswi-tools $(DESTDIR)$(TOOLSDIR)
+	install -m 644 tools/gachuswi_tools/*.py $(DESTDIR)$(TOOLSDIR)/gachuswi_tools
+	install -m 644 tools/gachuswi_tools/page/* $(DESTDIR)$(TOOLSDIR)/gachuswi_tools/page
+	ln -sf $(TOOLSDIR)/gachuswi-tools $(DESTDIR)$(BINDIR)/gachuswi-tools
 	install -m 644 $(DOCS) $(DESTDIR)$(DOCDIR)
 	install -m 644 examples/*.t examples/*.p $(DESTDIR)$(DOCDIR)/examples
 
