@@ -3,6 +3,7 @@ pub mod TokenRuns
 pub mod LastDash
 pub mod TokenOrder
 pub mod MatchingTable
+pub mod StandingOrder
 pub mod VersionsBetween
 pub mod LongerTexts
 pub mod Overlaps

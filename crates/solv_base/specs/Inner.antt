@@ -4,5 +4,6 @@ pub mod Evr
 pub mod Hashing
 pub mod Heads
 pub mod Pool
+pub mod Standings
 pub mod Texts
 pub mod VersionLaws

@@ -4,8 +4,10 @@
 //!   and relations, [`PoolFault`] why it takes no more.
 //! - [`evr_compare`], [`evr_split`], [`evr_meets`]: the order of versions, the parts of an EVR, and when a provided
 //!   version meets a wanted one. [`Cmp`] is a comparison.
+//! - [`evr_standing`], [`standing_meets`]: how a provided EVR stands to a wanted one, which along EVRs that ascend never
+//!   falls, and what meets by that. [`Standing`] is one of six.
 //! - Laws, each the contract of a function that does nothing: [`evr_order_is_total`], [`matching_follows_the_order`],
-//!   [`reading_ends`].
+//!   [`standing_follows_the_order`], [`reading_ends`].
 #![tactic(auto)]
 
 mod comparison;
@@ -21,5 +23,6 @@ pub use interning::{Pool, PoolFault};
 pub use relation::{DepId, DepNode, NameId};
 pub use relation_laws::reading_ends;
 pub use version::{
-    Evr, evr_compare, evr_meets, evr_order_is_total, evr_split, matching_follows_the_order,
+    Evr, Standing, evr_compare, evr_meets, evr_order_is_total, evr_split, evr_standing,
+    matching_follows_the_order, standing_follows_the_order, standing_meets,
 };

@@ -15,7 +15,10 @@ use crate::comparison::Cmp;
 use crate::version::tokens::{compare_tokens, digits_len};
 use std::cmp::Ordering;
 
+mod placing;
 mod tokens;
+
+pub use placing::{Standing, evr_standing, standing_follows_the_order, standing_meets};
 
 /// The parts of an EVR text `[epoch:]version[-release]`.
 ///

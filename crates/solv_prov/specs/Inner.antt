@@ -6,4 +6,6 @@ pub mod Index
 pub mod Lists
 pub mod Merging
 pub mod PartsBy
+pub mod Ranking
 pub mod Relating
+pub mod Seeking

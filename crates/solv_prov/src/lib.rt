@@ -25,6 +25,8 @@ mod obsoletions;
 mod parts;
 mod providers;
 mod provides;
+mod ranking;
+mod seeking;
 
 pub use parts::{Parts, parts_of};
 pub use providers::Providers;
