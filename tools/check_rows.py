@@ -15,7 +15,7 @@ import re
 import sys
 
 HEADING = "## Worked examples, and the tests that run them"
-TESTS = ("solv_call_tests", "solv_core_tests")
+TESTS = ("solv_call_tests", "solv_core_tests", "solv_run_tests")
 SCRIPT = re.compile(r"`([\w/]+\.t)`")
 PROOF = re.compile(r"`(\w+)` of `solv_proof_tests`")
 RUN = re.compile(r"the stored run of `(\w+)`")

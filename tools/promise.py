@@ -28,7 +28,7 @@ import signal
 import sys
 
 # crates that hold nothing but examples and tests
-EXAMPLES = ("solv_worked", "solv_core_tests", "solv_call_tests")
+EXAMPLES = ("solv_worked", "solv_core_tests", "solv_call_tests", "solv_run_tests")
 # the calls that each promise is of: crate, module, functions
 CALLS = {
     "library": (("solv_answers", "preparing", ("prepare",)), ("solv_answers", "answering", ("answer",))),

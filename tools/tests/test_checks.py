@@ -57,7 +57,7 @@ FAULTS = {
         ("crates/solv_script_tests/stdout", "0 shown/worked/favoured.t\n", "", "no status of shown/worked/favoured.t"),
         ("docs/PROVED.md", "`shown/worked/nothing.t`", "`steps_are_checked`", "shown/worked/nothing.t has no row"),
         ("crates/solv_call_tests/src/log_tests.rt", "fn steps_are_checked(", "fn steps_are_seen(", "steps_are_checked is no test"),
-        ("crates/solv_call_tests/src/run_tests.rt", "    UNCLOSED,\n", "", "UNCLOSED is no case of runs_go_as_they_are_to"),
+        ("crates/solv_run_tests/src/run_tests.rt", "    UNCLOSED,\n", "", "UNCLOSED is no case of runs_go_as_they_are_to"),
         ("crates/solv_proof_tests/args", "clash\n", "", "clash is no argument of solv_proof_tests"),
     ),
 }
