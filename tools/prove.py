@@ -4,8 +4,9 @@
     tools/prove.py
 
 In the top folder of the repository. The crates below `testsolv`, `proofcheck` and `gachuswi` are copied to a folder of their own without
-their must-fail edits, and `rt ci` proves them there, those first that most others wait for, and runs both programs. The toolchain keeps
-what it proved, so that `rt run` and `rt lib` in this repository begin where it ended. The last line is that of `rt ci`, and the status too.
+their must-fail edits, and `rt ci` proves them there, those first that most others wait for, and runs both programs. These it leaves as
+crates/testsolv/out/testsolv and crates/proofcheck/out/proofcheck. The toolchain keeps what it proved, so that the next `rt ci` need not
+prove it again; `rt run` and `rt lib` look at each crate once more. The last line is that of `rt ci`, and the status too.
 """
 import os
 import pathlib
@@ -14,7 +15,8 @@ import subprocess
 import sys
 import tempfile
 
-GOALS = ("testsolv", "proofcheck", "gachuswi")
+PROGRAMS = ("testsolv", "proofcheck")
+GOALS = (*PROGRAMS, "gachuswi")
 
 
 def libraries_of(line):
@@ -47,12 +49,23 @@ def copy(top, folder):
     os.mkdir(f"{folder}/.git")
 
 
+def bring(folder, top):
+    """Copies the programs that were built in the folder to their places at the top."""
+    for name in PROGRAMS:
+        place = f"crates/{name}/out"
+        os.makedirs(f"{top}/{place}", exist_ok=True)
+        shutil.copy(f"{folder}/{place}/{name}", f"{top}/{place}/{name}")
+
+
 def main():
     if len(sys.argv) != 1 or not os.path.exists("crates.txt"):
         sys.exit(__doc__)
     with tempfile.TemporaryDirectory(prefix="gachuswi-") as folder:
         copy(os.getcwd(), folder)
-        sys.exit(subprocess.run(["rt", "ci"], cwd=folder, check=False).returncode)
+        status = subprocess.run(["rt", "ci"], cwd=folder, check=False).returncode
+        if status == 0:
+            bring(folder, os.getcwd())
+        sys.exit(status)
 
 
 main()
